@@ -1,0 +1,11 @@
+pub mod Lists
+pub mod Tree
+pub mod States
+pub mod Calls
+pub mod Sources
+pub mod Entries
+pub mod Shown
+pub mod TreeCode
+pub mod Failing
+pub mod TreeSources
+pub mod TreeSinks
