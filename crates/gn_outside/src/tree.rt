@@ -13,6 +13,7 @@ use std::marker::Model;
 const SIZE_LIMIT: usize = 16_777_216;
 
 /// What a tree has at a path.
+#[derive(Clone, Copy, Debug, PartialEq, Eq)]
 pub enum TreeFile<'a> {
     /// The bytes of a file of at most 16,777,216 bytes.
     Bytes(&'a [u8]),
