@@ -1,0 +1,6 @@
+//! The grammar of a build file. For now its first form alone: a list of groups.
+#![tactic(auto)]
+
+mod first_form;
+
+pub use first_form::{GroupForm, groups};
