@@ -1,5 +1,5 @@
 -- Which token stands next.
-use Rattle.std.specs.Prelude.{◌≡◌, ◌≢◌, ℕ, ◌+◌, ◌<◌, ◌≤◌, Bool, true, false, not, ◌||◌, ◌&&◌, ◌==◌, if◌then◌else◌, List, [], ◌∷◌, ◌++◌, length, take, drop, Option, Some, None, Result, Ok, Err, slice_index, slice_range, IsTrue}
+use Rattle.std.specs.Prelude.{◌≡◌, ◌≢◌, ℕ, suc, ◌+◌, ◌<◌, ◌≤◌, Bool, true, false, not, ◌||◌, ◌&&◌, ◌==◌, if◌then◌else◌, List, [], ◌∷◌, ◌++◌, length, take, drop, Option, Some, None, Result, Ok, Err, slice_index, slice_range, IsTrue}
 use Rattle.std.specs.List.{prefix_len}
 use Rattle.gn_tokens.specs.declared.token.Token.{Token}
 use Rattle.gn_tokens.specs.declared.token.TokenKind.{TokenKind}
@@ -46,8 +46,8 @@ IsNext reader (Err (BadByte offset)) = IsBadByte reader.bytes reader.at offset
 -- how many bytes of white space and comments stand at the front, where the bytes begin inside a comment or not
 abbrev pub gap_len : Bool → List ℕ → ℕ
 gap_len in_comment [] = 0
-gap_len true (b ∷ bs) = 1 + gap_len (not (b == 10)) bs
-gap_len false (b ∷ bs) = if b == 35 then 1 + gap_len true bs else (if is_white b then 1 + gap_len false bs else 0)
+gap_len true (b ∷ bs) = suc (gap_len (not (b == 10)) bs)
+gap_len false (b ∷ bs) = if b == 35 then suc (gap_len true bs) else (if is_white b then suc (gap_len false bs) else 0)
 
 -- a byte that stands for itself in a string
 abbrev pub is_plain : ℕ → Bool

@@ -1,7 +1,8 @@
 //! The tokens of a file, one after the other.
 
 ghost use Rattle.std.specs.Prelude.{◌≡◌, ◌≤◌, length, IfOk, IfSome};
-ghost use Rattle.gn_tokens.specs.Next.{Reader, next_token, behind};
+ghost use Rattle.gn_tokens.specs.Next.{Reader, IsNext, next_token, behind};
+ghost use Rattle.gn_tokens.specs.Stream.{stream_with, stream_of};
 
 use crate::scan::{token_at_front, white_len};
 use crate::token::{Token, TokenError};
@@ -34,8 +35,11 @@ impl<'a> Tokens<'a> {
 
     /// The next token, which is the longest that begins there; none where only white space and comments are left, then and ever after.
     /// White space and comments are passed over. Where no token begins, the error is given, and the same error again at each later call.
+    #[tactic(auto, using(crate::proofs::Next::next_token_is_next, crate::proofs::Stream::stream_next))]
     pub fn next(&mut self) -> Result<Option<Token>, TokenError>
+        ensures next { IsNext self.old result }
         ensures value { result ≡ next_token self.old.bytes self.old.at }
+        ensures stream { stream_of self.old ≡ stream_with result (stream_of self.new) }
         ensures bytes { self.new.bytes ≡ self.old.bytes }
         ensures at { self.new.at ≡ behind self.old.at result }
     {
