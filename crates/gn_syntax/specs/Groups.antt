@@ -1,14 +1,13 @@
 -- The first form of a file: a list of groups.
-use Rattle.std.specs.Prelude.{ℕ, zero, suc, ◌+◌, ◌-◌, ◌≤◌, ◌==◌, Bool, true, false, not, ◌&&◌, if◌then◌else◌, List, [], ◌∷◌, length, take, drop, slice_range, codes, Option, Some, None, Result, Ok, Err}
+use Rattle.std.specs.Prelude.{ℕ, ◌+◌, ◌-◌, ◌≤◌, ◌==◌, Bool, true, false, not, ◌&&◌, if◌then◌else◌, List, [], ◌∷◌, length, take, drop, slice_range, codes, Option, Some, None}
 use Rattle.std.specs.List.{list_all, list_any}
 use Rattle.std.specs.Str.{bytes_eq}
 use Rattle.std.specs.Option.{option_map}
 use Rattle.gn_tokens.specs.declared.token.Token.{Token}
 use Rattle.gn_tokens.specs.declared.token.TokenKind.{TokenKind}
 use Rattle.gn_tokens.specs.declared.token.TokenKind.TheVariants as k
-use Rattle.gn_tokens.specs.declared.token.TokenError.{TokenError}
 use Rattle.gn_tokens.specs.Token.{is_word_byte}
-use Rattle.gn_tokens.specs.Next.{next_token}
+use Rattle.gn_tokens.specs.Stream.{Stream, Ends, Fails, Gives, stream_of}
 use Rattle.gn_syntax.specs.declared.first_form.GroupForm.{GroupForm}
 
 -- the bytes from the form's start to its end
@@ -20,25 +19,42 @@ pub record IsWithin (bytes : List ℕ) (form : GroupForm) : Type 0 where
   pub ordered : form.start ≤ form.end
   pub within : form.end ≤ length bytes
 
--- what the grammar sees of a token: its kind and its bytes, or that no token begins where one must
+-- what the grammar sees of a token; of a string, its bytes without the quotes
 pub data Word : Type 0 where
-  Plain : (kind : TokenKind) → (text : List ℕ) → Word
-  Wrong : Word
+  Identifier : (word : List ℕ) → Word
+  Text : (text : List ℕ) → Word
+  Assign : Word
+  Comma : Word
+  OpenParen : Word
+  CloseParen : Word
+  OpenBracket : Word
+  CloseBracket : Word
+  OpenBrace : Word
+  CloseBrace : Word
+  Wrong : Word -- no token begins where one must
 
--- the words from an answer on, where `later` gives those behind an offset
-abbrev pub words_at : List ℕ → (ℕ → List Word) → Result (Option Token) TokenError → List Word
-words_at bytes later (Ok None) = []
-words_at bytes later (Ok (Some token)) = Plain token.kind (slice_range bytes token.start token.end) ∷ later token.end
-words_at bytes later (Err error) = Wrong ∷ []
+-- the word that a token of this kind between the two offsets is
+abbrev pub word_at : List ℕ → ℕ → ℕ → TokenKind → Word
+word_at bytes start end k.Identifier = Identifier (slice_range bytes start end)
+word_at bytes start end k.Str = Text (slice_range bytes (start + 1) (end - 1))
+word_at bytes start end k.Assign = Assign
+word_at bytes start end k.Comma = Comma
+word_at bytes start end k.OpenParen = OpenParen
+word_at bytes start end k.CloseParen = CloseParen
+word_at bytes start end k.OpenBracket = OpenBracket
+word_at bytes start end k.CloseBracket = CloseBracket
+word_at bytes start end k.OpenBrace = OpenBrace
+word_at bytes start end k.CloseBrace = CloseBrace
 
--- the words from an offset on, of which there are at most `count`
-abbrev pub words_within : ℕ → List ℕ → ℕ → List Word
-words_within zero bytes at = []
-words_within (suc count) bytes at = words_at bytes (words_within count bytes) (next_token bytes at)
+-- the words of these tokens of the bytes
+abbrev pub words_in : List ℕ → Stream → List Word
+words_in bytes Ends = []
+words_in bytes (Fails error) = Wrong ∷ []
+words_in bytes (Gives token later) = word_at bytes token.start token.end token.kind ∷ words_in bytes later
 
--- the words of the bytes; each has a byte at least, so there are no more words than bytes
+-- the words of a file
 abbrev pub words : List ℕ → List Word
-words bytes = words_within (length bytes + 1) bytes 0
+words bytes = words_in bytes (stream_of (record { bytes = bytes; at = 0 }))
 
 -- one or more letters, digits and `_`
 abbrev pub is_name : List ℕ → Bool
@@ -50,47 +66,41 @@ abbrev pub is_label : List ℕ → Bool
 is_label [] = false
 is_label (b ∷ bs) = b == 58 && is_name bs
 
--- a string's bytes without its quotes
-abbrev pub unquoted : List ℕ → List ℕ
-unquoted text = take (length text - 2) (drop 1 text)
-
 -- A file is a list of groups: group ( STRING ) { [ deps = [ [ STRING { , STRING } [ , ] ] ] ] }
 -- The names of the groups, in order, or None where the words are no such list.
 abbrev mutual
-  -- at the beginning of a group, or at the end
+  -- where a group or the end of the file must come
   pub file_names : List Word → Option (List (List ℕ))
   file_names [] = Some []
-  file_names (Plain k.Identifier word ∷ Plain k.OpenParen _ ∷ Plain k.Str text ∷ Plain k.CloseParen _ ∷ Plain k.OpenBrace _ ∷ later) =
-      if bytes_eq word (codes "group") && is_name (unquoted text) then option_map (λ names. unquoted text ∷ names) (names_in_block later) else None
+  file_names (Identifier word ∷ OpenParen ∷ Text name ∷ CloseParen ∷ OpenBrace ∷ later) =
+      if bytes_eq word (codes "group") && is_name name then option_map (λ names. name ∷ names) (names_in_block later) else None
   file_names _ = None
-
   -- behind the `{` of a group
   pub names_in_block : List Word → Option (List (List ℕ))
-  names_in_block (Plain k.CloseBrace _ ∷ later) = file_names later
-  names_in_block (Plain k.Identifier word ∷ Plain k.Assign _ ∷ Plain k.OpenBracket _ ∷ later) = if bytes_eq word (codes "deps") then names_in_deps later else None
+  names_in_block (CloseBrace ∷ later) = file_names later
+  names_in_block (Identifier word ∷ Assign ∷ OpenBracket ∷ later) = if bytes_eq word (codes "deps") then names_in_list later else None
   names_in_block _ = None
-
-  -- behind the `[` of the list, or behind a comma in it
-  pub names_in_deps : List Word → Option (List (List ℕ))
-  names_in_deps (Plain k.Str text ∷ later) = if is_label (unquoted text) then names_behind_dep later else None
-  names_in_deps (Plain k.CloseBracket _ ∷ Plain k.CloseBrace _ ∷ later) = file_names later
-  names_in_deps _ = None
-
+  -- behind the `[` of the list of deps, or behind a comma in it
+  pub names_in_list : List Word → Option (List (List ℕ))
+  names_in_list (CloseBracket ∷ CloseBrace ∷ later) = file_names later
+  names_in_list (Text label ∷ later) = if is_label label then names_behind_label later else None
+  names_in_list _ = None
   -- behind a string of the list
-  pub names_behind_dep : List Word → Option (List (List ℕ))
-  names_behind_dep (Plain k.Comma _ ∷ later) = names_in_deps later
-  names_behind_dep (Plain k.CloseBracket _ ∷ Plain k.CloseBrace _ ∷ later) = file_names later
-  names_behind_dep _ = None
+  pub names_behind_label : List Word → Option (List (List ℕ))
+  names_behind_label (CloseBracket ∷ CloseBrace ∷ later) = file_names later
+  names_behind_label (Comma ∷ later) = names_in_list later
+  names_behind_label _ = None
 
 -- no name stands twice
 abbrev pub are_different : List (List ℕ) → Bool
 are_different [] = true
 are_different (name ∷ names) = not (list_any (bytes_eq name) names) && are_different names
 
-abbrev pub different : Option (List (List ℕ)) → Option (List (List ℕ))
-different None = None
-different (Some names) = if are_different names then Some names else None
+-- the names, where none stands twice
+abbrev pub if_different : Option (List (List ℕ)) → Option (List (List ℕ))
+if_different None = None
+if_different (Some names) = if are_different names then Some names else None
 
--- the names of the groups in the order of the file, None where the bytes are not of the first form
+-- the names of the groups in the order of the file, or None where the bytes are not of the first form
 unfoldable pub group_names : List ℕ → Option (List (List ℕ))
-group_names bytes = different (file_names (words bytes))
+group_names bytes = if_different (file_names (words bytes))
