@@ -31,7 +31,7 @@ pub data Word : Type 0 where
   CloseBracket : Word
   OpenBrace : Word
   CloseBrace : Word
-  Wrong : Word -- no token begins where one must
+  Wrong : Word  -- no token begins where one must
 
 -- the word that a token of this kind between the two offsets is
 abbrev pub word_at : List ℕ → ℕ → ℕ → TokenKind → Word
@@ -75,16 +75,19 @@ abbrev mutual
   file_names (Identifier word ∷ OpenParen ∷ Text name ∷ CloseParen ∷ OpenBrace ∷ later) =
       if bytes_eq word (codes "group") && is_name name then option_map (λ names. name ∷ names) (names_in_block later) else None
   file_names _ = None
+
   -- behind the `{` of a group
   pub names_in_block : List Word → Option (List (List ℕ))
   names_in_block (CloseBrace ∷ later) = file_names later
   names_in_block (Identifier word ∷ Assign ∷ OpenBracket ∷ later) = if bytes_eq word (codes "deps") then names_in_list later else None
   names_in_block _ = None
+
   -- behind the `[` of the list of deps, or behind a comma in it
   pub names_in_list : List Word → Option (List (List ℕ))
   names_in_list (CloseBracket ∷ CloseBrace ∷ later) = file_names later
   names_in_list (Text label ∷ later) = if is_label label then names_behind_label later else None
   names_in_list _ = None
+
   -- behind a string of the list
   pub names_behind_label : List Word → Option (List (List ℕ))
   names_behind_label (CloseBracket ∷ CloseBrace ∷ later) = file_names later

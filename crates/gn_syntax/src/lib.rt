@@ -2,5 +2,8 @@
 #![tactic(auto)]
 
 mod first_form;
+mod name;
+mod read;
+mod words;
 
 pub use first_form::{GroupForm, groups};
