@@ -1,0 +1,3 @@
+pub mod WordKinds
+pub mod GroupRead
+pub mod Different

@@ -1,0 +1,4 @@
+pub mod Gaps
+pub mod Longest
+pub mod Next
+pub mod Stream
