@@ -1,0 +1,94 @@
+// A source over the files below the current folder. It tells nothing of their content.
+ghost use Rattle.std.specs.Prelude.{None};
+ghost use Rattle.gn.specs.Ends.{IsWithin};
+
+use gn_outside::{ReadStop, Source};
+use std::alloc::Global;
+use std::fs;
+use std::io::{ErrorKind, Read};
+use std::rt::Files;
+
+// The longest file that is read, in bytes.
+const SIZE_LIMIT: usize = 16_777_216;
+
+// So many reads of a file may give nothing new.
+const IDLE_LIMIT: u32 = 16_777_217;
+
+// More reads than a file of the longest size and idle reads up to their limit can take.
+const READ_LIMIT: u32 = 33_554_440;
+
+// How many bytes one read asks for.
+const CHUNK: usize = 16_384;
+
+/// The files below the current folder.
+#[derive(Drop)]
+pub struct FileSource<R: Files + Drop> {
+    rt: R,
+    faults: u64,
+}
+
+// How reading a file ended.
+enum FileEnd {
+    Whole(Vec<u8>),
+    TooBig,
+    Failed,
+    Memory,
+}
+
+impl<R: Files + Drop> FileSource<R> {
+    /// A source that hasn't failed yet.
+    pub fn new(rt: R) -> Self {
+        FileSource { rt, faults: 0 }
+    }
+}
+
+impl<R: Files + Drop> Source for FileSource<R> {
+    ghost state = { λ s. record { tree = None; reads = None; faults = s.faults } };
+
+    fn read(&mut self, alloc: Global, path: &str) -> Result<Option<Vec<u8>>, ReadStop> {
+        let name = path.strip_prefix("//").unwrap_or(path);
+        let end = match fs::open(&self.rt, name) {
+            Ok(mut file) => read_file(alloc, &mut file),
+            Err(error) if is_absence(error.kind()) => return Ok(None),
+            Err(_) => FileEnd::Failed,
+        };
+        match end {
+            FileEnd::Whole(bytes) => Ok(Some(bytes)),
+            FileEnd::TooBig => Err(ReadStop::TooBig(16_777_217)),
+            FileEnd::Memory => Err(ReadStop::Memory),
+            FileEnd::Failed if self.faults == u64::MAX => Err(ReadStop::Memory),
+            FileEnd::Failed => {
+                self.faults += 1;
+                Err(ReadStop::Failed)
+            }
+        }
+    }
+}
+
+// There is no file at the path, or the path goes through something that is no folder.
+fn is_absence(kind: ErrorKind) -> bool {
+    matches!(kind, ErrorKind::NotFound | ErrorKind::NotADirectory)
+}
+
+// All the bytes of a reader, up to the limit.
+fn read_file<F: Read>(alloc: Global, file: &mut F) -> FileEnd
+    ensures { IsWithin result }
+{
+    let mut bytes = Vec::new(alloc);
+    let mut chunk = [0u8; CHUNK];
+    let mut idle = 0;
+    for _ in 0..READ_LIMIT {
+        match file.read(&mut chunk) {
+            Ok(0) => return FileEnd::Whole(bytes),
+            Ok(count) if count > SIZE_LIMIT - bytes.len() => return FileEnd::TooBig,
+            Ok(count) => {
+                if bytes.extend_from_slice(&chunk[..count]).is_err() {
+                    return FileEnd::Memory;
+                }
+            }
+            Err(error) if error.kind() == ErrorKind::Interrupted && idle < IDLE_LIMIT => idle += 1,
+            Err(_) => return FileEnd::Failed,
+        }
+    }
+    FileEnd::Failed
+}

@@ -1,0 +1,128 @@
+-- How the end of a run follows from its steps.
+use Rattle.std.proofs.Common.{◌≡◌, inl, inr, ⊎_elim, ℕ, ◌<◌, ◌≤◌, ◌+◌, List, [], ◌∷◌, ◌++◌, take, refl, sym, ap, ◌∙◌, arith, append-nil, map, length, drop}
+use Rattle.std.specs.Prelude.{Option, None, Some, option_map}
+use Rattle.std.proofs.Math.Seq.{drop-length}
+use Rattle.std.specs.Prelude.{slice_set, slice_index_or}
+use Rattle.gn_outside.specs.States.{SourceState, SinkState}
+use Rattle.gn_top.specs.Said.{Said}
+use Rattle.gn_outside.specs.Lists.{EachPair, SomePair, Extends}
+use Rattle.gn_outside.specs.Sources.{AllTellReads, total_faults, FailedAt, IsLeastFailure, reads_since, joined_reads, GoesOn}
+use Rattle.gn_top.specs.Texts.{cannot_read_line}
+use Rattle.gn_top.specs.Run.{IsCutShort, CutsFailure, CannotRead, EndsWithUsage}
+
+pub nothing_more : {X : Type 0} (before after : Option (List X)) → after ≡ before → Extends before after []
+nothing_more None after same = same
+nothing_more (Some xs) after same = same ∙ ap (λ (ys : List _). Some ys) (sym (append-nil xs))
+
+pub cut_answer : (meaning : Said) (text : List ℕ) (sources now : List SourceState) (sink after : SinkState) → text ≡ meaning.text → after.files ≡ sink.files
+    → (n : ℕ) × Extends sink.said after.said (take n text) → IsCutShort meaning sources now sink after
+cut_answer meaning text sources now sink after same files part = record {
+  files = (0, nothing_more sink.files after.files files);
+  text = (part.0, inl (part.1 ∙ ap (λ (t : List ℕ). option_map (λ xs. xs ++ take part.0 t) sink.said) same));
+}
+
+-- nothing has been said or put
+pub cut_at_once : (meaning : Said) (sources now : List SourceState) (sink : SinkState) → IsCutShort meaning sources now sink sink
+cut_at_once meaning sources now sink = record {
+  files = (0, nothing_more sink.files sink.files refl);
+  text = (0, inl (nothing_more sink.said sink.said refl));
+}
+
+pub cut_failure : (meaning : Said) (path : List ℕ) (before now : SourceState) (sink after : SinkState) → before.faults < now.faults → after.files ≡ sink.files
+    → (n : ℕ) × Extends sink.said after.said (take n (cannot_read_line path)) → (AllTellReads (before ∷ []) → IsLeastFailure (before ∷ []) (now ∷ []) path) → IsCutShort meaning (before ∷ []) (now ∷ []) sink after
+cut_failure meaning path before now sink after rose files part least = record {
+  files = (0, nothing_more sink.files after.files files);
+  text = (part.0, inr (path, record { failed = let both : before.faults + 0 < now.faults + 0 = omega arith in both; text = part.1; least = least }));
+}
+
+pub one_failed : (path : List ℕ) (before now : SourceState) (sink after : SinkState) → before.faults < now.faults → after.files ≡ sink.files
+    → Extends sink.said after.said (cannot_read_line path) → (AllTellReads (before ∷ []) → IsLeastFailure (before ∷ []) (now ∷ []) path)
+    → CannotRead (before ∷ []) (now ∷ []) sink after
+one_failed path before now sink after rose files text least = record {
+  failed = omega arith;
+  files = files;
+  last = λ told. ((λ _. (path, ⊎_elim (λ here. here) (λ none. absurd none) ((least told).some))), tt);
+  text = (path, record { text = text; least = least });
+}
+
+-- Sources beside the first that stay as they are add nothing.
+
+goes_on_same : (s : SourceState) → GoesOn s s
+goes_on_same s = record { tree = refl; reads = ([], nothing_more s.reads s.reads refl); faults = omega arith }
+
+all_go_on_same : (rest : List SourceState) → EachPair GoesOn rest rest
+all_go_on_same [] = tt
+all_go_on_same (s ∷ rest) = (goes_on_same s, all_go_on_same rest)
+
+none_since : (reads : Option (List (List ℕ))) → reads_since reads reads ≡ []
+none_since None = refl
+none_since (Some paths) = drop-length paths
+
+joined_same : (rest : List SourceState) → joined_reads rest rest ≡ []
+joined_same [] = refl
+joined_same (s ∷ rest) = ap (λ (paths : List (List ℕ)). paths ++ joined_reads rest rest) (none_since s.reads) ∙ joined_same rest
+
+none_failed : (path : List ℕ) (rest : List SourceState) → SomePair (FailedAt path) rest rest → ⊥
+none_failed path [] failed = failed
+none_failed path (s ∷ rest) (inl here) = let rose : s.faults < s.faults = here.failed in absurd (omega arith)
+none_failed path (s ∷ rest) (inr there) = none_failed path rest there
+
+last_same : (rest : List SourceState) → EachPair (λ (s t : SourceState). s.faults < t.faults → (path : List ℕ) × FailedAt path s t) rest rest
+last_same [] = tt
+last_same (s ∷ rest) = ((λ rose. absurd (omega arith)), last_same rest)
+
+module _ (s t : SourceState) (rest : List SourceState) where
+  least_more : (path : List ℕ) → IsLeastFailure (s ∷ []) (t ∷ []) path → IsLeastFailure (s ∷ rest) (t ∷ rest) path
+  least_more path least = record {
+    some = ⊎_elim (λ here. inl here) (λ none. absurd none) least.some;
+    least = λ other failed. least.least other (⊎_elim (λ here. inl here) (λ there. absurd (none_failed other rest there)) failed);
+  }
+
+  rose_more : total_faults (s ∷ []) < total_faults (t ∷ []) → total_faults (s ∷ rest) < total_faults (t ∷ rest)
+  rose_more rose = let one_rose : s.faults + 0 < t.faults + 0 = rose in let both : s.faults + total_faults rest < t.faults + total_faults rest = omega arith in both
+
+  pub cannot_read_more : (sink after : SinkState) → CannotRead (s ∷ []) (t ∷ []) sink after → CannotRead (s ∷ rest) (t ∷ rest) sink after
+  cannot_read_more sink after one = record {
+    failed = rose_more one.failed;
+    files = one.files;
+    last = λ told. ((one.last (told.0, tt)).0, last_same rest);
+    text = ((one.text).0, record { text = ((one.text).1).text; least = λ told. least_more _ (((one.text).1).least (told.0, tt)) });
+  }
+
+  cuts_more : (sink after : SinkState) (n : ℕ) (path : List ℕ) → CutsFailure (s ∷ []) (t ∷ []) sink after n path → CutsFailure (s ∷ rest) (t ∷ rest) sink after n path
+  cuts_more sink after n path one = record { failed = rose_more one.failed; text = one.text; least = λ told. least_more _ (one.least (told.0, tt)) }
+
+  pub cut_short_more : (meaning : Said) (sink after : SinkState) → IsCutShort meaning (s ∷ []) (t ∷ []) sink after → IsCutShort meaning (s ∷ rest) (t ∷ rest) sink after
+  cut_short_more meaning sink after one = record {
+    files = one.files;
+    text = ((one.text).0, ⊎_elim (λ part. inl part) (λ failure. inr (failure.0, cuts_more _ _ _ _ failure.1)) (one.text).1);
+  }
+
+  pub usage_more : (sink after : SinkState) (status units : ℕ) → EndsWithUsage (s ∷ []) (t ∷ []) sink after status units → EndsWithUsage (s ∷ rest) (t ∷ rest) sink after status units
+  usage_more sink after status units one = record {
+    nothing_read = ap (λ (states : List SourceState). states ++ rest) one.nothing_read;
+    no_units = one.no_units;
+    files = one.files;
+    whole = one.whole;
+    part = one.part;
+  }
+
+  pub joined_more : joined_reads (s ∷ rest) (t ∷ rest) ≡ joined_reads (s ∷ []) (t ∷ [])
+  joined_more = ap (λ (paths : List (List ℕ)). reads_since s.reads t.reads ++ paths) (joined_same rest)
+
+  pub goes_on_more : EachPair GoesOn (s ∷ []) (t ∷ []) → EachPair GoesOn (s ∷ rest) (t ∷ rest)
+  goes_on_more one = (one.0, all_go_on_same rest)
+
+-- The first of a list, and the list with another first.
+
+pub map_split : {X : Type 0} (state : X → SourceState) (xs : List X) (x : X) → 1 ≤ length xs → x ≡ slice_index_or xs 0 x → map state xs ≡ state x ∷ map state (drop 1 xs)
+map_split state [] x some is = absurd (omega arith)
+map_split state (y ∷ xs) x some is = ap (λ (z : _). state z ∷ map state xs) (sym is)
+
+pub map_set : {X : Type 0} (state : X → SourceState) (xs : List X) (x : X) → 1 ≤ length xs → map state (slice_set xs 0 x) ≡ state x ∷ map state (drop 1 xs)
+map_set state [] x some = absurd (omega arith)
+map_set state (y ∷ xs) x some = refl
+
+pub drop_set : {X : Type 0} (xs : List X) (x : X) → drop 1 (slice_set xs 0 x) ≡ drop 1 xs
+drop_set [] x = refl
+drop_set (y ∷ xs) x = refl

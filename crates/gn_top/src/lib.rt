@@ -1,0 +1,18 @@
+//! The top call: all that the program does, over sources and a sink that are handed in.
+#![tactic(auto)]
+
+mod answer;
+mod answered;
+mod host;
+mod labels;
+mod many;
+mod one;
+#[cfg(test)]
+mod tests;
+mod texts;
+mod words;
+
+pub use host::{Ended, Host, One};
+pub use many::run_gn;
+pub use one::run_one;
+pub use texts::USAGE;
