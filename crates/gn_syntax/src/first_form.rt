@@ -1,6 +1,6 @@
 //! The first form of a file: a list of groups.
 
-ghost use Rattle.std.specs.Prelude.{◌≡◌, map, All, IfOk, IfSome};
+ghost use Rattle.std.specs.Prelude.{◌≡◌, map, All, IfOk, IfSome, IsTrue};
 ghost use Rattle.std.specs.Option.{option_map};
 ghost use Rattle.gn_syntax.specs.Groups.{group_names, file_names, words, are_different, form_name, IsWithin};
 
@@ -30,6 +30,7 @@ pub struct GroupForm {
 pub fn groups(alloc: Global, bytes: &[u8]) -> Result<Option<Vec<GroupForm>>, AllocError>
     ensures names { IfOk result (λ found. option_map (λ forms. map (form_name bytes.now) forms.items) found ≡ group_names bytes.now) }
     ensures within { IfOk result (λ found. IfSome found (λ forms. All (IsWithin bytes.now) forms.items)) }
+    ensures different { IfOk result (λ found. IfSome found (λ forms. IsTrue (are_different (map (form_name bytes.now) forms.items)))) }
 {
     let Some(forms) = group_list(alloc, bytes)? else {
         return Ok(None);

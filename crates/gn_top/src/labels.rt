@@ -1,9 +1,7 @@
 // The labels of a build file.
-ghost use Rattle.std.specs.Prelude.{◌≡◌, IfOk, option_map, map};
-ghost use Rattle.std.specs.List.{flat_map, IsDistinct};
-ghost use Rattle.std.specs.Ordering.{nat_cmp, eq_by_cmp};
-ghost use Rattle.std.specs.Cmp.Lexicographic.{slice_cmp};
-ghost use Rattle.gn_syntax.specs.Groups.{group_names, form_name, FormsLie};
+ghost use Rattle.std.specs.Prelude.{◌≡◌, All, IfOk, IsTrue, option_map, map};
+ghost use Rattle.std.specs.List.{flat_map};
+ghost use Rattle.gn_syntax.specs.Groups.{group_names, form_name, IsWithin, are_different};
 ghost use Rattle.gn_top.specs.Labels.{listing, label_line};
 
 use gn_syntax::{GroupForm, groups};
@@ -21,8 +19,8 @@ pub fn labels(alloc: Global, bytes: &[u8]) -> Result<Option<Vec<u8>>, AllocError
 
 // The labels of these groups, one a line, in label order.
 fn listed(alloc: Global, bytes: &[u8], forms: &[GroupForm]) -> Result<Vec<u8>, AllocError>
-    requires lie { FormsLie bytes.now forms.now }
-    requires differ { IsDistinct (eq_by_cmp (slice_cmp nat_cmp)) (map (form_name bytes.now) forms.now) }
+    requires within { All (IsWithin bytes.now) forms.now }
+    requires different { IsTrue (are_different (map (form_name bytes.now) forms.now)) }
     ensures { IfOk result (λ text. text.items ≡ listing (map (form_name bytes.now) forms.now)) }
 {
     let mut names = names_of(alloc, bytes, forms)?;
@@ -36,7 +34,7 @@ fn names_of<'a>(
     bytes: &'a [u8],
     forms: &[GroupForm],
 ) -> Result<Vec<&'a [u8]>, AllocError>
-    requires { FormsLie bytes.now forms.now }
+    requires { All (IsWithin bytes.now) forms.now }
     ensures { IfOk result (λ names. map (λ name. name.now) names.items ≡ map (form_name bytes.entry.now) forms.now) }
 {
     let mut names = Vec::new(alloc);
