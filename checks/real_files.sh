@@ -1,0 +1,107 @@
+#!/usr/bin/env bash
+# Runs the built program over real folders: what no contract can say of files and standard output.
+set -u
+cd "$(dirname "$0")/.."
+top=$PWD
+passed=0
+failed=0
+
+# The gate leaves no program behind, so this links it once more over what the gate has proved.
+if ! command -v rt >/dev/null 2>&1; then
+  echo "real_files: skipped, since 'rt' is missing"
+  exit 0
+fi
+(cd crates/gn && rt run </dev/null >/dev/null 2>&1)
+gn=$top/crates/gn/out/gn
+if [ ! -x "$gn" ]; then
+  echo "real_files: the program isn't built" >&2
+  exit 1
+fi
+
+folder=$(mktemp -d)
+trap 'chmod -R u+rwx "$folder"; rm -rf "$folder"' EXIT
+
+# expect NAME STATUS TEXT: compares the last run, whose output stands in $out and whose status in $status
+expect() {
+  if [ "$status" = "$2" ] && [ "$out" = "$3" ]; then
+    passed=$((passed + 1))
+  else
+    failed=$((failed + 1))
+    printf 'real_files: %s: want status %s and %q, got status %s and %q\n' "$1" "$2" "$3" "$status" "$out" >&2
+  fi
+}
+
+# run FOLDER WORD..: runs the program there; the text keeps its newlines by an `x` at its end
+run() {
+  local where=$1
+  shift
+  out=$(cd "$where" && "$gn" "$@" </dev/null 2>&1; status=$?; printf x; exit $status)
+  status=$?
+  out=${out%x}
+}
+
+usage=$'usage: gn gen|ls|desc|refs|path|check|args|sample ...\n'
+cannot_read=$'gn: cannot read //BUILD.gn\n'
+absent=$'ERROR at //BUILD.gn:1:1: No such file "//BUILD.gn".\n'
+
+mkdir -p "$folder/groups" "$folder/empty" "$folder/other" "$folder/folder/BUILD.gn" "$folder/dangling" "$folder/big"
+printf 'group("b") {\n}\ngroup("a") {\n}\n' >"$folder/groups/BUILD.gn"
+printf 'x = 1\n' >"$folder/other/BUILD.gn"
+ln -s nowhere "$folder/dangling/BUILD.gn"
+head -c 16777217 /dev/zero | tr '\0' ' ' >"$folder/big/BUILD.gn"
+
+run "$folder/groups" ls out
+expect "two groups" 0 $'//:a\n//:b\n'
+run "$folder/empty" ls out
+expect "no build file" 1 "$absent"
+run "$folder/dangling" ls out
+expect "a link to nothing" 1 "$absent"
+run "$folder/other" ls out
+expect "another form" 1 $'ERROR at //BUILD.gn:1:1: "//BUILD.gn" is not in this profile.\n'
+run "$folder/big" ls out
+expect "a file beyond the limit" 1 $'ERROR at //BUILD.gn:1:1: File "//BUILD.gn" is too big.\n'
+run "$folder/folder" ls out
+expect "a folder in the file's place" 3 "$cannot_read"
+run "$folder/groups"
+expect "no words" 2 "$usage"
+run "$folder/groups" frob
+expect "an unknown word" 2 "$usage"
+run "$folder/groups" gen
+expect "a command without its folder" 2 "$usage"
+run "$folder/groups" ls out --frob
+expect "a bad switch" 2 "$usage"
+run "$folder/groups" ls $'\xff'
+expect "a word that is no text" 2 "$usage"
+run / ls out
+expect "the root of the host" 2 "$usage"
+
+# Permissions bind everyone but root, so these run as nobody where that can be had.
+if [ "$(id -u)" -eq 0 ] && command -v setpriv >/dev/null 2>&1; then
+  mkdir "$folder/closed"
+  cp "$folder/groups/BUILD.gn" "$folder/closed/BUILD.gn"
+  chmod 755 "$folder"
+  cp "$gn" "$folder/gn"
+  chmod 755 "$folder/gn"
+  chmod 000 "$folder/closed/BUILD.gn"
+  out=$(cd "$folder/closed" && setpriv --reuid 65534 --regid 65534 --clear-groups "$folder/gn" ls out </dev/null 2>&1; status=$?; printf x; exit $status)
+  status=$?
+  out=${out%x}
+  expect "a file that may not be read" 3 "$cannot_read"
+else
+  echo "real_files: skipped the missing permission, since root or 'setpriv' is missing"
+fi
+
+(cd "$folder/groups" && "$gn" ls out </dev/null >&-)
+status=$?
+out=
+expect "a closed standard output" 4 ""
+if [ -c /dev/full ]; then
+  (cd "$folder/groups" && "$gn" ls out </dev/null >/dev/full)
+  status=$?
+  expect "a full standard output" 4 ""
+else
+  echo "real_files: skipped the full standard output, since /dev/full is missing"
+fi
+
+echo "real_files: $passed passed, $failed failed"
+[ "$failed" -eq 0 ]
