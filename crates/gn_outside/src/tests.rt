@@ -46,12 +46,17 @@ fn a_file_above_the_limit_is_too_big(rt: HostRuntime) -> Result<(), Fail> {
     Ok(())
 }
 
+// A source may go to a thread.
+fn sent<S: Source + Send>(source: S) -> S {
+    source
+}
+
 #[test]
 fn a_source_fails_at_the_calls_listed(rt: HostRuntime) -> Result<(), Fail> {
     let alloc = rt.alloc();
     let mut tree = Tree::new(alloc);
     tree.put("//a", b"1")?;
-    let mut source = TreeSource::new(alloc, tree, [2].to_vec(alloc)?);
+    let mut source = sent(TreeSource::new(alloc, tree, [2].to_vec(alloc)?));
     let first = source
         .read(alloc, "//a")
         .ok()
