@@ -1,5 +1,5 @@
 -- What a whole run does to its sources and its sink.
-use Rattle.std.specs.Prelude.{◌≡◌, ◌⊎◌, ℕ, ◌<◌, ◌≤◌, List, [], ◌∷◌, take}
+use Rattle.std.specs.Prelude.{◌≡◌, ◌⊎◌, ℕ, ◌<◌, ◌≤◌, List, take}
 use Rattle.gn_outside.specs.States.{SourceState, SinkState}
 use Rattle.gn_outside.specs.Lists.{EachPair, Extends}
 use Rattle.gn_outside.specs.Sources.{AllTellReads, total_faults, FailedAt, IsLeastFailure}

@@ -1,4 +1,4 @@
-use Rattle.std.proofs.Common.{◌≡◌, map}
+use Rattle.std.proofs.Common.{map}
 use Rattle.gn_syntax.specs.Groups.{form_name}
 use Rattle.gn_top.proofs.OrderLemmas.{sorted_names}
 use Rattle.gn_top.proofs.labels.listed.Goals as goal
