@@ -14,7 +14,9 @@ use std::process::ExitCode;
 
 // The statuses of a run that doesn't come to the top call, as those of one that does.
 const NO_FORM: u8 = 2;
+
 const CANNOT_WRITE: u8 = 4;
+
 const NO_MEMORY: u8 = 5;
 
 fn main(rt: HostRuntime) -> ExitCode {

@@ -46,7 +46,10 @@ pub fn start_of<R: Env + AllocGlobal>(rt: &R) -> Start
 }
 
 /// The sources of the program: eight over the files below the current folder.
-pub fn sources<R: Files + Drop + Copy>(alloc: Global, rt: R) -> Result<Vec<FileSource<R>>, AllocError>
+pub fn sources<R: Files + Drop + Copy>(
+    alloc: Global,
+    rt: R,
+) -> Result<Vec<FileSource<R>>, AllocError>
     ensures { IfOk result (λ sources. vec_len sources ≡ 8) }
 {
     let mut sources = Vec::new(alloc);
