@@ -3,7 +3,6 @@ use Rattle.std.specs.Prelude.{ℕ, ◌+◌, ◌-◌, ◌≤◌, ◌==◌, Bool, 
 use Rattle.std.specs.List.{list_all, list_any}
 use Rattle.std.specs.Str.{bytes_eq}
 use Rattle.std.specs.Option.{option_map}
-use Rattle.gn_tokens.specs.declared.token.Token.{Token}
 use Rattle.gn_tokens.specs.declared.token.TokenKind.{TokenKind}
 use Rattle.gn_tokens.specs.declared.token.TokenKind.TheVariants as k
 use Rattle.gn_tokens.specs.Token.{is_word_byte}

@@ -1,5 +1,5 @@
 -- The words of a file, as its parser reads them.
-use Rattle.std.specs.Prelude.{◌≡◌, ℕ, ◌+◌, ◌≤◌, ◌<◌, List, [], ◌∷◌, length, Option, Some, None, Result, Ok, Err}
+use Rattle.std.specs.Prelude.{ℕ, ◌+◌, ◌≤◌, List, [], ◌∷◌, length, Option, Some, None, Result, Ok, Err}
 use Rattle.gn_tokens.specs.declared.token.Token.{Token}
 use Rattle.gn_tokens.specs.declared.token.TokenKind.{TokenKind}
 use Rattle.gn_tokens.specs.declared.token.TokenKind.TheVariants as k

@@ -75,3 +75,94 @@ fn have_different_names(
     }
     Ok(true)
 }
+
+#[cfg(test)]
+mod tests {
+    use super::*;
+    use std::test::Fail;
+
+    // The names, each with a blank behind it.
+    fn listed(alloc: Global, bytes: &[u8]) -> Result<Option<Vec<u8>>, AllocError> {
+        let Some(forms) = groups(alloc, bytes)? else {
+            return Ok(None);
+        };
+        let mut names = Vec::new(alloc);
+        for form in &forms {
+            names.extend_from_slice(&bytes[form.start..form.end])?;
+            names.push(b' ')?;
+        }
+        Ok(Some(names))
+    }
+
+    // Files of the first form, with the names of their groups.
+    const GOOD: [(&[u8], &[u8]); 10] = [
+        (b"", b""),
+        (b"# only a comment", b""),
+        (
+            b"group(\"a\"){deps=[\":b\",]}group(\"b\"){deps=[]}",
+            b"a b ",
+        ),
+        (b"group ( \"Z9_\" ) # c\n{ }", b"Z9_ "),
+        (b"group(\"b\") {}\n\tgroup(\"a\") {}\r\n", b"b a "),
+        (b"group(\"0\") { deps = [ \":x\" ] }", b"0 "),
+        (
+            b"group(\"a\") { deps = [ \":x\", \":x\", \":y_1\" ] }#",
+            b"a ",
+        ),
+        (b"group(\"group\") { deps = [\n  # none\n] }", b"group "),
+        (b"group(\"a\"){}group(\"A\"){}group(\"aa\"){}", b"a A aa "),
+        (b"group(\"if\") { deps = [ \":if\", ] }", b"if "),
+    ];
+
+    // Files of another form.
+    const BAD: [&[u8]; 33] = [
+        b"x = 1",
+        b"group",
+        b"group(\"a\")",
+        b"group(\"a\") {",
+        b"group(\"a\") { deps = [ \"b\" ] }",
+        b"group(\"a\") {} group(\"b\") {} group(\"a\") {}",
+        b"group(\"a b\") {}",
+        b"group(\"\") {}",
+        b"group(\"a\", \"b\") {}",
+        b"group(a) {}",
+        b"group() {}",
+        b"group(\"a\",) {}",
+        b"group(\"a\") { deps = [] deps = [] }",
+        b"group(\"a\") { deps = [ , ] }",
+        b"group(\"a\") { deps = [ \":b\",, ] }",
+        b"group(\"a\") { deps = [ \":b\" \":c\" ] }",
+        b"group(\"a\") { deps = [ \":b\" }",
+        b"group(\"a\") { deps = \":b\" }",
+        b"group(\"a\") { deps = [ \":b c\" ] }",
+        b"group(\"a\") { deps = [ \":\" ] }",
+        b"group(\"a\") { deps = [ \"\" ] }",
+        b"group(\"a\") { deps = [ x ] }",
+        b"group(\"a\") { deps += [ \":b\" ] }",
+        b"group(\"a\") { deps }",
+        b"group(\"a\") { public_deps = [] }",
+        b"group(\"a$b\") {}",
+        b"group(\"a\\b\") {}",
+        b"group(\"a) {}",
+        b"group(\"a\") {} @",
+        b"group(\"a\") {} }",
+        b"config(\"a\") { }",
+        b"Group(\"a\") { }",
+        b"if (true) {}",
+    ];
+
+    #[test]
+    fn reads_the_groups_of_files(rt: HostRuntime) -> Result<(), Fail> {
+        for (text, names) in GOOD {
+            let found = listed(rt.alloc(), text)?;
+            assert!(rt; found.is_some(), "in {text:?}");
+            if let Some(found) = found {
+                assert_eq!(rt; found.as_slice(), names, "in {text:?}");
+            }
+        }
+        for text in BAD {
+            assert!(rt; listed(rt.alloc(), text)?.is_none(), "in {text:?}");
+        }
+        Ok(())
+    }
+}

@@ -1,8 +1,8 @@
 -- The function `next_token` gives the right answer.
-use Rattle.std.proofs.Common.{◌≡◌, ◌≢◌, ℕ, suc, ◌+◌, ◌-◌, ◌<◌, ◌≤◌, true, false, List, [], ◌∷◌, ◌++◌, length, take, drop, Option, Some, None, slice_index, refl, sym, ◌∙◌, ap, subst, arith, length-drop, get_or-drop, drop-drop}
+use Rattle.std.proofs.Common.{◌≡◌, ◌≢◌, ℕ, ◌+◌, ◌-◌, ◌<◌, ◌≤◌, false, List, [], ◌∷◌, length, take, drop, Option, Some, None, slice_index, refl, sym, ◌∙◌, ap, subst, arith, length-drop, get_or-drop, drop-drop}
 use Rattle.gn_tokens.specs.declared.token.TokenKind.{TokenKind}
 use Rattle.gn_tokens.specs.Token.{IsGap, IsToken, is_white}
-use Rattle.gn_tokens.specs.Next.{Reader, IsNext, IsNextToken, IsBadByte, IsOnlyGap, gap_len, front_token, answer, next_token}
+use Rattle.gn_tokens.specs.Next.{Reader, IsNext, gap_len, front_token, answer, next_token}
 use Rattle.gn_tokens.proofs.Gaps.{gap_front, gap_whole, gap_stops}
 use Rattle.gn_tokens.proofs.Longest.{len_of, IsFront, front_is, at_most}
 
