@@ -1,7 +1,7 @@
 -- Lists that begin one another, and sums over a list in which one place changes.
-use Rattle.std.proofs.Common.{◌≡◌, ◌≢◌, ◌⊎◌, ℕ, zero, suc, ◌+◌, ◌<◌, List, [], ◌∷◌, ◌++◌, length, get_or, set, drop, sym, refl, ap, ◌∙◌, subst, inl, inr, ⊎_elim, arith, append_assoc, length-append}
-use Rattle.std.specs.List.{All, sum_by}
-use Rattle.std.proofs.lemmas.List.Elements.{All-append, All-nil}
+use Rattle.std.proofs.Common.{◌≡◌, ◌≢◌, ◌⊎◌, ℕ, zero, suc, ◌+◌, ◌<◌, ◌≤◌, List, [], ◌∷◌, ◌++◌, length, get_or, set, take, drop, sym, refl, ap, ◌∙◌, subst, inl, inr, ⊎_elim, arith, append_assoc, length-append}
+use Rattle.std.specs.List.{All, SomeIndex, HoldsAt, sum_by, remove}
+use Rattle.std.proofs.lemmas.List.Elements.{All-append, All-nil, All-cons, All-head, All-tail, All-take, All-drop}
 use Rattle.std.proofs.lemmas.List.{append-nil}
 use Rattle.std.proofs.lemmas.List.Sums.{sum_by-cons}
 use mathlib.Core.Option.{some, some-injective, some-ne-none}
@@ -52,12 +52,18 @@ module _ {A : Type 0} where
   each_front P y l first h zero d near = first
   each_front P y l first h (suc i) d near = h i d (omega arith)
 
-  pub front_back : (l : List A) (x : A) → 0 < length l → x ≡ get_or l 0 x → l ≡ x ∷ drop 1 l
-  front_back [] x h e = absurd (omega arith)
-  front_back (y ∷ ys) x h e = λ k. sym e k ∷ ys
+  -- what is at no place below the length is nowhere
+  pub nowhere : (f : A → ℕ) (n k : ℕ) (l : List A) → length l ≤ k → ((i : ℕ) (d : A) → i < k → f (get_or l i d) ≢ n) → SomeIndex l (HoldsAt (λ x. f x ≡ n) l) → ⊥
+  nowhere f n k [] long none at = omega (arith, at.1)
+  nowhere f n k (x ∷ xs) long none at = none at.0 x (omega (arith, at.1)) (at.2 x)
 
-  pub front_else : (l : List A) (x : A) (i : ℕ) (d : A) → l ≡ x ∷ drop 1 l → get_or l (suc i) d ≡ get_or (drop 1 l) i d
-  front_else l x i d e = ap (λ (z : List A). get_or z (suc i) d) e
+  -- what is left after a removal
+  pub remove_else : (l : List A) (i m : ℕ) (d : A) → m < length l → m ≢ i → (n : ℕ) × (n < length (remove l i)) × (get_or (remove l i) n d ≡ get_or l m d)
+  remove_else [] i m d near other = absurd (omega arith)
+  remove_else (x ∷ xs) zero zero d near other = absurd (other refl)
+  remove_else (x ∷ xs) zero (suc m) d near other = (m, omega arith, refl)
+  remove_else (x ∷ xs) (suc i) zero d near other = (0, omega arith, refl)
+  remove_else (x ∷ xs) (suc i) (suc m) d near other = let r = remove_else xs i m d (omega arith) (λ e. other (ap suc e)) in let n = r.1 in (suc r.0, omega arith, r.2)
 
 module _ {X Y : Type 0} (f : X → Y) where
   pub found : (l : List X) (i : ℕ) (d : X) → i < length l → (m : ℕ) × (m < length (map_reversed f l)) × (get_or (map_reversed f l) m (f d) ≡ f (get_or l i d))
@@ -75,3 +81,13 @@ module _ {A : Type 0} (P : A → Type 0) where
 
   pub all_last : (xs : List A) (y : A) → All P (xs ++ y ∷ []) → P y
   all_last xs y h = subst P (get_or-append_seam xs y [] y) (h (length xs) y (omega (arith, length-append xs (y ∷ []))))
+
+  pub all_remove : (xs : List A) (i : ℕ) → All P xs → All P (remove xs i)
+  all_remove xs i h = All-append P (take i xs) (drop (suc i) xs) (All-take P i xs h) (All-drop P (suc i) xs h)
+
+  -- all are what was removed and what is left
+  pub all_put_back : (xs : List A) (i : ℕ) (x : A) → i < length xs → x ≡ get_or xs i x → P x → All P (remove xs i) → All P xs
+  all_put_back [] i x near is p h = absurd (omega arith)
+  all_put_back (y ∷ ys) zero x near is p h = All-cons P y ys (subst P is p) h
+  all_put_back (y ∷ ys) (suc i) x near is p h =
+      All-cons P y ys (All-head P y (remove ys i) h) (all_put_back ys i x (omega arith) is p (All-tail P y (remove ys i) h))

@@ -1,5 +1,6 @@
 -- What public clauses say of a turn, its seats and the value that is handed out.
-use Rattle.std.specs.Prelude.{◌≡◌, ℕ, List}
+use Rattle.std.specs.Prelude.{◌≡◌, ℕ, ◌<◌, List, SomeIndex}
+use Rattle.std.specs.List.{HoldsAt}
 use Rattle.gn_turn.specs.declared.kept.Kept.{Ghosts}
 use Rattle.gn_turn.specs.declared.held.Held.{Held}
 use Rattle.gn_turn.specs.declared.seat.Seat.{Seat}
@@ -46,6 +47,10 @@ module _ {B E G : Type 0} {k : Ghosts B E G} where
   abbrev pub AreNewSeats : Turn B E G → List (Seat B E G k) → Type 0
   AreNewSeats t seats = Each (λ i s. IsSeatOf t s × IsNewToken i s.token) seats
 
-  -- these are all seats of the turn, in the order of their numbers, and none holds
-  abbrev pub AreIdleSeats : Turn B E G → List (Seat B E G k) → Type 0
-  AreIdleSeats t seats = Each (λ i s. IsSeatOf t s × (number_of s ≡ i) × IsIdle s) seats
+  -- one of these seats bears the number
+  abbrev pub HasNumber : List (Seat B E G k) → ℕ → Type 0
+  HasNumber seats number = SomeIndex seats (HoldsAt (λ s. number_of s ≡ number) seats)
+
+  -- these are all seats of the turn: each of its numbers is borne by one of them
+  abbrev pub HasEachNumber : Turn B E G → List (Seat B E G k) → Type 0
+  HasEachNumber t seats = (number : ℕ) → number < seat_count t → HasNumber seats number
