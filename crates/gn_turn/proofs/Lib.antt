@@ -9,3 +9,4 @@ pub mod SlotSteps
 pub mod SeatSteps
 pub mod LastSeat
 pub mod Finish
+pub mod Numbers

@@ -43,7 +43,11 @@ module _ {B E G : Type 0} {k : Ghosts B E G} where
   abbrev pub IsSameSeat : Seat B E G k → Seat B E G k → Type 0
   IsSameSeat old new = IsSameToken old.token new.token
 
-  -- these are all seats of the turn, in the order of their numbers, as they were made
+  -- each seat stands at the place of its number
+  abbrev pub AreInOrder : List (Seat B E G k) → Type 0
+  AreInOrder seats = Each (λ i s. number_of s ≡ i) seats
+
+  -- seats of the turn as they are made: in order, and each has seen nothing and waits for no turn
   abbrev pub AreNewSeats : Turn B E G → List (Seat B E G k) → Type 0
   AreNewSeats t seats = Each (λ i s. IsSeatOf t s × IsNewToken i s.token) seats
 
@@ -51,6 +55,6 @@ module _ {B E G : Type 0} {k : Ghosts B E G} where
   abbrev pub HasNumber : List (Seat B E G k) → ℕ → Type 0
   HasNumber seats number = SomeIndex seats (HoldsAt (λ s. number_of s ≡ number) seats)
 
-  -- these are all seats of the turn: each of its numbers is borne by one of them
+  -- these are all seats of the turn, in any order: each of its numbers is borne by one of them
   abbrev pub HasEachNumber : Turn B E G → List (Seat B E G k) → Type 0
   HasEachNumber t seats = (number : ℕ) → number < seat_count t → HasNumber seats number

@@ -10,6 +10,8 @@ mod plays;
 mod rule;
 mod seat;
 mod taking;
+#[cfg(test)]
+mod tests;
 mod turn;
 mod view;
 
