@@ -28,7 +28,8 @@ module _ {E : Type 0} (number : E → ℕ) (j : ℕ) where
       ∙ append-nil (entries_of number j seen)))
 
   -- all that this seat adds are entries of its own
-  pub entries_of-AddsOwn : (before after : List E) → AddsOwn number j before after → entries_of number j after ≡ entries_of number j before ++ drop (length before) after
+  pub entries_of-AddsOwn : (before after : List E) → AddsOwn number j before after
+      → entries_of number j after ≡ entries_of number j before ++ drop (length before) after
   entries_of-AddsOwn before after a =
       let added : drop (length before) after ≡ a.added = ap (drop (length before)) (sym a.is) ∙ drop-append_seam before a.added in
       ap (entries_of number j) (sym a.is)

@@ -28,7 +28,8 @@ module _ {A B E G : Type 0} (basis : B → G) (history : B → List E) (number :
   joins_as s = joined_of (token s)
 
   -- without the first seat, the others have all numbers but 0
-  all_joined : (n : ℕ) (seats : List A) (i : ℕ) (first : A) → first ≡ get_or seats i first → token_number (token first) ≡ 0 → HasEach n seats → AllJoined basis history number g n (map_reversed joins_as (remove seats i))
+  all_joined : (n : ℕ) (seats : List A) (i : ℕ) (first : A) → first ≡ get_or seats i first → token_number (token first) ≡ 0 → HasEach n seats
+      → AllJoined basis history number g n (map_reversed joins_as (remove seats i))
   all_joined n seats i first is at_zero each k some_k below =
       let at = each k below in
       let other : at.0 ≢ i = λ same. (let e : token_number (token first) ≡ k = ap (λ s. token_number (token s)) (is ∙ ap (λ (m : ℕ). get_or seats m first) (sym same)) ∙ at.2 first in omega arith) in

@@ -33,8 +33,10 @@ module _ {A : Type 0} where
 
   pub sum_set : (f : A → ℕ) (l : List A) (i : ℕ) (a b : A) → get_elem? l i ≡ some a → sum_by f (set l i b) + f a ≡ sum_by f l + f b
   sum_set f [] i a b e = absurd (some-ne-none a (sym e))
-  sum_set f (x ∷ xs) zero a b e = let z : f x ≡ f a = ap f (some-injective x a e) in omega (arith, sum_by-cons f x xs, sum_by-cons f b xs)
-  sum_set f (x ∷ xs) (suc i) a b e = let z = sum_set f xs i a b e in omega (arith, sum_by-cons f x xs, sum_by-cons f x (set xs i b))
+  sum_set f (x ∷ xs) zero a b e =
+      let z : f x ≡ f a = ap f (some-injective x a e) in omega (arith, sum_by-cons f x xs, sum_by-cons f b xs)
+  sum_set f (x ∷ xs) (suc i) a b e =
+      let z = sum_set f xs i a b e in omega (arith, sum_by-cons f x xs, sum_by-cons f x (set xs i b))
 
   pub sum_same : (f : A → ℕ) (l : List A) (i : ℕ) (a b : A) → get_elem? l i ≡ some a → f a ≡ f b → sum_by f (set l i b) ≡ sum_by f l
   sum_same f l i a b e same = let z = sum_set f l i a b e in omega arith
@@ -53,22 +55,28 @@ module _ {A : Type 0} where
   each_front P y l first h (suc i) d near = h i d (omega arith)
 
   -- what is at no place below the length is nowhere
-  pub nowhere : (f : A → ℕ) (n k : ℕ) (l : List A) → length l ≤ k → ((i : ℕ) (d : A) → i < k → f (get_or l i d) ≢ n) → SomeIndex l (HoldsAt (λ x. f x ≡ n) l) → ⊥
+  pub nowhere : (f : A → ℕ) (n k : ℕ) (l : List A) → length l ≤ k → ((i : ℕ) (d : A) → i < k → f (get_or l i d) ≢ n)
+      → SomeIndex l (HoldsAt (λ x. f x ≡ n) l) → ⊥
   nowhere f n k [] long none at = omega (arith, at.1)
   nowhere f n k (x ∷ xs) long none at = none at.0 x (omega (arith, at.1)) (at.2 x)
 
   -- what is left after a removal
-  pub remove_else : (l : List A) (i m : ℕ) (d : A) → m < length l → m ≢ i → (n : ℕ) × (n < length (remove l i)) × (get_or (remove l i) n d ≡ get_or l m d)
+  pub remove_else : (l : List A) (i m : ℕ) (d : A) → m < length l → m ≢ i
+      → (n : ℕ) × (n < length (remove l i)) × (get_or (remove l i) n d ≡ get_or l m d)
   remove_else [] i m d near other = absurd (omega arith)
   remove_else (x ∷ xs) zero zero d near other = absurd (other refl)
   remove_else (x ∷ xs) zero (suc m) d near other = (m, omega arith, refl)
   remove_else (x ∷ xs) (suc i) zero d near other = (0, omega arith, refl)
-  remove_else (x ∷ xs) (suc i) (suc m) d near other = let r = remove_else xs i m d (omega arith) (λ e. other (ap suc e)) in let n = r.1 in (suc r.0, omega arith, r.2)
+  remove_else (x ∷ xs) (suc i) (suc m) d near other =
+      let r = remove_else xs i m d (omega arith) (λ e. other (ap suc e)) in
+      let n = r.1 in (suc r.0, omega arith, r.2)
 
 module _ {X Y : Type 0} (f : X → Y) where
-  pub found : (l : List X) (i : ℕ) (d : X) → i < length l → (m : ℕ) × (m < length (map_reversed f l)) × (get_or (map_reversed f l) m (f d) ≡ f (get_or l i d))
+  pub found : (l : List X) (i : ℕ) (d : X) → i < length l
+      → (m : ℕ) × (m < length (map_reversed f l)) × (get_or (map_reversed f l) m (f d) ≡ f (get_or l i d))
   found [] i d h = absurd (omega arith)
-  found (x ∷ xs) zero d h = let ys = map_reversed f xs in (length ys, omega (arith, length-append ys (f x ∷ [])), get_or-append_seam ys (f x) [] (f d))
+  found (x ∷ xs) zero d h =
+      let ys = map_reversed f xs in (length ys, omega (arith, length-append ys (f x ∷ [])), get_or-append_seam ys (f x) [] (f d))
   found (x ∷ xs) (suc i) d h = let ys = map_reversed f xs in let r = found xs i d (omega arith) in let near = r.1 in
       (r.0, omega (arith, length-append ys (f x ∷ [])), get_or-append ys (f x ∷ []) (f d) r.0 r.1 ∙ r.2)
 

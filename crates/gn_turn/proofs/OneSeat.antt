@@ -32,14 +32,18 @@ module _ {B E G : Type 0} (basis : B → G) (history : B → List E) (number : E
   abbrev pub Rule : State (Option B) (View E G) → Type 0
   Rule = LockInvariant basis history number g
 
-  pub live : (s : State (Option B) (View E G)) (r : Rule s) (id : ℕ) (v : View E G) → get_elem? s.views id ≡ some v → v.basis ≡ Some g → IsSeated number r.progress s.views id g v
+  -- what the rule says of a live seat
+  pub live : (s : State (Option B) (View E G)) (r : Rule s) (id : ℕ) (v : View E G) → get_elem? s.views id ≡ some v → v.basis ≡ Some g
+      → IsSeated number r.progress s.views id g v
   live s r id v at b = ⊎_elim (λ (e : v ≡ spent_view). absurd (not_spent number g v b e)) (λ k. k) (r.seats id v at)
 
+  -- at most 64 tickets are out
   pub few_out : (s : State (Option B) (View E G)) (r : Rule s) → r.progress.tickets ≤ 64
   few_out s r = let a = count_by-le-length has_drawn s.views in let b = r.few in let c = r.counted in omega arith
 
   -- the seat id goes from v to w, and the progress from q to q'
-  pub seats_after : (s : State (Option B) (View E G)) (r : Rule s) (id : ℕ) (v w : View E G) (q' : Progress E) → get_elem? s.views id ≡ some v → v.basis ≡ Some g → Still number g id r.progress.settled q'.settled
+  pub seats_after : (s : State (Option B) (View E G)) (r : Rule s) (id : ℕ) (v w : View E G) (q' : Progress E) → get_elem? s.views id ≡ some v
+      → v.basis ≡ Some g → Still number g id r.progress.settled q'.settled
       → ((j : ℕ) (x : View E G) → j ≢ id → get_elem? s.views j ≡ some x → IsAtStage number r.progress s.views j x.seen x.stage → IsAtStage number q' (set s.views id w) j x.seen x.stage)
       → IsSeated number q' (set s.views id w) id g w
       → (j : ℕ) (x : View E G) → get_elem? (set s.views id w) j ≡ some x → (x ≡ spent_view) ⊎ IsSeated number q' (set s.views id w) j g x
@@ -55,7 +59,8 @@ module _ {B E G : Type 0} (basis : B → G) (history : B → List E) (number : E
       (at_set s.views id j w x e)
 
   -- a step of the seat id, which keeps its number, its basis and its role
-  pub turned : (s : State (Option B) (View E G)) (r : Rule s) (id : ℕ) (v : View E G) (q' : Progress E) (seen : List E) (σ : Stage E) (words' : List ℕ) (homes' : Homes B) → get_elem? s.views id ≡ some v → v.basis ≡ Some g
+  pub turned : (s : State (Option B) (View E G)) (r : Rule s) (id : ℕ) (v : View E G) (q' : Progress E) (seen : List E) (σ : Stage E) (words' : List ℕ) (homes' : Homes B)
+      → get_elem? s.views id ≡ some v → v.basis ≡ Some g
       → words' ≡ (q'.passed + q'.tickets) % 2 ^ 64 ∷ q'.passed % 2 ^ 64 ∷ []
       → sum_by bit (set s.views id (moved v seen σ)) ≡ q'.tickets
       → All (λ e. number e < length s.views) q'.settled
@@ -83,5 +88,8 @@ module _ {B E G : Type 0} (basis : B → G) (history : B → List E) (number : E
         };
       }
 
-  pub loaded : (s : State (Option B) (View E G)) (i : ℕ) (homes : Homes B) (views : List (View E G)) → Rule record { words = s.words; homes = homes; views = views } → Rule record { words = set s.words i (get_or s.words i 0); homes = homes; views = views }
+  -- a load leaves the word as it was
+  pub loaded : (s : State (Option B) (View E G)) (i : ℕ) (homes : Homes B) (views : List (View E G))
+      → Rule record { words = s.words; homes = homes; views = views }
+      → Rule record { words = set s.words i (get_or s.words i 0); homes = homes; views = views }
   loaded s i homes views = subst (λ (ws : List ℕ). Rule record { words = ws; homes = homes; views = views }) (sym (set-get_or s.words i 0))

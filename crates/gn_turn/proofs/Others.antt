@@ -21,20 +21,25 @@ module _ {E G : Type 0} (number : E → ℕ) (g : G) where
   not_spent v b e = let z : v.basis ≡ None = ap (λ (x : View E G). x.basis) e in cc
 
   -- the index of a seat that was joined is that of no live seat
-  pub apart : (views : List (View E G)) (id n : ℕ) (v : View E G) → get_elem? views id ≡ some v → v.basis ≡ Some g → get_elem? views n ≡ some spent_view → n ≢ id
+  pub apart : (views : List (View E G)) (id n : ℕ) (v : View E G) → get_elem? views id ≡ some v → v.basis ≡ Some g
+      → get_elem? views n ≡ some spent_view → n ≢ id
   apart views id n v at b gone e = not_spent v b (one_view views id v spent_view at (subst (λ (i : ℕ). get_elem? views i ≡ some spent_view) e gone))
 
   -- seats other than id see no less of the new history
   abbrev pub Still : ℕ → List E → List E → Type 0
   Still id h h' = (j : ℕ) (seen : List E) → j ≢ id → SeenPrefix number j seen h → SeenPrefix number j seen h'
 
-  pub in_role_still : (q q' : Progress E) (views : List (View E G)) (id : ℕ) (v w : View E G) → get_elem? views id ≡ some v → v.basis ≡ Some g → Still id q.settled q'.settled
+  -- a role stays through a step of another seat
+  pub in_role_still : (q q' : Progress E) (views : List (View E G)) (id : ℕ) (v w : View E G) → get_elem? views id ≡ some v → v.basis ≡ Some g
+      → Still id q.settled q'.settled
       → (j : ℕ) (o : Role E) → IsInRole number q views j o → IsInRole number q' (set views id w) j o
   in_role_still q q' views id v w at b still j Plain k = tt
   in_role_still q q' views id v w at b still j (First n js) k = (
     k.0,
     k.1 ∙ sym (length-set views id w),
-    λ i d l. let p : Joined E = get_or js i d in let h = k.2 i d l in let other : p.number ≢ id = apart views id p.number v at b h.1 in
+    λ i d l. let p : Joined E = get_or js i d in
+        let h = k.2 i d l in
+        let other : p.number ≢ id = apart views id p.number v at b h.1 in
         (still p.number p.seen other h.0, set_else views id p.number w other ∙ h.1),
   )
 
@@ -54,7 +59,9 @@ module _ {E G : Type 0} (number : E → ℕ) (g : G) where
       go (Holding t) k = absurd (mine t k.2 k.0)
       go (Returned t h) k = absurd (mine t k.2 k.0)
 
-  pub in_use_set : (passed tickets server : ℕ) (views : List (View E G)) (id : ℕ) (v w : View E G) (d : Slot E) → get_elem? views id ≡ some v → ((σ : Stage E) → has_ticket σ ≡ true → v.stage ≡ σ → w.stage ≡ σ)
+  -- the seat that uses the slot keeps its stage, or another changed
+  pub in_use_set : (passed tickets server : ℕ) (views : List (View E G)) (id : ℕ) (v w : View E G) (d : Slot E) → get_elem? views id ≡ some v
+      → ((σ : Stage E) → has_ticket σ ≡ true → v.stage ≡ σ → w.stage ≡ σ)
       → IsInUse passed tickets server views d → IsInUse passed tickets server (set views id w) d
   in_use_set passed tickets server views id v w at_rest at same b = tt
   in_use_set passed tickets server views id v w taken at same b = (
@@ -73,23 +80,31 @@ module _ {E G : Type 0} (number : E → ℕ) (g : G) where
   )
 
   -- where the seat that is served only waits, the slot is at rest
-  pub rests_while_waiting : (passed tickets server : ℕ) (views : List (View E G)) (v : View E G) (t : ℕ) (d : Slot E) → get_elem? views server ≡ some v → v.stage ≡ Waiting t → IsInUse passed tickets server views d → d ≡ at_rest
+  pub rests_while_waiting : (passed tickets server : ℕ) (views : List (View E G)) (v : View E G) (t : ℕ) (d : Slot E)
+      → get_elem? views server ≡ some v → v.stage ≡ Waiting t → IsInUse passed tickets server views d → d ≡ at_rest
   rests_while_waiting passed tickets server views v t at_rest at is b = refl
-  rests_while_waiting passed tickets server views v t taken at is b = let z : v ≡ b.1.0 = one_view views server v b.1.0 at b.1.1 in let x : Waiting t ≡ Holding passed = sym is ∙ (ap (λ (y : View E G). y.stage) z ∙ b.1.2) in absurd cc
-  rests_while_waiting passed tickets server views v t (returned h) at is b = let z : v ≡ b.1.0 = one_view views server v b.1.0 at b.1.1 in let x : Waiting t ≡ Returned passed h = sym is ∙ (ap (λ (y : View E G). y.stage) z ∙ b.1.2) in absurd cc
+  rests_while_waiting passed tickets server views v t taken at is b =
+      let z : v ≡ b.1.0 = one_view views server v b.1.0 at b.1.1 in
+      let x : Waiting t ≡ Holding passed = sym is ∙ (ap (λ (y : View E G). y.stage) z ∙ b.1.2) in absurd cc
+  rests_while_waiting passed tickets server views v t (returned h) at is b =
+      let z : v ≡ b.1.0 = one_view views server v b.1.0 at b.1.1 in
+      let x : Waiting t ≡ Returned passed h = sym is ∙ (ap (λ (y : View E G). y.stage) z ∙ b.1.2) in absurd cc
 
-  pub in_use_more : (passed tickets server server' : ℕ) (views : List (View E G)) (d : Slot E) → (0 < tickets → server' ≡ server) → IsInUse passed tickets server views d → IsInUse passed (tickets + 1) server' views d
+  pub in_use_more : (passed tickets server server' : ℕ) (views : List (View E G)) (d : Slot E) → (0 < tickets → server' ≡ server)
+      → IsInUse passed tickets server views d → IsInUse passed (tickets + 1) server' views d
   in_use_more passed tickets server server' views at_rest same b = tt
   in_use_more passed tickets server server' views taken same b = (omega arith, (b.1.0, subst (λ (i : ℕ). get_elem? views i ≡ some b.1.0) (sym (same b.0)) b.1.1, b.1.2))
   in_use_more passed tickets server server' views (returned h) same b = (omega arith, (b.1.0, subst (λ (i : ℕ). get_elem? views i ≡ some b.1.0) (sym (same b.0)) b.1.1, b.1.2))
 
-  pub in_use_longer : (passed tickets server : ℕ) (views extra : List (View E G)) (d : Slot E) → IsInUse passed tickets server views d → IsInUse passed tickets server (views ++ extra) d
+  pub in_use_longer : (passed tickets server : ℕ) (views extra : List (View E G)) (d : Slot E) → IsInUse passed tickets server views d
+      → IsInUse passed tickets server (views ++ extra) d
   in_use_longer passed tickets server views extra at_rest b = tt
   in_use_longer passed tickets server views extra taken b = (b.0, (b.1.0, at_longer views extra server b.1.0 b.1.1, b.1.2))
   in_use_longer passed tickets server views extra (returned h) b = (b.0, (b.1.0, at_longer views extra server b.1.0 b.1.1, b.1.2))
 
   -- what a seat's stage says stays, whatever the other views are
-  pub stage_same : (q : Progress E) (views views' : List (View E G)) (j : ℕ) (seen : List E) (σ : Stage E) → IsAtStage number q views j seen σ → IsAtStage number q views' j seen σ
+  pub stage_same : (q : Progress E) (views views' : List (View E G)) (j : ℕ) (seen : List E) (σ : Stage E) → IsAtStage number q views j seen σ
+      → IsAtStage number q views' j seen σ
   stage_same q views views' j seen Idle k = tt
   stage_same q views views' j seen (Waiting t) k = k
   stage_same q views views' j seen (AtTurn t) k = k
@@ -97,6 +112,7 @@ module _ {E G : Type 0} (number : E → ℕ) (g : G) where
   stage_same q views views' j seen (Returned t h) k = k
 
   -- only the seat 0 has a role
-  pub plain_else : (q : Progress E) (views views' : List (View E G)) (j : ℕ) (o : Role E) → j ≢ 0 → IsInRole number q views j o → IsInRole number q views' j o
+  pub plain_else : (q : Progress E) (views views' : List (View E G)) (j : ℕ) (o : Role E) → j ≢ 0 → IsInRole number q views j o
+      → IsInRole number q views' j o
   plain_else q views views' j Plain other k = tt
   plain_else q views views' j (First n js) other k = absurd (other k.0)

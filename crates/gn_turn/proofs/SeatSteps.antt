@@ -21,6 +21,7 @@ use Rattle.gn_turn.proofs.Others.{apart, in_use_set, in_use_longer, stage_same, 
 use Rattle.gn_turn.proofs.OneSeat.{Rule, live, bit}
 
 module _ {B E G : Type 0} (basis : B → G) (history : B → List E) (number : E → ℕ) (g : G) where
+  -- the first seat alone, over a value without history
   pub opening_holds : (x : B) → basis x ≡ g → history x ≡ [] → (Rule basis history number g) (opening (0 ∷ 0 ∷ []) (Some x ∷ []) (first_view g))
   opening_holds x based empty = record {
     progress = record { passed = 0; tickets = 0; owner = λ _. 0; slot = at_rest; settled = [] };
@@ -36,7 +37,8 @@ module _ {B E G : Type 0} (basis : B → G) (history : B → List E) (number : E
       q : Progress E
       q = record { passed = 0; tickets = 0; owner = λ _. 0; slot = at_rest; settled = [] }
 
-      first : (j : ℕ) (v : View E G) → get_elem? (first_view g ∷ []) j ≡ some v → (v ≡ spent_view) ⊎ IsSeated number (record { passed = 0; tickets = 0; owner = λ _. 0; slot = at_rest; settled = [] }) (first_view g ∷ []) j g v
+      first : (j : ℕ) (v : View E G) → get_elem? (first_view g ∷ []) j ≡ some v
+          → (v ≡ spent_view) ⊎ IsSeated number (record { passed = 0; tickets = 0; owner = λ _. 0; slot = at_rest; settled = [] }) (first_view g ∷ []) j g v
       first zero v e = inr (subst (IsSeated number (record { passed = 0; tickets = 0; owner = λ _. 0; slot = at_rest; settled = [] }) (first_view g ∷ []) 0 g) (some-injective (first_view g) v e) record {
         number_is = refl;
         basis_is = refl;
@@ -46,10 +48,21 @@ module _ {B E G : Type 0} (basis : B → G) (history : B → List E) (number : E
       })
       first (suc j) v e = absurd (some-ne-none v (sym e))
 
-  pub split_allowed : (id : ℕ) (v : View E G) (n : ℕ) (js : List (Joined E)) → v.basis ≡ Some g → v.role ≡ First n js → n < 64 → Splits (Rule basis history number g) id v (after_split v) (split_off v)
-  split_allowed id v n js b is room s r at = let q = r.progress in let k = live basis history number g s r id v at b in let w : View E G = after_split v in let o : View E G = split_off v in let vs : List (View E G) = set s.views id w in let views' : List (View E G) = vs ++ o ∷ [] in
-      let role : IsInRole number q s.views id (First n js) = subst (IsInRole number q s.views id) is k.in_role in let near = inside s.views id v at in
-      let long : length views' ≡ length s.views + 1 = omega (arith, length-append vs (o ∷ []), length-set s.views id w) in let long' = length-set s.views id w in let many : n ≡ length s.views = role.1 in
+  -- The first seat gives out the next number.
+  pub split_allowed : (id : ℕ) (v : View E G) (n : ℕ) (js : List (Joined E)) → v.basis ≡ Some g → v.role ≡ First n js → n < 64
+      → Splits (Rule basis history number g) id v (after_split v) (split_off v)
+  split_allowed id v n js b is room s r at =
+      let q = r.progress in
+      let k = live basis history number g s r id v at b in
+      let w : View E G = after_split v in
+      let o : View E G = split_off v in
+      let vs : List (View E G) = set s.views id w in
+      let views' : List (View E G) = vs ++ o ∷ [] in
+      let role : IsInRole number q s.views id (First n js) = subst (IsInRole number q s.views id) is k.in_role in
+      let near = inside s.views id v at in
+      let long : length views' ≡ length s.views + 1 = omega (arith, length-append vs (o ∷ []), length-set s.views id w) in
+      let long' = length-set s.views id w in
+      let many : n ≡ length s.views = role.1 in
       let known : All (λ e. number e < length s.views) q.settled = r.known in
       let kept : (p : Joined E) → IsRemembered number q s.views id p → IsRemembered number q views' id p = λ p m.
       (m.0, at_longer vs (o ∷ []) p.number spent_view (set_else s.views id p.number w (apart number g s.views id p.number v at b m.1) ∙ m.1)) in record {
@@ -87,9 +100,17 @@ module _ {B E G : Type 0} (basis : B → G) (history : B → List E) (number : E
             (at_end vs o x j e);
       }
 
-  pub join_allowed : (id : ℕ) (v : View E G) (n : ℕ) (js : List (Joined E)) (other : ℕ) (l : View E G) → v.basis ≡ Some g → v.role ≡ First n js → l.basis ≡ Some g → l.stage ≡ Idle → Joins (Rule basis history number g) id v other l (after_join v l) spent_view
-  join_allowed id v n js other l b is lb idle s r at apart' there = let q = r.progress in let k = live basis history number g s r id v at b in let w : View E G = after_join v l in let vs : List (View E G) = set s.views id w in let views' : List (View E G) = set vs other spent_view in
-      let at' : get_elem? s.views other ≡ some l = sym (set_else s.views id other w apart') ∙ there in let m = live basis history number g s r other l at' lb in
+  -- The first seat takes an idle one in.
+  pub join_allowed : (id : ℕ) (v : View E G) (n : ℕ) (js : List (Joined E)) (other : ℕ) (l : View E G) → v.basis ≡ Some g → v.role ≡ First n js
+      → l.basis ≡ Some g → l.stage ≡ Idle → Joins (Rule basis history number g) id v other l (after_join v l) spent_view
+  join_allowed id v n js other l b is lb idle s r at apart' there =
+      let q = r.progress in
+      let k = live basis history number g s r id v at b in
+      let w : View E G = after_join v l in
+      let vs : List (View E G) = set s.views id w in
+      let views' : List (View E G) = set vs other spent_view in
+      let at' : get_elem? s.views other ≡ some l = sym (set_else s.views id other w apart') ∙ there in
+      let m = live basis history number g s r other l at' lb in
       let role : IsInRole number q s.views id (First n js) = subst (IsInRole number q s.views id) is k.in_role in
       let long : length views' ≡ length s.views = length-set vs other spent_view ∙ length-set s.views id w in
       let kept : (p : Joined E) → IsRemembered number q s.views id p → IsRemembered number q views' id p = λ p x.

@@ -21,11 +21,21 @@ use Rattle.gn_turn.proofs.Others.{stage_still, in_use_set, in_use_more, rests_wh
 use Rattle.gn_turn.proofs.OneSeat.{Rule, live, few_out, bit, moved, turned, loaded, Homes}
 
 module _ {B E G : Type 0} (basis : B → G) (history : B → List E) (number : E → ℕ) (g : G) where
-  pub load_allowed : (slots id : ℕ) (me : Me (Option B) (View E G)) (t : ℕ) → me.0.basis ≡ Some g → me.0.stage ≡ Waiting t → Allows (Rule basis history number g) slots id me 1 (λ n. n) (LoadsServing number (step slots 1 0 0 none) me)
-  load_allowed slots id me t b is s r _ at _ = let q = r.progress in let v : View E G = me.0 in let k = live basis history number g s r id v at b in let st : IsAtStage number q s.views id v.seen (Waiting t) = subst (IsAtStage number q s.views id v.seen) is k.at_stage in
-      let n : ℕ = get_or s.words 1 0 in let word : n ≡ q.passed % 2 ^ 64 = ap (λ (ws : List ℕ). get_or ws 1 0) r.words in let few = few_out basis history number g s r in let upper = st.1 in
+  -- A waiting seat reads word 1. Where its ticket stands there, the slot is at rest and the seat sees the settled history; else nothing changes.
+  pub load_allowed : (slots id : ℕ) (me : Me (Option B) (View E G)) (t : ℕ) → me.0.basis ≡ Some g → me.0.stage ≡ Waiting t
+      → Allows (Rule basis history number g) slots id me 1 (λ n. n) (LoadsServing number (step slots 1 0 0 none) me)
+  load_allowed slots id me t b is s r _ at _ =
+      let q = r.progress in
+      let v : View E G = me.0 in
+      let k = live basis history number g s r id v at b in
+      let st : IsAtStage number q s.views id v.seen (Waiting t) = subst (IsAtStage number q s.views id v.seen) is k.at_stage in
+      let n : ℕ = get_or s.words 1 0 in
+      let word : n ≡ q.passed % 2 ^ 64 = ap (λ (ws : List ℕ). get_or ws 1 0) r.words in
+      let few = few_out basis history number g s r in
+      let upper = st.1 in
       dite (ℕ_discrete n (ticket v.stage % 2 ^ 64)) (λ hit.
-      let same : q.passed ≡ t = one_turn q.passed t (2 ^ 64) st.0 (omega arith) (sym word ∙ (hit ∙ ap (λ (σ : Stage E). ticket σ % 2 ^ 64) is)) in let serves : q.owner q.passed ≡ id = ap q.owner same ∙ st.2 in
+      let same : q.passed ≡ t = one_turn q.passed t (2 ^ 64) st.0 (omega arith) (sym word ∙ (hit ∙ ap (λ (σ : Stage E). ticket σ % 2 ^ 64) is)) in
+      let serves : q.owner q.passed ≡ id = ap q.owner same ∙ st.2 in
       let quiet : q.slot ≡ at_rest = rests_while_waiting number g q.passed q.tickets (q.owner q.passed) s.views v t q.slot (subst (λ (i : ℕ). get_elem? s.views i ≡ some v) (sym serves) at) is r.in_use in
       let own : ticket v.stage ≡ q.passed = ap ticket is ∙ sym same in
       let w : View E G = moved v q.settled (AtTurn (ticket v.stage)) in (
@@ -43,20 +53,35 @@ module _ {B E G : Type 0} (basis : B → G) (history : B → List E) (number : E
         v,
         keeps,
         tt,
-        loaded basis history number g s 1 s.homes (set s.views id v) (subst (λ (vs : List (View E G)). (Rule basis history number g) record { words = s.words; homes = s.homes; views = vs }) (sym (set_again s.views id v at)) r),
+        loaded basis history number g s 1 s.homes (set s.views id v) (subst (λ (vs : List (View E G)). Rule basis history number g record { words = s.words; homes = s.homes; views = vs }) (sym (set_again s.views id v at)) r),
         (refl, (λ hit. absurd (miss hit)), λ _. refl),
       ))
 
-  home_more : (passed tickets server server' : ℕ) (views : List (View E G)) (settled : List E) (homes : Homes B) (d : Slot E) → (0 < tickets → server' ≡ server) → IsInUse passed tickets server views d → SlotHas basis history number g settled server homes d → SlotHas basis history number g settled server' homes d
+  -- one more ticket leaves the slot as it is
+  home_more : (passed tickets server server' : ℕ) (views : List (View E G)) (settled : List E) (homes : Homes B) (d : Slot E)
+      → (0 < tickets → server' ≡ server) → IsInUse passed tickets server views d → SlotHas basis history number g settled server homes d
+      → SlotHas basis history number g settled server' homes d
   home_more passed tickets server server' views settled homes at_rest same b h = h
   home_more passed tickets server server' views settled homes taken same b h = h
   home_more passed tickets server server' views settled homes (returned l) same b h = (h.0, subst (λ (i : ℕ). AddsOwn number i settled l) (sym (same b.0)) h.1)
 
-  pub draw_allowed : (slots id : ℕ) (me : Me (Option B) (View E G)) → me.0.basis ≡ Some g → me.0.stage ≡ Idle → Allows (Rule basis history number g) slots id me 0 (λ n. (n + 1) % 2 ^ 64) (DrawsTicket (step slots 0 1 0 none) me)
-  draw_allowed slots id me b is s r _ at _ = let q = r.progress in let v : View E G = me.0 in let k = live basis history number g s r id v at b in let p : ℕ = q.passed in let o : ℕ = q.tickets in let t : ℕ = p + o in
-      let owner' : ℕ → ℕ = put q.owner t id in let q' : Progress E = record { passed = p; tickets = o + 1; owner = owner'; slot = q.slot; settled = q.settled } in let σ : Stage E = Waiting t in let w : View E G = moved v v.seen σ in
+  -- An idle seat adds one to word 0, and has the ticket that was there.
+  pub draw_allowed : (slots id : ℕ) (me : Me (Option B) (View E G)) → me.0.basis ≡ Some g → me.0.stage ≡ Idle
+      → Allows (Rule basis history number g) slots id me 0 (λ n. (n + 1) % 2 ^ 64) (DrawsTicket (step slots 0 1 0 none) me)
+  draw_allowed slots id me b is s r _ at _ =
+      let q = r.progress in
+      let v : View E G = me.0 in
+      let k = live basis history number g s r id v at b in
+      let p : ℕ = q.passed in
+      let o : ℕ = q.tickets in
+      let t : ℕ = p + o in
+      let owner' : ℕ → ℕ = put q.owner t id in
+      let q' : Progress E = record { passed = p; tickets = o + 1; owner = owner'; slot = q.slot; settled = q.settled } in
+      let σ : Stage E = Waiting t in
+      let w : View E G = moved v v.seen σ in
       let server : 0 < o → owner' p ≡ q.owner p = λ h. put_else q.owner t id p (λ e. omega arith) in
-      let n : ℕ = get_or s.words 0 0 in let there : n ≡ t % 2 ^ 64 = ap (λ (ws : List ℕ). get_or ws 0 0) r.words in
+      let n : ℕ = get_or s.words 0 0 in
+      let there : n ≡ t % 2 ^ 64 = ap (λ (ws : List ℕ). get_or ws 0 0) r.words in
       let words : set s.words 0 ((n + 1) % 2 ^ 64) ≡ (p + (o + 1)) % 2 ^ 64 ∷ p % 2 ^ 64 ∷ [] = ap (λ (ws : List ℕ). set ws 0 ((n + 1) % 2 ^ 64)) r.words
       ∙ (λ i. (let e : (n + 1) % 2 ^ 64 ≡ (p + (o + 1)) % 2 ^ 64 = omega arith in e i) ∷ p % 2 ^ 64 ∷ []) in
       let counted : sum_by bit (set s.views id w) ≡ o + 1 = (let e = sum_set bit s.views id v w at in let a : bit v ≡ 0 = ap (λ (σ : Stage E). cond (has_ticket σ) 1 0) is in let c = r.counted in omega arith) in
@@ -73,23 +98,43 @@ module _ {B E G : Type 0} (basis : B → G) (history : B → List E) (number : E
         (refl, there, refl),
       )
     where
+      -- the other seats keep their tickets
       drawn : (q : Progress E) (views views' : List (View E G)) (id j : ℕ) (seen : List E) (σ : Stage E) → IsAtStage number q views j seen σ
           → IsAtStage number (record q { tickets = q.tickets + 1; owner = put q.owner (q.passed + q.tickets) id }) views' j seen σ
       drawn q views views' id j seen Idle k = tt
-      drawn q views views' id j seen (Waiting t) k = let a = k.1 in (k.0, omega arith, put_else q.owner (q.passed + q.tickets) id t (λ e. omega arith) ∙ k.2)
-      drawn q views views' id j seen (AtTurn t) k = let a = k.0 in let b = k.1 in (k.0, omega arith, put_else q.owner (q.passed + q.tickets) id t (λ e. omega arith) ∙ k.2, k.3, k.4)
-      drawn q views views' id j seen (Holding t) k = let a = k.0 in let b = k.1 in (k.0, omega arith, put_else q.owner (q.passed + q.tickets) id t (λ e. omega arith) ∙ k.2, k.3, k.4)
-      drawn q views views' id j seen (Returned t h) k = let a = k.0 in let b = k.1 in (k.0, omega arith, put_else q.owner (q.passed + q.tickets) id t (λ e. omega arith) ∙ k.2, k.3, k.4)
+      drawn q views views' id j seen (Waiting t) k =
+          let a = k.1 in (k.0, omega arith, put_else q.owner (q.passed + q.tickets) id t (λ e. omega arith) ∙ k.2)
+      drawn q views views' id j seen (AtTurn t) k =
+          let a = k.0 in
+          let b = k.1 in (k.0, omega arith, put_else q.owner (q.passed + q.tickets) id t (λ e. omega arith) ∙ k.2, k.3, k.4)
+      drawn q views views' id j seen (Holding t) k =
+          let a = k.0 in
+          let b = k.1 in (k.0, omega arith, put_else q.owner (q.passed + q.tickets) id t (λ e. omega arith) ∙ k.2, k.3, k.4)
+      drawn q views views' id j seen (Returned t h) k =
+          let a = k.0 in
+          let b = k.1 in (k.0, omega arith, put_else q.owner (q.passed + q.tickets) id t (λ e. omega arith) ∙ k.2, k.3, k.4)
 
-  pub pass_on_allowed : (slots id : ℕ) (me : Me (Option B) (View E G)) (t : ℕ) (h : List E) → me.0.basis ≡ Some g → me.0.stage ≡ Returned t h → Allows (Rule basis history number g) slots id me 1 (λ n. (n + 1) % 2 ^ 64) (PassesOn (step slots 1 1 0 none) me)
-  pass_on_allowed slots id me t h b is s r _ at _ = let q = r.progress in let v : View E G = me.0 in let k = live basis history number g s r id v at b in let st : IsAtStage number q s.views id v.seen (Returned t h) = subst (IsAtStage number q s.views id v.seen) is k.at_stage in
+  -- A seat that gave the value back adds one to word 1, and what it gave back is the settled history.
+  pub pass_on_allowed : (slots id : ℕ) (me : Me (Option B) (View E G)) (t : ℕ) (h : List E) → me.0.basis ≡ Some g → me.0.stage ≡ Returned t h
+      → Allows (Rule basis history number g) slots id me 1 (λ n. (n + 1) % 2 ^ 64) (PassesOn (step slots 1 1 0 none) me)
+  pass_on_allowed slots id me t h b is s r _ at _ =
+      let q = r.progress in
+      let v : View E G = me.0 in
+      let k = live basis history number g s r id v at b in
+      let st : IsAtStage number q s.views id v.seen (Returned t h) = subst (IsAtStage number q s.views id v.seen) is k.at_stage in
       let kept : IsAtHome basis history number g s.homes h × AddsOwn number (q.owner q.passed) q.settled h = subst (SlotHas basis history number g q.settled (q.owner q.passed) s.homes) st.4 r.home in
-      let serves : q.owner q.passed ≡ id = ap q.owner (sym st.0) ∙ st.2 in let some_out = st.1 in let p : ℕ = q.passed in let o : ℕ = q.tickets in
-      let grown : AddsOwn number id q.settled h = subst (λ (i : ℕ). AddsOwn number i q.settled h) serves kept.1 in let within = inside s.views id v at in
+      let serves : q.owner q.passed ≡ id = ap q.owner (sym st.0) ∙ st.2 in
+      let some_out = st.1 in
+      let p : ℕ = q.passed in
+      let o : ℕ = q.tickets in
+      let grown : AddsOwn number id q.settled h = subst (λ (i : ℕ). AddsOwn number i q.settled h) serves kept.1 in
+      let within = inside s.views id v at in
       let back_is : returned_history v.stage ≡ h = ap returned_history is in
-      let q' : Progress E = record { passed = p + 1; tickets = o - 1; owner = q.owner; slot = at_rest; settled = returned_history v.stage } in let w : View E G = moved v (returned_history v.stage) Idle in
+      let q' : Progress E = record { passed = p + 1; tickets = o - 1; owner = q.owner; slot = at_rest; settled = returned_history v.stage } in
+      let w : View E G = moved v (returned_history v.stage) Idle in
       let grown' : AddsOwn number id q.settled (returned_history v.stage) = subst (λ (l : List E). AddsOwn number id q.settled l) (sym back_is) grown in
-      let n : ℕ = get_or s.words 1 0 in let there : n ≡ p % 2 ^ 64 = ap (λ (ws : List ℕ). get_or ws 1 0) r.words in
+      let n : ℕ = get_or s.words 1 0 in
+      let there : n ≡ p % 2 ^ 64 = ap (λ (ws : List ℕ). get_or ws 1 0) r.words in
       let words : set s.words 1 ((n + 1) % 2 ^ 64) ≡ ((p + 1) + (o - 1)) % 2 ^ 64 ∷ (p + 1) % 2 ^ 64 ∷ [] = ap (λ (ws : List ℕ). set ws 1 ((n + 1) % 2 ^ 64)) r.words
       ∙ (λ i. (let e : p + o ≡ (p + 1) + (o - 1) = omega arith in e i) % 2 ^ 64 ∷ (let e : (n + 1) % 2 ^ 64 ≡ (p + 1) % 2 ^ 64 = omega arith in e i) ∷ []) in
       let counted : sum_by bit (set s.views id w) ≡ o - 1 = (let e = sum_set bit s.views id v w at in let a : bit v ≡ 1 = ap (λ (σ : Stage E). cond (has_ticket σ) 1 0) is in let c = r.counted in omega arith) in (
