@@ -58,33 +58,42 @@ module _ {B E G : Type 0} (basis : B → G) (history : B → List E) (number : E
       }) (r.seats j x t.1))
       (at_set s.views id j w x e)
 
-  -- a step of the seat id, which keeps its number, its basis and its role
+  -- What has to hold after a step of the seat id, which goes from the view v to another history seen and another stage, while the progress becomes q'
+  pub record KeepsRule (s : State (Option B) (View E G)) (r : Rule s) (id : ℕ) (v : View E G) (q' : Progress E) (seen : List E) (σ : Stage E) (words' : List ℕ) (homes' : Homes B) : Type 0 where
+    pub words : words' ≡ (q'.passed + q'.tickets) % 2 ^ 64 ∷ q'.passed % 2 ^ 64 ∷ []
+    pub counted : sum_by bit (set s.views id (moved v seen σ)) ≡ q'.tickets
+    pub known : All (λ e. number e < length s.views) q'.settled
+    pub home : SlotHas basis history number g q'.settled (q'.owner q'.passed) homes' q'.slot
+    pub in_use : IsInUse q'.passed q'.tickets (q'.owner q'.passed) (set s.views id (moved v seen σ)) q'.slot
+    -- of the other seats
+    pub still : Still number g id r.progress.settled q'.settled
+    pub others : (j : ℕ) (x : View E G) → j ≢ id → get_elem? s.views j ≡ some x
+        → IsAtStage number r.progress s.views j x.seen x.stage → IsAtStage number q' (set s.views id (moved v seen σ)) j x.seen x.stage
+    -- of the seat itself
+    pub saw : SeenPrefix number id seen q'.settled
+    pub at_stage : IsAtStage number q' (set s.views id (moved v seen σ)) id seen σ
+
+  -- the rule holds after such a step
   pub turned : (s : State (Option B) (View E G)) (r : Rule s) (id : ℕ) (v : View E G) (q' : Progress E) (seen : List E) (σ : Stage E) (words' : List ℕ) (homes' : Homes B)
-      → get_elem? s.views id ≡ some v → v.basis ≡ Some g
-      → words' ≡ (q'.passed + q'.tickets) % 2 ^ 64 ∷ q'.passed % 2 ^ 64 ∷ []
-      → sum_by bit (set s.views id (moved v seen σ)) ≡ q'.tickets
-      → All (λ e. number e < length s.views) q'.settled
-      → SlotHas basis history number g q'.settled (q'.owner q'.passed) homes' q'.slot
-      → IsInUse q'.passed q'.tickets (q'.owner q'.passed) (set s.views id (moved v seen σ)) q'.slot
-      → Still number g id r.progress.settled q'.settled
-      → ((j : ℕ) (x : View E G) → j ≢ id → get_elem? s.views j ≡ some x → IsAtStage number r.progress s.views j x.seen x.stage → IsAtStage number q' (set s.views id (moved v seen σ)) j x.seen x.stage)
-      → SeenPrefix number id seen q'.settled → IsAtStage number q' (set s.views id (moved v seen σ)) id seen σ
+      → get_elem? s.views id ≡ some v → v.basis ≡ Some g → KeepsRule s r id v q' seen σ words' homes'
       → Rule record { words = words'; homes = homes'; views = set s.views id (moved v seen σ) }
-  turned s r id v q' seen σ words' homes' at b words counted known home in_use still others saw at_stage =
-      let w : View E G = moved v seen σ in let k = live s r id v at b in let long = length-set s.views id w in record {
+  turned s r id v q' seen σ words' homes' at b after =
+      let w : View E G = moved v seen σ in
+      let k = live s r id v at b in
+      let long = length-set s.views id w in record {
         progress = q';
-        words = words;
-        counted = counted;
+        words = after.words;
+        counted = after.counted;
         few = subst (λ (n : ℕ). n ≤ 64) (sym long) r.few;
-        known = subst (λ (n : ℕ). All (λ e. number e < n) q'.settled) (sym long) known;
-        home = home;
-        in_use = in_use;
-        seats = seats_after s r id v w q' at b still others record {
+        known = subst (λ (n : ℕ). All (λ e. number e < n) q'.settled) (sym long) after.known;
+        home = after.home;
+        in_use = after.in_use;
+        seats = seats_after s r id v w q' at b after.still after.others record {
           number_is = k.number_is;
           basis_is = k.basis_is;
-          saw = saw;
-          at_stage = at_stage;
-          in_role = in_role_still number g r.progress q' s.views id v w at b still id v.role k.in_role;
+          saw = after.saw;
+          at_stage = after.at_stage;
+          in_role = in_role_still number g r.progress q' s.views id v w at b after.still id v.role k.in_role;
         };
       }
 

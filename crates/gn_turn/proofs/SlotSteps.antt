@@ -30,15 +30,24 @@ module _ {B E G : Type 0} (basis : B → G) (history : B → List E) (number : E
       let serves : q.owner q.passed ≡ id = ap q.owner (sym st.0) ∙ st.2 in
       let q' : Progress E = record q { slot = taken } in
       let σ : Stage E = Holding (ticket v.stage) in
-      let w : View E G = moved v v.seen σ in (
+      let w : View E G = moved v v.seen σ in
+      let homes' : Homes B = set s.homes 0 none in
+      let used : get_elem? (set s.views id w) (q.owner q.passed) ≡ some w =
+      subst (λ (i : ℕ). get_elem? (set s.views id w) i ≡ some w) (sym serves) (set_here s.views id w (inside s.views id v at)) in (
         w,
         takes 0 (Some x),
         ap (λ (hs : Homes B). get_elem? hs 0) kept.1,
-        loaded basis history number g s 1 (set s.homes 0 none) (set s.views id w) (turned basis history number g s r id v q' v.seen σ s.words (set s.homes 0 none) at b r.words
-            (sum_same bit s.views id v w at (ap (λ (σ : Stage E). cond (has_ticket σ) 1 0) is) ∙ r.counted) r.known (ap (λ (hs : Homes B). set hs 0 none) kept.1)
-            (st.1, (w, subst (λ (i : ℕ). get_elem? (set s.views id w) i ≡ some w) (sym serves) (set_here s.views id w (inside s.views id v at)), ap (λ (n : ℕ). let z : Stage E = Holding n in z) own)) (λ j seen _ y. y)
-            (λ j y other _ z. stage_still number g q q' s.views (set s.views id w) id j other serves refl (λ a c d _. (c, d)) y.seen y.stage z)
-            k.saw (own, st.1, ap q.owner own ∙ serves, st.3, refl)),
+        loaded basis history number g s 1 homes' (set s.views id w) (turned basis history number g s r id v q' v.seen σ s.words homes' at b record {
+          words = r.words;
+          counted = sum_same bit s.views id v w at (ap (λ (σ : Stage E). cond (has_ticket σ) 1 0) is) ∙ r.counted;
+          known = r.known;
+          home = ap (λ (hs : Homes B). set hs 0 none) kept.1;
+          in_use = (st.1, (w, used, ap (λ (n : ℕ). let z : Stage E = Holding n in z) own));
+          still = λ j seen _ y. y;
+          others = λ j y other _ z. stage_still number g q q' s.views (set s.views id w) id j other serves refl (λ a c d _. (c, d)) y.seen y.stage z;
+          saw = k.saw;
+          at_stage = (own, st.1, ap q.owner own ∙ serves, st.3, refl);
+        }),
         (refl, (x, ap (λ (c : List (ℕ × Option B)). (0, Some x) ∷ c) bare, k.basis_is ∙ ap (λ (y : G). let z : Option G = Some y in z) (sym kept.2), kept.3 ∙ sym st.3)),
       )
 
@@ -66,14 +75,22 @@ module _ {B E G : Type 0} (basis : B → G) (history : B → List E) (number : E
       let σ : Stage E = Returned (ticket v.stage) h in
       let w : View E G = moved v v.seen σ in
       let homes' : Homes B = put_back s.homes me.1 in
-      let now : homes' ≡ some (Some x) ∷ [] = (λ i. put_back (gone i) (has i)) in (
+      let now : homes' ≡ some (Some x) ∷ [] = (λ i. put_back (gone i) (has i)) in
+      let used : get_elem? (set s.views id w) (q.owner q.passed) ≡ some w =
+      subst (λ (i : ℕ). get_elem? (set s.views id w) i ≡ some w) (sym serves) (set_here s.views id w (inside s.views id v at)) in (
         w,
         gives,
         tt,
-        loaded basis history number g s 1 homes' (set s.views id w) (turned basis history number g s r id v q' v.seen σ s.words homes' at b r.words
-            (sum_same bit s.views id v w at (ap (λ (σ : Stage E). cond (has_ticket σ) 1 0) is) ∙ r.counted) r.known ((x, now, based, refl), grown)
-            (st.1, (w, subst (λ (i : ℕ). get_elem? (set s.views id w) i ≡ some w) (sym serves) (set_here s.views id w (inside s.views id v at)), ap (λ (n : ℕ). let z : Stage E = Returned n h in z) own)) (λ j seen _ y. y)
-            (λ j y other _ z. stage_still number g q q' s.views (set s.views id w) id j other serves refl (λ a c d _. (c, d)) y.seen y.stage z)
-            k.saw (own, st.1, ap q.owner own ∙ serves, st.3, refl)),
+        loaded basis history number g s 1 homes' (set s.views id w) (turned basis history number g s r id v q' v.seen σ s.words homes' at b record {
+          words = r.words;
+          counted = sum_same bit s.views id v w at (ap (λ (σ : Stage E). cond (has_ticket σ) 1 0) is) ∙ r.counted;
+          known = r.known;
+          home = ((x, now, based, refl), grown);
+          in_use = (st.1, (w, used, ap (λ (n : ℕ). let z : Stage E = Returned n h in z) own));
+          still = λ j seen _ y. y;
+          others = λ j y other _ z. stage_still number g q q' s.views (set s.views id w) id j other serves refl (λ a c d _. (c, d)) y.seen y.stage z;
+          saw = k.saw;
+          at_stage = (own, st.1, ap q.owner own ∙ serves, st.3, refl);
+        }),
         (ap rest has, λ y has'. ap (λ (c : List (ℕ × Option B)). record v { stage = Returned (ticket v.stage) (history (held_or x c)) }) (sym has ∙ has')),
       )

@@ -42,11 +42,17 @@ module _ {B E G : Type 0} (basis : B → G) (history : B → List E) (number : E
         w,
         keeps,
         tt,
-        loaded basis history number g s 1 s.homes (set s.views id w) (turned basis history number g s r id v q q.settled (AtTurn (ticket v.stage)) s.words s.homes at b r.words
-            (sum_same bit s.views id v w at (ap (λ (σ : Stage E). cond (has_ticket σ) 1 0) is) ∙ r.counted) r.known r.home
-            (subst (IsInUse q.passed q.tickets (q.owner q.passed) (set s.views id w)) (sym quiet) tt) (λ j seen _ x. x)
-            (λ j x other _ y. stage_still number g q q s.views (set s.views id w) id j other serves refl (λ a c d _. (c, d)) x.seen x.stage y)
-            (saw_whole number id q.settled) (own, omega arith, ap q.owner own ∙ serves, refl, quiet)),
+        loaded basis history number g s 1 s.homes (set s.views id w) (turned basis history number g s r id v q q.settled (AtTurn (ticket v.stage)) s.words s.homes at b record {
+          words = r.words;
+          counted = sum_same bit s.views id v w at (ap (λ (σ : Stage E). cond (has_ticket σ) 1 0) is) ∙ r.counted;
+          known = r.known;
+          home = r.home;
+          in_use = subst (IsInUse q.passed q.tickets (q.owner q.passed) (set s.views id w)) (sym quiet) tt;
+          still = λ j seen _ x. x;
+          others = λ j x other _ y. stage_still number g q q s.views (set s.views id w) id j other serves refl (λ a c d _. (c, d)) x.seen x.stage y;
+          saw = saw_whole number id q.settled;
+          at_stage = (own, omega arith, ap q.owner own ∙ serves, refl, quiet);
+        }),
         (refl, (λ _. (refl, subst (λ (j : ℕ). SeenPrefix number j v.seen q.settled) (sym k.number_is) k.saw)), λ miss. absurd (miss hit)),
       ))
       (λ miss. (
@@ -89,12 +95,17 @@ module _ {B E G : Type 0} (basis : B → G) (history : B → List E) (number : E
         w,
         keeps,
         tt,
-        turned basis history number g s r id v q' v.seen σ (set s.words 0 ((n + 1) % 2 ^ 64)) s.homes at b words counted r.known
-            (home_more p o (q.owner p) (owner' p) s.views q.settled s.homes q.slot server r.in_use r.home)
-            (in_use_more number g p o (q.owner p) (owner' p) (set s.views id w) q.slot server in_use)
-            (λ j seen _ x. x)
-            (λ j y other _ z. drawn q s.views (set s.views id w) id j y.seen y.stage z)
-            k.saw (omega arith, omega arith, put_here q.owner t id),
+        turned basis history number g s r id v q' v.seen σ (set s.words 0 ((n + 1) % 2 ^ 64)) s.homes at b record {
+          words = words;
+          counted = counted;
+          known = r.known;
+          home = home_more p o (q.owner p) (owner' p) s.views q.settled s.homes q.slot server r.in_use r.home;
+          in_use = in_use_more number g p o (q.owner p) (owner' p) (set s.views id w) q.slot server in_use;
+          still = λ j seen _ x. x;
+          others = λ j y other _ z. drawn q s.views (set s.views id w) id j y.seen y.stage z;
+          saw = k.saw;
+          at_stage = (omega arith, omega arith, put_here q.owner t id);
+        },
         (refl, there, refl),
       )
     where
@@ -141,11 +152,17 @@ module _ {B E G : Type 0} (basis : B → G) (history : B → List E) (number : E
         w,
         keeps,
         tt,
-        turned basis history number g s r id v q' (returned_history v.stage) Idle (set s.words 1 ((n + 1) % 2 ^ 64)) s.homes at b words counted
-            (subst (λ (l : List E). All (λ e. number e < length s.views) l) grown'.is (All-append (λ e. number e < length s.views) q.settled grown'.added r.known (λ i d l. let e = grown'.own i d l in omega arith)))
-            (subst (IsAtHome basis history number g s.homes) (sym back_is) kept.0) tt
-            (λ j seen other x. saw_more number j id seen q.settled (returned_history v.stage) other grown' x)
-            (λ j y other _ z. stage_still number g q q' s.views (set s.views id w) id j other serves refl (λ a c d miss. (omega arith, omega arith)) y.seen y.stage z)
-            (saw_whole number id (returned_history v.stage)) tt,
+        turned basis history number g s r id v q' (returned_history v.stage) Idle (set s.words 1 ((n + 1) % 2 ^ 64)) s.homes at b record {
+          words = words;
+          counted = counted;
+          known = subst (λ (l : List E). All (λ e. number e < length s.views) l) grown'.is
+              (All-append (λ e. number e < length s.views) q.settled grown'.added r.known (λ i d l. let e = grown'.own i d l in omega arith));
+          home = subst (IsAtHome basis history number g s.homes) (sym back_is) kept.0;
+          in_use = tt;
+          still = λ j seen other x. saw_more number j id seen q.settled (returned_history v.stage) other grown' x;
+          others = λ j y other _ z. stage_still number g q q' s.views (set s.views id w) id j other serves refl (λ a c d miss. (omega arith, omega arith)) y.seen y.stage z;
+          saw = saw_whole number id (returned_history v.stage);
+          at_stage = tt;
+        },
         (refl, refl),
       )
