@@ -1,0 +1,12 @@
+pub mod Lists
+pub mod Entries
+pub mod NewTokens
+pub mod Owners
+pub mod Others
+pub mod OneSeat
+pub mod TicketSteps
+pub mod SlotSteps
+pub mod SeatSteps
+pub mod LastSeat
+pub mod Finish
+pub mod Numbers
