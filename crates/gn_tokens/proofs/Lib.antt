@@ -1,4 +1,2 @@
-pub mod Gaps
-pub mod Longest
-pub mod Next
-pub mod Stream
+pub mod Marks
+pub mod Scans

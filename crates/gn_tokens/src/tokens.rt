@@ -1,10 +1,10 @@
 //! The tokens of a file, one after the other.
 
-ghost use Rattle.std.specs.Prelude.{◌≡◌, ◌≤◌, length, IfOk, IfSome};
+ghost use Rattle.std.specs.Prelude.{◌≡◌, ◌≤◌, length};
 ghost use Rattle.gn_tokens.specs.Next.{Reader, IsNext, next_token, behind};
 ghost use Rattle.gn_tokens.specs.Stream.{stream_with, stream_of};
 
-use crate::scan::{token_at_front, white_len};
+use crate::front::token_from;
 use crate::token::{Token, TokenError};
 use std::marker::Model;
 
@@ -35,7 +35,7 @@ impl<'a> Tokens<'a> {
 
     /// The next token, which is the longest that begins there; none where only white space and comments are left, then and ever after.
     /// White space and comments are passed over. Where no token begins, the error is given, and the same error again at each later call.
-    #[tactic(auto, using(crate::proofs::Next::next_token_is_next, crate::proofs::Stream::stream_next))]
+    #[tactic(auto)]
     pub fn next(&mut self) -> Result<Option<Token>, TokenError>
         ensures next { IsNext self.old result }
         ensures value { result ≡ next_token self.old.bytes self.old.at }
@@ -43,30 +43,10 @@ impl<'a> Tokens<'a> {
         ensures bytes { self.new.bytes ≡ self.old.bytes }
         ensures at { self.new.at ≡ behind self.old.at result }
     {
-        let found = next_from(self.bytes, self.at);
+        let found = token_from(self.bytes, self.at);
         if let Ok(Some(token)) = found {
             self.at = token.end;
         }
         found
-    }
-}
-
-fn next_from(bytes: &[u8], at: usize) -> Result<Option<Token>, TokenError>
-    requires { at ≤ length bytes.now }
-    ensures value { result ≡ next_token bytes.now at }
-    ensures within { IfOk result (λ o. IfSome o (λ t. t.end ≤ length bytes.now)) }
-{
-    let start = at + white_len(&bytes[at..]);
-    let rest = &bytes[start..];
-    if rest.is_empty() {
-        return Ok(None);
-    }
-    match token_at_front(rest) {
-        Some((kind, len)) => Ok(Some(Token {
-            kind,
-            start,
-            end: start + len,
-        })),
-        None => Err(TokenError::BadByte(start)),
     }
 }
