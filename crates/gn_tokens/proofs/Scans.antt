@@ -2,7 +2,7 @@
 use Rattle.std.proofs.Common.{◌≡◌, ℕ, zero, suc, ◌+◌, ◌*◌, ◌-◌, ◌<◌, ◌≤◌, ◌/◌, ◌^◌, Bool, true, false, not, ◌&&◌, if◌then◌else◌, ◌==◌, List, [], ◌∷◌, length, drop, get_or, Option, Some, None, refl, sym, ◌∙◌, ap, arith, add-one, drop-cons}
 use Rattle.gn_tokens.specs.Bytes.{is_escapable}
 use Rattle.gn_tokens.specs.Number.{decimal_from, decimal}
-use Rattle.gn_tokens.specs.Text.{first_bad, further, expands}
+use Rattle.gn_tokens.specs.Text.{first_bad, further, expands, is_stop}
 
 pub drop_here : (s : List ℕ) (i : ℕ) → i < length s → drop i s ≡ get_or s i 0 ∷ drop (i + 1) s
 drop_here s i h = rw (add-one, drop-cons s i 0) refl
@@ -34,11 +34,13 @@ bad_escaped s i e e2 test lt t held is h =
     let here : first_bad e (drop i s) ≡ further 1 (first_bad false (drop (i + 1) s)) = rw (drop_here s i lt) (rw both refl) in
     ap (λ x. further (i + 1) (first_bad x (drop (i + 1) s))) is ∙ sym (further_one i (first_bad false (drop (i + 1) s))) ∙ sym (ap (further i) here) ∙ h
 
-pub bad_plain : (s : List ℕ) (i : ℕ) (e e2 test bad : Bool) (rest : List ℕ) → i < length s → test ≡ (e && is_escapable (get_or s i 0)) → test ≡ false →
+pub bad_plain : (s : List ℕ) (i : ℕ) (e e2 test stop bad : Bool) (rest : List ℕ) → i < length s → test ≡ (e && is_escapable (get_or s i 0)) → test ≡ false →
+    stop ≡ is_stop (get_or s i 0) → stop ≡ false →
     rest ≡ drop (i + 1) s → bad ≡ (get_or s i 0 == 36 && not (expands rest)) → bad ≡ false → e2 ≡ (get_or s i 0 == 92) →
     further i (first_bad e (drop i s)) ≡ first_bad false s → further (i + 1) (first_bad e2 (drop (i + 1) s)) ≡ first_bad false s
-bad_plain s i e e2 test bad rest lt t failed r b fine is h =
+bad_plain s i e e2 test stop bad rest lt t failed st open_still r b fine is h =
     let none : (e && is_escapable (get_or s i 0)) ≡ false = sym t ∙ failed in
+    let inside : is_stop (get_or s i 0) ≡ false = sym st ∙ open_still in
     let good : (get_or s i 0 == 36 && not (expands (drop (i + 1) s))) ≡ false = ap (λ x. get_or s i 0 == 36 && not (expands x)) (sym r) ∙ sym b ∙ fine in
-    let here : first_bad e (drop i s) ≡ further 1 (first_bad (get_or s i 0 == 92) (drop (i + 1) s)) = rw (drop_here s i lt) (rw none (rw good refl)) in
+    let here : first_bad e (drop i s) ≡ further 1 (first_bad (get_or s i 0 == 92) (drop (i + 1) s)) = rw (drop_here s i lt) (rw none (rw inside (rw good refl))) in
     ap (λ x. further (i + 1) (first_bad x (drop (i + 1) s))) is ∙ sym (further_one i (first_bad (get_or s i 0 == 92) (drop (i + 1) s))) ∙ sym (ap (further i) here) ∙ h

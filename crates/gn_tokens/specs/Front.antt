@@ -41,7 +41,7 @@ front_closed n (Some at) = WrongDollar (at + 1)
 
 -- the string whose opening quote is followed by these bytes, of which the first n are its text
 abbrev pub front_string : ℕ → List ℕ → Front
-front_string n bs = if begins_with 34 (drop n bs) then front_closed n (first_bad false (take n bs)) else NotClosed
+front_string n bs = if begins_with 34 (drop n bs) then front_closed n (first_bad false bs) else NotClosed
 
 -- a mark of one byte, or with `=` behind it the other one
 abbrev pub or_equal : TokenKind → TokenKind → List ℕ → Front

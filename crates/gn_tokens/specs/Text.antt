@@ -119,23 +119,26 @@ is_braced bs = is_name bs && is_braced_end (past_word bs)
 abbrev pub expands : List ℕ → Bool
 expands bs = if begins_with 123 bs then is_braced (drop 1 bs) else (is_name bs || is_hex bs)
 
+-- the `"` that closes a string, or the newline before which it had to be closed
+abbrev pub is_stop : ℕ → Bool
+is_stop b = b == 34 || b == 10
+
 -- how many bytes stand in front of the first `"` that is not escaped, the first newline or the end; the flag says that a backslash stands before that begins an escape
 abbrev pub text_len : Bool → List ℕ → ℕ
 text_len is_escape [] = 0
-text_len is_escape (b ∷ bs) =
-    if is_escape && is_escapable b then suc (text_len false bs) else (if b == 34 || b == 10 then 0 else suc (text_len (b == 92) bs))
+text_len is_escape (b ∷ bs) = if is_escape && is_escapable b then suc (text_len false bs) else (if is_stop b then 0 else suc (text_len (b == 92) bs))
 
 -- the place, counted from n bytes before
 abbrev pub further : ℕ → Option ℕ → Option ℕ
 further n None = None
 further n (Some i) = Some (n + i)
 
--- where the first `$` stands that is neither escaped nor of an expansion; the flag is as above
+-- where the first `$` of a string stands that is neither escaped nor of an expansion; the flag is as above
 abbrev pub first_bad : Bool → List ℕ → Option ℕ
 first_bad is_escape [] = None
 first_bad is_escape (b ∷ bs) =
     if is_escape && is_escapable b then further 1 (first_bad false bs)
-    else (if b == 36 && not (expands bs) then Some 0 else further 1 (first_bad (b == 92) bs))
+    else (if is_stop b then None else (if b == 36 && not (expands bs) then Some 0 else further 1 (first_bad (b == 92) bs)))
 
 abbrev pub first_or_zero : List ℕ → ℕ
 first_or_zero [] = 0
@@ -168,13 +171,13 @@ front_item b bs =
     if b == 92 && begins is_escapable bs then Escape (first_or_zero bs)
     else (if b == 36 && expands bs then expansion_item bs else Plain b)
 
--- the items of the bytes behind the first ones, of which so many are skipped
+-- the items behind so many bytes, up to the `"` or newline that ends them
 abbrev pub items_from : ℕ → List ℕ → List Item
 items_from skip [] = []
-items_from zero (b ∷ bs) = front_item b bs ∷ items_from (length (item_bytes (front_item b bs)) - 1) bs
+items_from zero (b ∷ bs) = if is_stop b then [] else front_item b bs ∷ items_from (length (item_bytes (front_item b bs)) - 1) bs
 items_from (suc skip) (b ∷ bs) = items_from skip bs
 
--- the items of a text, which is the bytes between the quotes of a string
+-- the items of a text, which is the bytes behind the opening quote of a string
 abbrev pub text_items : List ℕ → List Item
 text_items text = items_from 0 text
 

@@ -75,7 +75,7 @@ fn string_token(bytes: &[u8], start: usize) -> Result<Option<Token>, TokenError>
     let [b'"', ..] = &bytes[len..] else {
         return Err(TokenError::OpenString(start));
     };
-    match bad_dollar_in(&bytes[..len]) {
+    match bad_dollar_in(bytes) {
         Some(at) => Err(TokenError::BadDollar(start + 1 + at)),
         None => Ok(Some(Token {
             kind: TokenKind::Str,

@@ -2,7 +2,7 @@
 
 ghost use Rattle.std.specs.Prelude.{◌≡◌, ◌+◌, ◌<◌, ◌≤◌, length, drop, false, not, ◌==◌, ◌&&◌, IfSome};
 ghost use Rattle.gn_tokens.specs.Bytes.{is_escapable};
-ghost use Rattle.gn_tokens.specs.Text.{is_hex, is_field, index_len, closes, is_braced_end, is_braced, expands, text_len, first_bad};
+ghost use Rattle.gn_tokens.specs.Text.{is_hex, is_field, index_len, closes, is_braced_end, is_braced, expands, is_stop, text_len, first_bad};
 
 use crate::number::integer_at_front;
 use crate::word::{after_word, is_name_next, is_next, is_word_next, word_len};
@@ -107,6 +107,13 @@ fn is_bad(b: u8, rest: &[u8]) -> bool
     b == b'$' && !is_expansion(rest)
 }
 
+// The quote that closes a string, or a newline.
+fn ends_text(b: u8) -> bool
+    ensures { result ≡ is_stop b }
+{
+    b == b'"' || b == b'\n'
+}
+
 // How many bytes stand in front of the quote that closes a string, of the first newline or of the end, in the bytes behind the opening quote.
 pub(crate) fn text_length(bytes: &[u8]) -> usize
     ensures value { result ≡ text_len false bytes.now }
@@ -116,7 +123,7 @@ pub(crate) fn text_length(bytes: &[u8]) -> usize
     for (i, b) in bytes.iter().enumerate() {
         if is_escaped(is_escape, *b) {
             is_escape = false;
-        } else if matches!(*b, b'"' | b'\n') {
+        } else if ends_text(*b) {
             return i;
         } else {
             is_escape = *b == b'\\';
@@ -125,16 +132,18 @@ pub(crate) fn text_length(bytes: &[u8]) -> usize
     bytes.len()
 }
 
-// Where the first `$` stands that is neither escaped nor of an expansion.
-pub(crate) fn bad_dollar_in(text: &[u8]) -> Option<usize>
-    ensures value { result ≡ first_bad false text.now }
-    ensures within { IfSome result (λ n. n < length text.now) }
+// Where the first `$` stands in a string that is neither escaped nor of an expansion, in the bytes behind the opening quote.
+pub(crate) fn bad_dollar_in(bytes: &[u8]) -> Option<usize>
+    ensures value { result ≡ first_bad false bytes.now }
+    ensures within { IfSome result (λ n. n < length bytes.now) }
 {
     let mut is_escape = false;
-    for (i, b) in text.iter().enumerate() {
+    for (i, b) in bytes.iter().enumerate() {
         if is_escaped(is_escape, *b) {
             is_escape = false;
-        } else if is_bad(*b, from(text, i + 1)) {
+        } else if ends_text(*b) {
+            return None;
+        } else if is_bad(*b, from(bytes, i + 1)) {
             return Some(i);
         } else {
             is_escape = *b == b'\\';

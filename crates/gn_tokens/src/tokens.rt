@@ -35,7 +35,7 @@ impl<'a> Tokens<'a> {
 
     /// The next token, which is the longest that begins there; none where only white space and comments are left, then and ever after.
     /// White space and comments are passed over. Where no token begins, the error is given, and the same error again at each later call.
-    #[tactic(auto)]
+    #[tactic(auto, using(crate::proofs::Next::next_token_is_next, crate::proofs::Stream::stream_next))]
     pub fn next(&mut self) -> Result<Option<Token>, TokenError>
         ensures next { IsNext self.old result }
         ensures value { result ≡ next_token self.old.bytes self.old.at }
