@@ -1,3 +1,4 @@
 pub mod WordKinds
 pub mod GroupRead
 pub mod Different
+pub mod TokensWithin

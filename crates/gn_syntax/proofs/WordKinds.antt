@@ -16,3 +16,4 @@ kind_of-word_at bytes start end k.OpenBracket = refl
 kind_of-word_at bytes start end k.CloseBracket = refl
 kind_of-word_at bytes start end k.OpenBrace = refl
 kind_of-word_at bytes start end k.CloseBrace = refl
+kind_of-word_at bytes start end kind = refl

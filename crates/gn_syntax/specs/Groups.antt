@@ -5,7 +5,7 @@ use Rattle.std.specs.Str.{bytes_eq}
 use Rattle.std.specs.Option.{option_map}
 use Rattle.gn_tokens.specs.declared.token.TokenKind.{TokenKind}
 use Rattle.gn_tokens.specs.declared.token.TokenKind.TheVariants as k
-use Rattle.gn_tokens.specs.Token.{is_word_byte}
+use Rattle.gn_tokens.specs.Bytes.{is_word_byte}
 use Rattle.gn_tokens.specs.Stream.{Stream, Ends, Fails, Gives, stream_of}
 use Rattle.gn_syntax.specs.declared.first_form.GroupForm.{GroupForm}
 
@@ -30,6 +30,7 @@ pub data Word : Type 0 where
   CloseBracket : Word
   OpenBrace : Word
   CloseBrace : Word
+  OtherToken : (kind : TokenKind) → Word  -- a token that has no part in the form
   Wrong : Word  -- no token begins where one must
 
 -- the word that a token of this kind between the two offsets is
@@ -44,6 +45,7 @@ word_at bytes start end k.OpenBracket = OpenBracket
 word_at bytes start end k.CloseBracket = CloseBracket
 word_at bytes start end k.OpenBrace = OpenBrace
 word_at bytes start end k.CloseBrace = CloseBrace
+word_at bytes start end kind = OtherToken kind
 
 -- the words of these tokens of the bytes
 abbrev pub words_in : List ℕ → Stream → List Word

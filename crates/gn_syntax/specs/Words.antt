@@ -12,7 +12,7 @@ use Rattle.gn_syntax.specs.declared.read.Step.{Step}
 use Rattle.gn_syntax.specs.declared.read.Step.TheVariants.{More, Closed, Refused}
 use Rattle.gn_syntax.specs.declared.first_form.GroupForm.{GroupForm}
 use Rattle.std.specs.Option.{option_map}
-use Rattle.gn_syntax.specs.Groups.{form_name, Word, Identifier, Text, Assign, Comma, OpenParen, CloseParen, OpenBracket, CloseBracket, OpenBrace, CloseBrace, Wrong, word_at, words_in}
+use Rattle.gn_syntax.specs.Groups.{form_name, Word, Identifier, Text, Assign, Comma, OpenParen, CloseParen, OpenBracket, CloseBracket, OpenBrace, CloseBrace, OtherToken, Wrong, word_at, words_in}
 
 -- the bytes of a file, and the words that are left
 pub record Left : Type 0 where
@@ -38,6 +38,7 @@ kind_of OpenBracket = Some k.OpenBracket
 kind_of CloseBracket = Some k.CloseBracket
 kind_of OpenBrace = Some k.OpenBrace
 kind_of CloseBrace = Some k.CloseBrace
+kind_of (OtherToken kind) = Some kind
 kind_of Wrong = None
 
 -- the kind of the token that the first word is

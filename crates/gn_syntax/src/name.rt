@@ -3,7 +3,7 @@
 ghost use Rattle.std.specs.Prelude.{◌≡◌};
 ghost use Rattle.std.specs.List.{list_all};
 ghost use Rattle.std.specs.Str.{bytes_eq};
-ghost use Rattle.gn_tokens.specs.Token.{is_word_byte};
+ghost use Rattle.gn_tokens.specs.Bytes.{is_word_byte};
 ghost use Rattle.gn_syntax.specs.Groups.{is_name, is_label};
 
 // Whether the bytes are these.

@@ -1,3 +1,9 @@
+pub mod Marks
+pub mod Scans
+pub mod Words
+pub mod Numbers
+pub mod Expansions
+pub mod Texts
 pub mod Gaps
 pub mod Longest
 pub mod Next

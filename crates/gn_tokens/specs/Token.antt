@@ -1,46 +1,49 @@
 -- Which bytes are a token, and which stand between tokens.
-use Rattle.std.specs.Prelude.{◌≡◌, ◌≢◌, ℕ, Bool, ◌||◌, ◌==◌, List, [], ◌∷◌, ◌++◌, All, IsTrue}
-use Rattle.std.specs.Char.{is_ascii_alphabetic, is_ascii_alphanumeric}
+use Rattle.std.specs.Prelude.{◌≡◌, ◌≢◌, ℕ, List, [], ◌∷◌, ◌++◌, All, IsTrue, codes}
 use Rattle.gn_tokens.specs.declared.token.TokenKind.{TokenKind}
 use Rattle.gn_tokens.specs.declared.token.TokenKind.TheVariants as k
+use Rattle.gn_tokens.specs.Bytes.{is_white, IsIdentifier}
+use Rattle.gn_tokens.specs.Number.{IsInteger}
+use Rattle.gn_tokens.specs.Text.{IsString}
 
--- a letter or `_`
-abbrev pub is_letter : ℕ → Bool
-is_letter b = is_ascii_alphabetic b || b == 95
-
--- a letter, a digit or `_`
-abbrev pub is_word_byte : ℕ → Bool
-is_word_byte b = is_ascii_alphanumeric b || b == 95
-
--- space, tab, carriage return or newline
-abbrev pub is_white : ℕ → Bool
-is_white b = b == 32 || b == 9 || b == 13 || b == 10
-
--- a letter or `_`, then letters, digits and `_`
-abbrev pub IsIdentifier : List ℕ → Type 0
-IsIdentifier [] = ⊥
-IsIdentifier (b ∷ bs) = IsTrue (is_letter b) × All (λ c. IsTrue (is_word_byte c)) bs
-
--- no `"`, `$`, backslash or newline
-abbrev pub IsPlain : ℕ → Type 0
-IsPlain b = (b ≢ 34) × (b ≢ 36) × (b ≢ 92) × (b ≢ 10)
-
--- plain bytes between two `"`
-abbrev pub IsString : List ℕ → Type 0
-IsString bs = (text : List ℕ) × (bs ≡ 34 ∷ (text ++ 34 ∷ [])) × All IsPlain text
+-- the bytes of a reserved word or of a mark; of the other kinds none
+abbrev pub kind_text : TokenKind → List ℕ
+kind_text k.Identifier = []
+kind_text k.Integer = []
+kind_text k.Str = []
+kind_text k.If = codes "if"
+kind_text k.Else = codes "else"
+kind_text k.True = codes "true"
+kind_text k.False = codes "false"
+kind_text k.Assign = codes "="
+kind_text k.AddAssign = codes "+="
+kind_text k.SubAssign = codes "-="
+kind_text k.Plus = codes "+"
+kind_text k.Minus = codes "-"
+kind_text k.Equal = codes "=="
+kind_text k.NotEqual = codes "!="
+kind_text k.Less = codes "<"
+kind_text k.LessEqual = codes "<="
+kind_text k.Greater = codes ">"
+kind_text k.GreaterEqual = codes ">="
+kind_text k.And = codes "&&"
+kind_text k.Or = codes "||"
+kind_text k.Not = codes "!"
+kind_text k.Dot = codes "."
+kind_text k.Comma = codes ","
+kind_text k.OpenParen = codes "("
+kind_text k.CloseParen = codes ")"
+kind_text k.OpenBracket = codes "["
+kind_text k.CloseBracket = codes "]"
+kind_text k.OpenBrace = codes "{"
+kind_text k.CloseBrace = codes "}"
 
 -- The bytes are a token of this kind.
 abbrev pub IsToken : TokenKind → List ℕ → Type 0
 IsToken k.Identifier bs = IsIdentifier bs
+IsToken k.Integer bs = IsInteger bs
 IsToken k.Str bs = IsString bs
-IsToken k.Assign bs = bs ≡ 61 ∷ []
-IsToken k.Comma bs = bs ≡ 44 ∷ []
-IsToken k.OpenParen bs = bs ≡ 40 ∷ []
-IsToken k.CloseParen bs = bs ≡ 41 ∷ []
-IsToken k.OpenBracket bs = bs ≡ 91 ∷ []
-IsToken k.CloseBracket bs = bs ≡ 93 ∷ []
-IsToken k.OpenBrace bs = bs ≡ 123 ∷ []
-IsToken k.CloseBrace bs = bs ≡ 125 ∷ []
+IsToken kind bs = bs ≡ kind_text kind
 
 -- The bytes are white space and comments, each comment with the newline that ends it.
 pub data IsGap : List ℕ → Type 0 where

@@ -1,6 +1,6 @@
 use Rattle.std.proofs.Common.{◌≡◌, ◌+◌, false, drop}
-use Rattle.gn_tokens.specs.Next.{gap_len}
-use Rattle.gn_tokens.proofs.scan.white_len.Given as goal
+use Rattle.gn_tokens.specs.Front.{gap_len}
+use Rattle.gn_tokens.proofs.gap.white_len.Given as goal
 
 abbrev pub invariant-loop-i : goal.invariant-loop-i
 invariant-loop-i l = l.i + gap_len l.in_comment (drop l.i l.bytes) ≡ gap_len false l.bytes
