@@ -34,7 +34,7 @@ word_at_most (suc m) b bs le t = rw t.0 (omega arith, passing is_word_byte (suc 
 reserved_at_most : (m b : ℕ) (bs w : List ℕ) → m ≤ length (b ∷ bs) → take m (b ∷ bs) ≡ w → IsWord w → IsAtMost m (front_of b bs)
 reserved_at_most m b bs w le e h = word_at_most m b bs le (subst IsWord (sym e) h)
 
-run_no_letter : (b : ℕ) (bs : List ℕ) → begins_run (b ∷ bs) ≡ true → is_letter b ≡ false
+pub run_no_letter : (b : ℕ) (bs : List ℕ) → begins_run (b ∷ bs) ≡ true → is_letter b ≡ false
 run_no_letter b bs h = elim (or_true (is_digit b) ((b == 45) && begins is_digit bs) h) [
   | inl d ↦ digit_no_letter b d
   | inr d ↦ elim (eqb_tells b 45) [
@@ -49,7 +49,7 @@ choose_second false false x y z l r = cc
 choose_second true r x y z l e = cc
 
 -- Where a run begins, the front is its number.
-front_of_run : (b : ℕ) (bs : List ℕ) → begins_run (b ∷ bs) ≡ true → front_of b bs ≡ front_number (integer_len (b ∷ bs))
+pub front_of_run : (b : ℕ) (bs : List ℕ) → begins_run (b ∷ bs) ≡ true → front_of b bs ≡ front_number (integer_len (b ∷ bs))
 front_of_run b bs h =
     choose_second (is_letter b) (begins_run (b ∷ bs)) (Found (word_kind (front_word (b ∷ bs))) (prefix_len is_word_byte (b ∷ bs))) (front_number (integer_len (b ∷ bs)))
     (if b == 34 then front_string (text_len false bs) bs else front_mark b bs) (run_no_letter b bs h) h
@@ -104,7 +104,7 @@ pair kind x e = (omega arith, omega arith)
 
 -- Strings.
 
-begins_longer : (p : ℕ → Bool) (bs more : List ℕ) → 1 ≤ length bs → begins p (bs ++ more) ≡ begins p bs
+pub begins_longer : (p : ℕ → Bool) (bs more : List ℕ) → 1 ≤ length bs → begins p (bs ++ more) ≡ begins p bs
 begins_longer p [] more h = absurd (omega arith)
 begins_longer p (b ∷ bs) more h = refl
 
@@ -126,7 +126,7 @@ expansion_len item later rest h =
     let over : text_len false (behind_first item ++ rest) ≡ length (behind_first item) + text_len false rest = len_over (behind_first item) rest (expansion_ordinary item later h) in
     ap (λ x. text_len false (x ++ rest)) first ∙ ap suc over ∙ omega (arith, ap length first)
 
-item_len : (item : Item) (later rest : List ℕ) → IsItem item later → begins is_escapable rest ≡ begins is_escapable later → text_len false (item_bytes item ++ rest) ≡ length (item_bytes item) + text_len false rest
+pub item_len : (item : Item) (later rest : List ℕ) → IsItem item later → begins is_escapable rest ≡ begins is_escapable later → text_len false (item_bytes item ++ rest) ≡ length (item_bytes item) + text_len false rest
 item_len (Plain b) later rest h same = plain_len b rest h.0 h.1 (λ e. same ∙ h.2 e) ∙ omega arith
 item_len (Escape b) later rest h same = rw h (omega arith)
 item_len (Hex high low) later rest h same = expansion_len (Hex high low) later rest h
@@ -135,7 +135,7 @@ item_len (Braced name) later rest h same = expansion_len (Braced name) later res
 item_len (Element name index) later rest h same = expansion_len (Element name index) later rest h
 item_len (Field name field) later rest h same = expansion_len (Field name field) later rest h
 
-reads_some : (items : List Item) (bs : List ℕ) → Reads items bs (34 ∷ []) → 1 ≤ length bs
+pub reads_some : (items : List Item) (bs : List ℕ) → Reads items bs (34 ∷ []) → 1 ≤ length bs
 reads_some [] bs h = omega (arith, ap length h)
 reads_some (item ∷ items) bs (later, bytes, is_item, reads) = omega (arith, reads_some items later reads, ap length bytes, length-append (item_bytes item) later)
 

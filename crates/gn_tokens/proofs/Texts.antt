@@ -25,7 +25,7 @@ len_over (b ∷ chunk) rest h =
     let more = len_over chunk rest (All-tail (λ c. IsTrue (is_ordinary c)) b chunk h) in
     rw (ordinary_not_stop b first, ordinary_not_backslash b first) (omega (arith, more))
 
-further_more : (n : ℕ) (x : Option ℕ) → further 1 (further n x) ≡ further (suc n) x
+pub further_more : (n : ℕ) (x : Option ℕ) → further 1 (further n x) ≡ further (suc n) x
 further_more n None = refl
 further_more n (Some i) = ap Some (omega arith)
 
@@ -33,7 +33,7 @@ further_none : (x : Option ℕ) → further 0 x ≡ x
 further_none None = refl
 further_none (Some i) = ap Some (omega arith)
 
-bad_over : (chunk rest : List ℕ) → AllOrdinary chunk → first_bad false (chunk ++ rest) ≡ further (length chunk) (first_bad false rest)
+pub bad_over : (chunk rest : List ℕ) → AllOrdinary chunk → first_bad false (chunk ++ rest) ≡ further (length chunk) (first_bad false rest)
 bad_over [] rest h = sym (further_none (first_bad false rest))
 bad_over (b ∷ chunk) rest h =
     let first : is_ordinary b ≡ true = h 0 0 (omega arith) in
@@ -45,11 +45,11 @@ len_no_escape : (bs : List ℕ) → begins is_escapable bs ≡ false → text_le
 len_no_escape [] h = refl
 len_no_escape (b ∷ bs) h = rw h refl
 
-bad_no_escape : (bs : List ℕ) → begins is_escapable bs ≡ false → first_bad true bs ≡ first_bad false bs
+pub bad_no_escape : (bs : List ℕ) → begins is_escapable bs ≡ false → first_bad true bs ≡ first_bad false bs
 bad_no_escape [] h = refl
 bad_no_escape (b ∷ bs) h = rw h refl
 
-items_skip : (n : ℕ) (bs : List ℕ) → items_from n bs ≡ items_from 0 (drop n bs)
+pub items_skip : (n : ℕ) (bs : List ℕ) → items_from n bs ≡ items_from 0 (drop n bs)
 items_skip zero bs = refl
 items_skip (suc n) [] = refl
 items_skip (suc n) (b ∷ bs) = items_skip n bs

@@ -107,7 +107,7 @@ is_identifier w h free = (h,
     λ e. (let t : is_reserved w ≡ true = ap is_reserved e in cc),
     λ e. (let t : is_reserved w ≡ true = ap is_reserved e in cc))
 
-not_text : (c w : List ℕ) → w ≢ c → is_text c w ≡ false
+pub not_text : (c w : List ℕ) → w ≢ c → is_text c w ≡ false
 not_text c w ne = elim (cases_Bool (is_text c w)) [
   | inl h ↦ absurd (ne (is_text_same c w h))
   | inr h ↦ h
