@@ -1,8 +1,8 @@
 -- A string is its items.
-use Rattle.std.proofs.Common.{◌≡◌, ℕ, suc, ◌+◌, ◌-◌, ◌≤◌, false, None, Option, Some, List, [], ◌∷◌, ◌++◌, length, drop, refl, sym, ◌∙◌, ap, subst, arith, drop_at}
-use Rattle.gn_tokens.specs.Text.{Item, IsString, Reads, AllExpand, is_stop, text_len, first_bad, items_from, text_items, placed, string_items, front_item, item_bytes}
+use Rattle.std.proofs.Common.{◌≡◌, ℕ, ◌+◌, ◌-◌, false, List, [], ◌∷◌, length, drop, sym, ◌∙◌, ap, subst, arith, drop_at}
+use Rattle.gn_tokens.specs.Text.{IsString, Reads, AllExpand, is_stop, text_len, text_items, placed, string_items, front_item, item_bytes}
 use Rattle.gn_tokens.proofs.Texts.{items_skip, IsRead, IsJudged, read}
-use Rattle.gn_tokens.proofs.Unique.{IsPassed, passed}
+use Rattle.gn_tokens.proofs.Unique.{passed}
 
 pub string_reads : (text : List ℕ) → IsString (34 ∷ text) → Reads (text_items text) text (34 ∷ []) × AllExpand (text_items text)
 string_reads text (items, same, e, reads, good) =

@@ -1,6 +1,5 @@
 -- There is one right answer.
-use Rattle.std.proofs.Common.{◌≡◌, ◌≢◌, ◌⊎◌, ℕ, zero, suc, ◌+◌, ◌-◌, ◌<◌, ◌≤◌, ◌^◌, Bool, true, false, not, ◌&&◌, ◌||◌, IsTrue, eqb, ◌==◌, if◌then◌else◌, List, [], ◌∷◌, ◌++◌, length, take, drop, codes, Option, Some, None, Result, Ok, Err, slice_index, refl, sym, ◌∙◌, ap, subst, inl, inr, arith, All, length-append, length-drop, length-take-le, take-append-drop, append_assoc, take_at, drop_at, drop-drop, get_or-drop}
-use Rattle.std.specs.List.{prefix_len}
+use Rattle.std.proofs.Common.{◌≡◌, ◌≢◌, ◌⊎◌, ℕ, zero, suc, ◌+◌, ◌-◌, ◌<◌, ◌≤◌, Bool, true, false, not, ◌&&◌, ◌||◌, IsTrue, eqb, ◌==◌, if◌then◌else◌, List, [], ◌∷◌, ◌++◌, length, take, drop, codes, Option, Some, None, Result, Ok, Err, slice_index, refl, sym, ◌∙◌, ap, subst, inl, inr, arith, All, length-append, length-drop, length-take-le, take-append-drop, append_assoc, drop_at, drop-drop, get_or-drop}
 use Rattle.std.proofs.lemmas.Bool.{cases_Bool}
 use Rattle.std.proofs.lemmas.Bool.Decides.{eqb_tells, nat_tests}
 use Rattle.std.proofs.lemmas.List.Elements.{All-head, All-tail, All-from_recursion}
@@ -9,8 +8,8 @@ use Rattle.gn_tokens.specs.declared.token.TokenError.{TokenError}
 use Rattle.gn_tokens.specs.declared.token.TokenError.TheVariants.{BadByte, BadNumber, OpenString, BadDollar}
 use Rattle.gn_tokens.specs.declared.token.TokenKind.{TokenKind}
 use Rattle.gn_tokens.specs.declared.token.TokenKind.TheVariants as k
-use Rattle.gn_tokens.specs.Bytes.{is_letter, is_word_byte, is_digit, is_white, is_escapable, begins, begins_with, front_word}
-use Rattle.gn_tokens.specs.Number.{IsInteger, IsRun, IsBadRun, begins_run, run_len, integer_len}
+use Rattle.gn_tokens.specs.Bytes.{is_letter, is_word_byte, is_digit, is_white, is_escapable, begins, begins_with}
+use Rattle.gn_tokens.specs.Number.{IsInteger, IsRun, IsBadRun, begins_run, run_len}
 use Rattle.gn_tokens.specs.Text.{Item, Plain, Escape, Hex, Variable, Braced, Element, Field, item_bytes, IsExpansion, IsLone, IsItem, Reads, AllExpand, IsString, IsOpen, IsBadDollarBehind, is_stop, expands, text_len, further, first_bad, expansion_item}
 use Rattle.gn_tokens.specs.Token.{IsGap, nothing, white, comment, IsToken}
 use Rattle.gn_tokens.specs.Front.{Front, Found, WrongByte, WrongNumber, NotClosed, WrongDollar, gap_len, word_kind, front_number, front_closed, front_string, front_mark, front_of}
@@ -73,7 +72,7 @@ only_gap : (bs : List ℕ) → IsGap (bs ++ 10 ∷ []) → gap_len false bs ≡ 
 only_gap bs h =
     let whole : gap_len false (bs ++ 10 ∷ []) ≡ length bs + 1 = ap (gap_len false) (sym (append_none (bs ++ 10 ∷ []))) ∙ gap_over [] h ∙ omega (arith, length-append bs (10 ∷ [])) in
     elim (cases_Bool (eqb (gap_len false bs) (length bs))) [
-      | inl e ↦ elim (eqb_tells (gap_len false bs) (length bs)) [ | inl x ↦ x.1 | inr x ↦ absurd (let y = x.0 in cc) ]
+      | inl e ↦ elim (eqb_tells (gap_len false bs) (length bs)) [ inl x ↦ x.1 | inr x ↦ absurd (let y = x.0 in cc) ]
       | inr e ↦ elim (eqb_tells (gap_len false bs) (length bs)) [
         | inl x ↦ x.1
         | inr x ↦ absurd (let y = x.1 in let lt : gap_len false bs < length bs = omega (arith, gap_within false bs) in omega (arith, gap_short false bs (10 ∷ []) lt, whole))
@@ -167,10 +166,12 @@ item_extend (Field name field) later more ne some h = h
 
 extend : (items : List Item) (bs more : List ℕ) → Reads items bs (34 ∷ []) → AllExpand items → Reads items (bs ++ more) (34 ∷ more)
 extend [] bs more h good = ap (λ x. x ++ more) h
-extend (item ∷ items) bs more (later, bytes, is_item, reads) good =
-    (later ++ more, ap (λ x. x ++ more) bytes ∙ append_assoc (item_bytes item) later more,
-      item_extend item later more (All-head (λ x. x ≢ Plain 36) item items good) (reads_some items later reads) is_item,
-      extend items later more reads (All-tail (λ x. x ≢ Plain 36) item items good))
+extend (item ∷ items) bs more (later, bytes, is_item, reads) good = (
+  later ++ more,
+  ap (λ x. x ++ more) bytes ∙ append_assoc (item_bytes item) later more,
+  item_extend item later more (All-head (λ x. x ≢ Plain 36) item items good) (reads_some items later reads) is_item,
+  extend items later more reads (All-tail (λ x. x ≢ Plain 36) item items good),
+)
 
 closed_front : (items : List Item) (bs rest : List ℕ) → Reads items bs (34 ∷ rest) → front_string (text_len false bs) bs ≡ front_closed (text_len false bs) (first_bad false bs)
 closed_front items bs rest h =
@@ -223,7 +224,7 @@ dollar_unique b bs len bad =
     let n = text_len false bad.text in
     let size : n ≡ length (p.front ++ 36 ∷ q.front) = p.len ∙ omega (arith, q.len, length-append p.front (36 ∷ q.front)) in
     let whole : bad.text ≡ (p.front ++ 36 ∷ q.front) ++ 34 ∷ bad.rest =
-      p.bytes ∙ ap (λ x. p.front ++ 36 ∷ x) q.bytes ∙ sym (append_assoc p.front (36 ∷ q.front) (34 ∷ bad.rest)) in
+    p.bytes ∙ ap (λ x. p.front ++ 36 ∷ x) q.bytes ∙ sym (append_assoc p.front (36 ∷ q.front) (34 ∷ bad.rest)) in
     let back : drop n bad.text ≡ 34 ∷ bad.rest = ap (drop n) whole ∙ drop_at (p.front ++ 36 ∷ q.front) (34 ∷ bad.rest) n (sym size) in
     let found : first_bad false bad.text ≡ Some (length p.front + 0) = p.bad bad.good ∙ ap (further (length p.front)) (lone_bad bad.dollar bad.lone) in
     let place : length p.front + 0 + 1 ≡ len = omega (arith, bad.len_is, ap length front, ap length p.bytes, length-append p.front (36 ∷ bad.dollar)) in
@@ -374,10 +375,13 @@ gap_byte b bs h = elim (or_true ((b == 32 || b == 9) || b == 13) (b == 10) h) [
 ]
 
 solid : (b : ℕ) (bs : List ℕ) → front_of b bs ≢ WrongByte → (is_white b ≡ false) × (b ≢ 35)
-solid b bs ne = (elim (cases_Bool (is_white b)) [
-  | inl w ↦ absurd (ne (gap_byte b bs w))
-  | inr w ↦ w
-], λ e. ne (ap (λ x. front_of x bs) e))
+solid b bs ne = (
+  elim (cases_Bool (is_white b)) [
+    | inl w ↦ absurd (ne (gap_byte b bs w))
+    | inr w ↦ w
+  ],
+  λ e. ne (ap (λ x. front_of x bs) e),
+)
 
 -- The whole answer.
 
@@ -407,8 +411,8 @@ token_unique bytes at token h =
       within = omega (arith, size, h.within);
       is_token = subst (λ x. IsToken token.kind (take len x)) rest h.is_token;
       longest = λ other m lt fits t.
-        let back : start + m - start ≡ m = omega arith in
-        h.longest other (start + m) (omega (arith, lt, h.ends)) (omega (arith, size, fits)) (rw (back, rest) t);
+          let back : start + m - start ≡ m = omega arith in
+          h.longest other (start + m) (omega (arith, lt, h.ends)) (omega (arith, size, fits)) (rw (back, rest) t);
       not_cut = λ run bad. h.not_cut run (subst (λ x. IsBadRun x run) (sym rest) bad);
     } in
     let found : front_of b bs ≡ Found token.kind len = found_unique b bs token.kind len longest in
@@ -425,8 +429,8 @@ byte_unique bytes at offset h =
     let first : slice_index bytes offset ≡ b = ap (slice_index bytes) (omega arith) ∙ sym (get_or-drop offset bytes 0 0) ∙ ap (λ x. slice_index x 0) rest in
     let size : length (b ∷ bs) + offset ≡ length bytes = omega (arith, ap length rest, length-drop offset bytes, h.within) in
     let wrong : front_of b bs ≡ WrongByte = byte_at b bs (front_of b bs) (λ kind m fits t.
-      (let back : offset + m - offset ≡ m = omega arith in
-      h.no_token kind (offset + m) (omega arith) (omega (arith, size, fits)) (rw (back, rest) t))) (λ e. h.not_quote (first ∙ e)) (front_is b bs) in
+    (let back : offset + m - offset ≡ m = omega arith in
+    h.no_token kind (offset + m) (omega arith) (omega (arith, size, fits)) (rw (back, rest) t))) (λ e. h.not_quote (first ∙ e)) (front_is b bs) in
     answer_at bytes at offset b bs WrongByte h.starts h.gap rest (sym (ap is_white first) ∙ h.not_white, λ e. h.not_comment (first ∙ e)) wrong
 
 number_answer : (bytes : List ℕ) (at offset : ℕ) → IsBadNumber bytes at offset → Err (BadNumber offset) ≡ next_token bytes at

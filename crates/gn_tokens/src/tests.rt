@@ -1,6 +1,7 @@
 //! Bytes and their tokens.
 
 use crate::{Token, TokenError, TokenKind, Tokens, integer_value};
+use std::process::Abort;
 
 // A file, its tokens with their places, and the error that ends them.
 type Row = (
@@ -92,7 +93,11 @@ const ROWS: [Row; 24] = [
     (b"1_", &[], Some(TokenError::BadNumber(0))),
     (b"007", &[], Some(TokenError::BadNumber(0))),
     (b"-0", &[], Some(TokenError::BadNumber(0))),
-    (b"x & y", &[(TokenKind::Identifier, 0, 1)], Some(TokenError::BadByte(2))),
+    (
+        b"x & y",
+        &[(TokenKind::Identifier, 0, 1)],
+        Some(TokenError::BadByte(2)),
+    ),
     (b"\xef\xbb\xbfx", &[], Some(TokenError::BadByte(0))),
     (b"\x0c", &[], Some(TokenError::BadByte(0))),
     (
@@ -152,20 +157,29 @@ fn last_of(error: Option<TokenError>) -> Result<Option<Token>, TokenError> {
     }
 }
 
+fn assert_tokens(
+    rt: &impl Abort,
+    text: &[u8],
+    found: &[(TokenKind, usize, usize)],
+    error: Option<TokenError>,
+) {
+    let mut tokens = Tokens::new(text);
+    for (kind, start, end) in found {
+        let token = Token {
+            kind: *kind,
+            start: *start,
+            end: *end,
+        };
+        assert_eq!(rt; tokens.next(), Ok(Some(token)));
+    }
+    assert_eq!(rt; tokens.next(), last_of(error));
+    assert_eq!(rt; tokens.next(), last_of(error));
+}
+
 #[test]
 fn gives_tokens_and_errors(rt: HostRuntime) {
     for (text, found, error) in ROWS {
-        let mut tokens = Tokens::new(text);
-        for (kind, start, end) in found {
-            let token = Token {
-                kind: *kind,
-                start: *start,
-                end: *end,
-            };
-            assert_eq!(rt; tokens.next(), Ok(Some(token)));
-        }
-        assert_eq!(rt; tokens.next(), last_of(error));
-        assert_eq!(rt; tokens.next(), last_of(error));
+        assert_tokens(&rt, text, found, error);
     }
 }
 
@@ -180,11 +194,15 @@ fn refuses_what_is_no_expansion(rt: HostRuntime) {
 fn value_of_first(text: &[u8]) -> Option<i64> {
     let mut tokens = Tokens::new(text);
     match tokens.next() {
-        Ok(Some(Token {
-            kind: TokenKind::Integer,
-            start,
-            end,
-        })) => Some(integer_value(&text[start..end])),
+        Ok(
+            Some(
+                Token {
+                    kind: TokenKind::Integer,
+                    start,
+                    end,
+                },
+            ),
+        ) => Some(integer_value(&text[start..end])),
         _ => None,
     }
 }
