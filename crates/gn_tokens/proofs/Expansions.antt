@@ -1,13 +1,13 @@
 -- Expansions: the function finds those that stand behind a `$`.
-use Rattle.std.proofs.Common.{◌≡◌, ◌≢◌, ◌⊎◌, ℕ, zero, suc, ◌+◌, ◌<◌, ◌≤◌, Bool, true, false, not, ◌&&◌, ◌||◌, IsTrue, eqb, ◌==◌, if◌then◌else◌, List, [], ◌∷◌, ◌++◌, length, take, drop, Option, Some, None, refl, sym, ◌∙◌, ap, subst, inl, inr, arith, All, append_assoc, take-append-drop, drop_at}
+use Rattle.std.proofs.Common.{◌≡◌, ◌⊎◌, ℕ, Bool, true, false, not, ◌&&◌, ◌||◌, IsTrue, ◌==◌, List, [], ◌∷◌, ◌++◌, length, take, drop, Option, Some, None, refl, sym, ◌∙◌, ap, subst, inl, inr, arith, All, append_assoc, take-append-drop, drop_at}
 use Rattle.std.specs.List.{prefix_len}
 use Rattle.std.proofs.lemmas.Bool.{cases_Bool}
 use Rattle.std.proofs.lemmas.Bool.Decides.{eqb_tells, nat_tests}
-use Rattle.std.proofs.lemmas.List.Elements.{All-cons, All-tail, All-append, All-weaker, All-nil}
+use Rattle.std.proofs.lemmas.List.Elements.{All-cons, All-append, All-weaker, All-nil}
 use Rattle.gn_tokens.specs.Bytes.{is_letter, is_word_byte, is_digit, is_hex_digit, begins, begins_with, IsWord, IsIdentifier, front_word, past_word, is_name}
 use Rattle.gn_tokens.specs.Number.{IsDigits, IsRun, IsInteger, integer_len}
 use Rattle.gn_tokens.specs.Text.{Item, Plain, Escape, Hex, Variable, Braced, Element, Field, item_bytes, IsExpansion, is_hex, is_field, index_len, closes, closes_behind, is_braced_end, is_braced, expands, front_index, braced_item, hex_item, expansion_item}
-use Rattle.gn_tokens.proofs.Words.{and_left, and_right, or_true, begins_with_tells, all_in_front, behind_fails, word_bytes, word_begins, word_past, name_here, name_is, word_whole}
+use Rattle.gn_tokens.proofs.Words.{and_left, and_right, begins_with_tells, all_in_front, behind_fails, word_bytes, word_begins, word_past, name_here, name_is, word_whole}
 use Rattle.gn_tokens.proofs.Numbers.{integer_is_run, integer_here, IsIntegerHere, integer_len_is, digit_no_letter, first_digit}
 
 -- The bytes behind a `$` are those of the expansion, and then others.
@@ -29,8 +29,11 @@ hex_sound (b ∷ c ∷ d ∷ e ∷ bs) h =
       | inr x ↦ absurd (let k = x.0 in let l = and_left (b == 48) (c == 120) two in cc)
       | inl x ↦ elim (eqb_tells c 120) [
         | inr y ↦ absurd (let k = y.0 in let l = and_right (b == 48) (c == 120) two in cc)
-        | inl y ↦ (bs, ap (λ z. 36 ∷ z ∷ c ∷ d ∷ e ∷ bs) x.1 ∙ ap (λ z. 36 ∷ 48 ∷ z ∷ d ∷ e ∷ bs) y.1,
-            (and_right (b == 48 && c == 120) (is_hex_digit d) three, and_right ((b == 48 && c == 120) && is_hex_digit d) (is_hex_digit e) h))
+        | inl y ↦ (
+          bs,
+          ap (λ z. 36 ∷ z ∷ c ∷ d ∷ e ∷ bs) x.1 ∙ ap (λ z. 36 ∷ 48 ∷ z ∷ d ∷ e ∷ bs) y.1,
+          (and_right (b == 48 && c == 120) (is_hex_digit d) three, and_right ((b == 48 && c == 120) && is_hex_digit d) (is_hex_digit e) h),
+        )
       ]
     ]
 
@@ -43,9 +46,11 @@ field_joined name field later = append_assoc name (46 ∷ (field ++ 125 ∷ []))
 field_sound : (name r : List ℕ) → IsIdentifier name → is_field r ≡ true → Splits (123 ∷ (name ++ 46 ∷ r)) (Field name (front_word r))
 field_sound name r h f =
     let end = begins_with_tells 125 (past_word r) (and_right (is_name r) (begins_with 125 (past_word r)) f) in
-    let whole : r ≡ front_word r ++ 125 ∷ end.0 = sym (word_whole r) ∙ ap (λ x. front_word r ++ x) end.1 in
-    (end.0, ap (λ x. 36 ∷ 123 ∷ (name ++ 46 ∷ x)) whole ∙ ap (λ x. 36 ∷ 123 ∷ x) (sym (field_joined name (front_word r) end.0)),
-      (h, name_is r (and_left (is_name r) (begins_with 125 (past_word r)) f)))
+    let whole : r ≡ front_word r ++ 125 ∷ end.0 = sym (word_whole r) ∙ ap (λ x. front_word r ++ x) end.1 in (
+      end.0,
+      ap (λ x. 36 ∷ 123 ∷ (name ++ 46 ∷ x)) whole ∙ ap (λ x. 36 ∷ 123 ∷ x) (sym (field_joined name (front_word r) end.0)),
+      (h, name_is r (and_left (is_name r) (begins_with 125 (past_word r)) f)),
+    )
 
 closes_tells : (bs : List ℕ) → closes bs ≡ true → (later : List ℕ) × (bs ≡ 93 ∷ 125 ∷ later)
 closes_tells bs h =

@@ -8,3 +8,5 @@ pub mod Gaps
 pub mod Longest
 pub mod Next
 pub mod Stream
+pub mod Unique
+pub mod Items

@@ -1,5 +1,5 @@
 -- The token at the front is the longest there, and each error is one.
-use Rattle.std.proofs.Common.{◌≡◌, ◌≢◌, ◌⊎◌, ℕ, zero, suc, ◌+◌, ◌<◌, ◌≤◌, Bool, true, false, not, ◌&&◌, ◌||◌, IsTrue, eqb, ◌==◌, if◌then◌else◌, List, [], ◌∷◌, ◌++◌, length, take, drop, codes, Option, Some, None, refl, sym, ◌∙◌, ap, subst, inl, inr, arith, All, length-append, length-drop, length-take-le, take-append-drop, append_assoc, take_at, drop-drop}
+use Rattle.std.proofs.Common.{◌≡◌, ◌≢◌, ◌⊎◌, ℕ, zero, suc, ◌+◌, ◌≤◌, Bool, true, false, ◌&&◌, IsTrue, ◌==◌, if◌then◌else◌, List, [], ◌∷◌, ◌++◌, length, take, drop, codes, Option, Some, None, refl, sym, ◌∙◌, ap, subst, inl, inr, arith, length-append, length-take-le, take-append-drop, append_assoc, take_at}
 use Rattle.std.specs.List.{prefix_len}
 use Rattle.std.proofs.lemmas.Bool.{cases_Bool}
 use Rattle.std.proofs.lemmas.Bool.Decides.{eqb_tells, nat_tests}
@@ -7,13 +7,13 @@ use Rattle.std.proofs.lemmas.List.Elements.{All-head, All-tail, All-from_recursi
 use Rattle.std.proofs.lemmas.List.Sums.{prefix_len-le-length}
 use Rattle.gn_tokens.specs.declared.token.TokenKind.{TokenKind}
 use Rattle.gn_tokens.specs.declared.token.TokenKind.TheVariants as k
-use Rattle.gn_tokens.specs.Bytes.{is_letter, is_word_byte, is_digit, is_escapable, begins, begins_with, IsWord, IsIdentifier, front_word, is_text, is_reserved}
-use Rattle.gn_tokens.specs.Number.{IsInteger, IsRun, IsBadRun, begins_run, run_len, integer_len}
+use Rattle.gn_tokens.specs.Bytes.{is_letter, is_word_byte, is_digit, is_escapable, begins, begins_with, IsWord, front_word, is_text}
+use Rattle.gn_tokens.specs.Number.{IsInteger, IsBadRun, begins_run, run_len, integer_len}
 use Rattle.gn_tokens.specs.Text.{Item, Plain, Escape, Hex, Variable, Braced, Element, Field, item_bytes, IsExpansion, IsItem, Reads, AllExpand, IsString, IsOpen, IsBadDollarBehind, is_stop, text_len, first_bad, text_items}
-use Rattle.gn_tokens.specs.Token.{kind_text, IsToken}
+use Rattle.gn_tokens.specs.Token.{IsToken}
 use Rattle.gn_tokens.specs.Front.{Front, Found, WrongByte, WrongNumber, NotClosed, WrongDollar, word_kind, front_number, front_closed, front_string, or_equal, twice, front_mark, front_of}
-use Rattle.gn_tokens.proofs.Words.{begins_with_tells, passing, all_pass, letter_in_word, word_bytes, front_is_word, is_text_same, is_identifier, and_left, and_right, or_true}
-use Rattle.gn_tokens.proofs.Numbers.{digit_no_letter, first_digit, run_at_most, run_within, integer_is_run, IsIntegerHere, integer_len_is, bad_run_here}
+use Rattle.gn_tokens.proofs.Words.{begins_with_tells, passing, letter_in_word, word_bytes, front_is_word, is_text_same, is_identifier, and_left, or_true}
+use Rattle.gn_tokens.proofs.Numbers.{digit_no_letter, run_at_most, run_within, integer_is_run, IsIntegerHere, integer_len_is, bad_run_here}
 use Rattle.gn_tokens.proofs.Expansions.{expansion_ordinary, dollar_first, behind_first}
 use Rattle.gn_tokens.proofs.Texts.{len_over, IsJudged, IsRead, read}
 
@@ -34,7 +34,7 @@ word_at_most (suc m) b bs le t = rw t.0 (omega arith, passing is_word_byte (suc 
 reserved_at_most : (m b : ℕ) (bs w : List ℕ) → m ≤ length (b ∷ bs) → take m (b ∷ bs) ≡ w → IsWord w → IsAtMost m (front_of b bs)
 reserved_at_most m b bs w le e h = word_at_most m b bs le (subst IsWord (sym e) h)
 
-run_no_letter : (b : ℕ) (bs : List ℕ) → begins_run (b ∷ bs) ≡ true → is_letter b ≡ false
+pub run_no_letter : (b : ℕ) (bs : List ℕ) → begins_run (b ∷ bs) ≡ true → is_letter b ≡ false
 run_no_letter b bs h = elim (or_true (is_digit b) ((b == 45) && begins is_digit bs) h) [
   | inl d ↦ digit_no_letter b d
   | inr d ↦ elim (eqb_tells b 45) [
@@ -49,7 +49,7 @@ choose_second false false x y z l r = cc
 choose_second true r x y z l e = cc
 
 -- Where a run begins, the front is its number.
-front_of_run : (b : ℕ) (bs : List ℕ) → begins_run (b ∷ bs) ≡ true → front_of b bs ≡ front_number (integer_len (b ∷ bs))
+pub front_of_run : (b : ℕ) (bs : List ℕ) → begins_run (b ∷ bs) ≡ true → front_of b bs ≡ front_number (integer_len (b ∷ bs))
 front_of_run b bs h =
     choose_second (is_letter b) (begins_run (b ∷ bs)) (Found (word_kind (front_word (b ∷ bs))) (prefix_len is_word_byte (b ∷ bs))) (front_number (integer_len (b ∷ bs)))
     (if b == 34 then front_string (text_len false bs) bs else front_mark b bs) (run_no_letter b bs h) h
@@ -104,7 +104,7 @@ pair kind x e = (omega arith, omega arith)
 
 -- Strings.
 
-begins_longer : (p : ℕ → Bool) (bs more : List ℕ) → 1 ≤ length bs → begins p (bs ++ more) ≡ begins p bs
+pub begins_longer : (p : ℕ → Bool) (bs more : List ℕ) → 1 ≤ length bs → begins p (bs ++ more) ≡ begins p bs
 begins_longer p [] more h = absurd (omega arith)
 begins_longer p (b ∷ bs) more h = refl
 
@@ -126,7 +126,7 @@ expansion_len item later rest h =
     let over : text_len false (behind_first item ++ rest) ≡ length (behind_first item) + text_len false rest = len_over (behind_first item) rest (expansion_ordinary item later h) in
     ap (λ x. text_len false (x ++ rest)) first ∙ ap suc over ∙ omega (arith, ap length first)
 
-item_len : (item : Item) (later rest : List ℕ) → IsItem item later → begins is_escapable rest ≡ begins is_escapable later → text_len false (item_bytes item ++ rest) ≡ length (item_bytes item) + text_len false rest
+pub item_len : (item : Item) (later rest : List ℕ) → IsItem item later → begins is_escapable rest ≡ begins is_escapable later → text_len false (item_bytes item ++ rest) ≡ length (item_bytes item) + text_len false rest
 item_len (Plain b) later rest h same = plain_len b rest h.0 h.1 (λ e. same ∙ h.2 e) ∙ omega arith
 item_len (Escape b) later rest h same = rw h (omega arith)
 item_len (Hex high low) later rest h same = expansion_len (Hex high low) later rest h
@@ -135,7 +135,7 @@ item_len (Braced name) later rest h same = expansion_len (Braced name) later res
 item_len (Element name index) later rest h same = expansion_len (Element name index) later rest h
 item_len (Field name field) later rest h same = expansion_len (Field name field) later rest h
 
-reads_some : (items : List Item) (bs : List ℕ) → Reads items bs (34 ∷ []) → 1 ≤ length bs
+pub reads_some : (items : List Item) (bs : List ℕ) → Reads items bs (34 ∷ []) → 1 ≤ length bs
 reads_some [] bs h = omega (arith, ap length h)
 reads_some (item ∷ items) bs (later, bytes, is_item, reads) = omega (arith, reads_some items later reads, ap length bytes, length-append (item_bytes item) later)
 
@@ -146,7 +146,7 @@ closed_len (item ∷ items) bs more (later, bytes, is_item, reads) =
     let inner = closed_len items later more reads in
     let some = reads_some items later reads in
     let over : text_len false (item_bytes item ++ (later ++ more)) ≡ length (item_bytes item) + text_len false (later ++ more) =
-      item_len item later (later ++ more) is_item (begins_longer is_escapable later more some) in
+    item_len item later (later ++ more) is_item (begins_longer is_escapable later more some) in
     let whole : bs ++ more ≡ item_bytes item ++ (later ++ more) = ap (λ x. x ++ more) bytes ∙ append_assoc (item_bytes item) later more in
     omega (arith, ap (text_len false) whole, over, inner, ap length bytes, length-append (item_bytes item) later)
 
@@ -163,6 +163,7 @@ string_at_most (suc m) b bs le (items, text, e, reads, good) =
     judged : (m n : ℕ) (bad : Option ℕ) → 1 ≤ m → m ≤ n + 2 → IsAtMost m (front_closed n bad)
     judged m n None one h = (one, h)
     judged m n (Some at) one h = tt
+
     closed : (m : ℕ) (bs : List ℕ) (is_closed : Bool) (bad : Option ℕ) → 1 ≤ m → m ≤ text_len false bs + 2 → IsAtMost m (if is_closed then front_closed (text_len false bs) bad else NotClosed)
     closed m bs true bad one h = judged m (text_len false bs) bad one h
     closed m bs false bad one h = tt
@@ -254,9 +255,11 @@ cut : (items : List Item) (bs rest : List ℕ) → Reads items bs (34 ∷ rest) 
 cut [] bs rest h good = (34 ∷ [], h, refl)
 cut (item ∷ items) bs rest (later, bytes, is_item, reads) good =
     let inner = cut items later rest reads (All-tail (λ x. x ≢ Plain 36) item items good) in
-    let here : item ≢ Plain 36 = All-head (λ x. x ≢ Plain 36) item items good in
-    (item_bytes item ++ inner.0, bytes ∙ ap (λ x. item_bytes item ++ x) inner.1 ∙ sym (append_assoc (item_bytes item) inner.0 rest),
-      (inner.0, refl, item_cut item later inner.0 rest here inner.1 (reads_some items inner.0 inner.2) is_item, inner.2))
+    let here : item ≢ Plain 36 = All-head (λ x. x ≢ Plain 36) item items good in (
+      item_bytes item ++ inner.0,
+      bytes ∙ ap (λ x. item_bytes item ++ x) inner.1 ∙ sym (append_assoc (item_bytes item) inner.0 rest),
+      (inner.0, refl, item_cut item later inner.0 rest here inner.1 (reads_some items inner.0 inner.2) is_item, inner.2),
+    )
 
 stops : (is_escape : Bool) (bs : List ℕ) → (drop (text_len is_escape bs) bs ≡ []) ⊎ (begins is_stop (drop (text_len is_escape bs) bs) ≡ true)
 stops is_escape [] = inl refl
@@ -294,10 +297,17 @@ string_front_is bs =
           let end = begins_with_tells 34 (drop n bs) h in
           let closed : IsRead bs (34 ∷ end.0) = subst (IsRead bs) end.1 whole in
           rw h (closed_front_is bs end.0 n (first_bad false bs) refl end.1 closed.reads closed.judged)
-      | inr h ↦ rw h (text_items bs, bs, drop n bs, refl, whole.reads, elim (stops false bs) [
-        | inl e ↦ inl e
-        | inr e ↦ inr (newline_left (drop n bs) e h)
-      ])
+      | inr h ↦ rw h (
+        text_items bs,
+        bs,
+        drop n bs,
+        refl,
+        whole.reads,
+        elim (stops false bs) [
+          | inl e ↦ inl e
+          | inr e ↦ inr (newline_left (drop n bs) e h)
+        ],
+      )
     ]
 
 equal_front_is : (c : ℕ) (bs : List ℕ) (short long : TokenKind) → IsToken short (c ∷ []) → IsToken long (c ∷ 61 ∷ []) → IsFront c bs (or_equal short long bs)

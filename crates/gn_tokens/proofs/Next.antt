@@ -1,12 +1,12 @@
 -- The function `next_token` gives the right answer.
-use Rattle.std.proofs.Common.{◌≡◌, ◌≢◌, ℕ, suc, ◌+◌, ◌-◌, ◌<◌, ◌≤◌, true, false, List, [], ◌∷◌, ◌++◌, length, take, drop, Option, Some, None, slice_index, refl, sym, ◌∙◌, ap, subst, arith, length-drop, get_or-drop, drop-drop}
+use Rattle.std.proofs.Common.{◌≡◌, ◌≢◌, ℕ, ◌+◌, ◌-◌, ◌<◌, ◌≤◌, false, List, [], ◌∷◌, length, take, drop, slice_index, refl, sym, ◌∙◌, ap, subst, arith, length-drop, get_or-drop, drop-drop}
 use Rattle.gn_tokens.specs.declared.token.TokenKind.{TokenKind}
 use Rattle.gn_tokens.specs.Bytes.{is_white}
 use Rattle.gn_tokens.specs.Number.{IsBadRun, run_len}
 use Rattle.gn_tokens.specs.Text.{IsOpen, IsBadDollarBehind}
 use Rattle.gn_tokens.specs.Token.{IsGap, IsToken}
 use Rattle.gn_tokens.specs.Front.{Front, Found, WrongByte, WrongNumber, NotClosed, WrongDollar, gap_len, front_of}
-use Rattle.gn_tokens.specs.Next.{Reader, IsNext, IsNextToken, IsBadByte, IsBadNumber, IsOpenString, IsBadDollar, IsOnlyGap, front_answer, answer, next_token}
+use Rattle.gn_tokens.specs.Next.{Reader, IsNext, front_answer, answer, next_token}
 use Rattle.gn_tokens.proofs.Gaps.{gap_front, gap_whole, gap_stops}
 use Rattle.gn_tokens.proofs.Longest.{IsFront, front_is, IsAtMost, at_most, NoToken, bad_run_no_token}
 

@@ -1,11 +1,10 @@
 -- Integers: the function finds the runs of digits that are one.
-use Rattle.std.proofs.Common.{◌≡◌, ◌≢◌, ◌⊎◌, ℕ, zero, suc, ◌+◌, ◌-◌, ◌<◌, ◌≤◌, ◌^◌, Bool, true, false, not, ◌&&◌, ◌||◌, IsTrue, eqb, ◌==◌, nat_le, leb, if◌then◌else◌, List, [], ◌∷◌, ◌++◌, length, take, drop, Option, Some, None, refl, sym, ◌∙◌, ap, subst, inl, inr, arith, All, length-take-le, take-append-drop, take_at, drop_at}
+use Rattle.std.proofs.Common.{◌≡◌, ◌≢◌, ℕ, zero, suc, ◌-◌, ◌≤◌, ◌^◌, Bool, true, false, not, ◌&&◌, IsTrue, ◌==◌, nat_le, if◌then◌else◌, List, [], ◌∷◌, ◌++◌, length, take, drop, Option, Some, None, refl, sym, ◌∙◌, ap, subst, inl, inr, arith, All, length-take-le, take-append-drop, take_at, drop_at}
 use Rattle.std.specs.List.{prefix_len}
 use Rattle.std.proofs.lemmas.Bool.{cases_Bool}
 use Rattle.std.proofs.lemmas.Bool.Decides.{eqb_tells, leb_tells, nat_tests}
-use Rattle.std.proofs.lemmas.List.Elements.{All-cons, All-tail}
 use Rattle.std.proofs.lemmas.List.Sums.{prefix_len-le-length}
-use Rattle.gn_tokens.specs.Bytes.{is_letter, is_digit, begins, begins_with}
+use Rattle.gn_tokens.specs.Bytes.{is_letter, is_digit, begins}
 use Rattle.gn_tokens.specs.Number.{decimal, IsDigits, IsNumeral, IsInteger, IsRun, IsBadRun, begins_run, run_len, is_magnitude, is_integer, integer_len}
 use Rattle.gn_tokens.proofs.Words.{and_left, and_right, or_true, not_true, all_in_front, passing, all_pass, behind_fails}
 
@@ -38,9 +37,10 @@ run_here (b ∷ w) rest (inr (ds, e, h)) stop =
     let first : b ≡ 45 = cc in
     let same : w ≡ ds = cc in
     let digits : IsDigits w = subst IsDigits (sym same) h in
-    let begin : begins is_digit (w ++ rest) ≡ true = digits_begin w rest digits in
-    (subst (λ x. begins_run (x ∷ (w ++ rest)) ≡ true) (sym first) begin,
-      subst (λ x. run_len (x ∷ (w ++ rest)) ≡ suc (length w)) (sym first) (ap suc (all_in_front is_digit w rest (digits_all w digits) stop)))
+    let begin : begins is_digit (w ++ rest) ≡ true = digits_begin w rest digits in (
+      subst (λ x. begins_run (x ∷ (w ++ rest)) ≡ true) (sym first) begin,
+      subst (λ x. run_len (x ∷ (w ++ rest)) ≡ suc (length w)) (sym first) (ap suc (all_in_front is_digit w rest (digits_all w digits) stop)),
+    )
 
 -- A run is no more than the one at the front.
 pub run_at_most : (m : ℕ) (bs : List ℕ) → m ≤ length bs → IsRun (take m bs) → (begins_run bs ≡ true) × (1 ≤ m) × (m ≤ run_len bs)
@@ -114,11 +114,14 @@ magnitude_sound is_negative d ds digits h = elim (eqb_tells d 48) [
       let plain : is_negative ≡ false = not_true is_negative (and_right (nat_le (length (d ∷ ds)) 1) (not is_negative) both) in
       ((digits, λ _. none), omega (arith, one_zero d ds e.1 none), λ n. absurd cc)
   | inr e ↦
-      let fits : nat_le (decimal (d ∷ ds)) (limit is_negative) ≡ true = rw e.0 at h in
-      ((digits, λ z. absurd (e.1 z)), elim (leb_tells (decimal (d ∷ ds)) (limit is_negative)) [
-        | inl l ↦ l.1
-        | inr l ↦ absurd (let k = l.0 in cc)
-      ], λ _ z. e.1 cc)
+      let fits : nat_le (decimal (d ∷ ds)) (limit is_negative) ≡ true = rw e.0 at h in (
+        (digits, λ z. absurd (e.1 z)),
+        elim (leb_tells (decimal (d ∷ ds)) (limit is_negative)) [
+          | inl l ↦ l.1
+          | inr l ↦ absurd (let k = l.0 in cc)
+        ],
+        λ _ z. e.1 cc,
+      )
 ]
 
 magnitude_complete : (is_negative : Bool) (d : ℕ) (ds : List ℕ) → IsNumeral (d ∷ ds) → decimal (d ∷ ds) ≤ limit is_negative → (is_negative ≡ true → (d ∷ ds) ≢ 48 ∷ []) → is_magnitude is_negative (d ∷ ds) ≡ true
@@ -192,14 +195,16 @@ bad_run_here bs len bad =
     let whole : take len bs ++ drop len bs ≡ bs = take-append-drop len bs in
     let here = run_here (take len bs) (drop len bs) bad.run bad.whole in
     let begin : begins_run bs ≡ true = subst (λ x. begins_run x ≡ true) whole here.0 in
-    let size : run_len bs ≡ len = ap run_len (sym whole) ∙ here.1 ∙ length-take-le len bs bad.within in
-    (begin, rw (begin, size) (elim bad.bad [
-      | inl never ↦ elim (cases_Bool (is_integer (take len bs))) [
-        | inl i ↦ absurd (never (integer_sound (take len bs) bad.run i))
-        | inr i ↦ rw i refl
-      ]
-      | inr letter ↦ rw letter (elim (cases_Bool (is_integer (take len bs))) [
-        | inl i ↦ rw i refl
-        | inr i ↦ rw i refl
-      ])
-    ]))
+    let size : run_len bs ≡ len = ap run_len (sym whole) ∙ here.1 ∙ length-take-le len bs bad.within in (
+      begin,
+      rw (begin, size) (elim bad.bad [
+        | inl never ↦ elim (cases_Bool (is_integer (take len bs))) [
+          | inl i ↦ absurd (never (integer_sound (take len bs) bad.run i))
+          | inr i ↦ rw i refl
+        ]
+        | inr letter ↦ rw letter (elim (cases_Bool (is_integer (take len bs))) [
+          | inl i ↦ rw i refl
+          | inr i ↦ rw i refl
+        ])
+      ]),
+    )

@@ -1,9 +1,9 @@
 -- Strings: the functions read their items.
-use Rattle.std.proofs.Common.{◌≡◌, ◌≢◌, ◌⊎◌, ℕ, zero, suc, ◌+◌, ◌-◌, ◌<◌, ◌≤◌, Bool, true, false, not, ◌&&◌, ◌||◌, IsTrue, eqb, ◌==◌, if◌then◌else◌, List, [], ◌∷◌, ◌++◌, length, take, drop, Option, Some, None, refl, sym, ◌∙◌, ap, subst, inl, inr, arith, All, length-append, append_assoc, take-append-drop, drop_at, drop-drop}
+use Rattle.std.proofs.Common.{◌≡◌, ◌≢◌, ◌⊎◌, ℕ, zero, suc, ◌+◌, ◌-◌, ◌<◌, ◌≤◌, true, false, IsTrue, ◌==◌, List, [], ◌∷◌, ◌++◌, length, drop, Option, Some, None, refl, sym, ◌∙◌, ap, subst, inl, inr, arith, length-append, drop_at, drop-drop}
 use Rattle.std.proofs.lemmas.Bool.{cases_Bool}
 use Rattle.std.proofs.lemmas.Bool.Decides.{eqb_tells, nat_tests}
 use Rattle.std.proofs.lemmas.List.Elements.{All-cons, All-tail, All-nil}
-use Rattle.gn_tokens.specs.Bytes.{is_escapable, begins, begins_with}
+use Rattle.gn_tokens.specs.Bytes.{is_escapable, begins}
 use Rattle.gn_tokens.specs.Text.{Item, Plain, Escape, Hex, Variable, Braced, Element, Field, item_bytes, IsExpansion, IsLone, IsItem, Reads, AllExpand, expands, is_stop, text_len, further, first_bad, expansion_item, front_item, items_from, text_items}
 use Rattle.gn_tokens.proofs.Expansions.{is_ordinary, AllOrdinary, Splits, expands_sound, expands_complete, behind_first, expansion_ordinary, dollar_first}
 
@@ -25,7 +25,7 @@ len_over (b ∷ chunk) rest h =
     let more = len_over chunk rest (All-tail (λ c. IsTrue (is_ordinary c)) b chunk h) in
     rw (ordinary_not_stop b first, ordinary_not_backslash b first) (omega (arith, more))
 
-further_more : (n : ℕ) (x : Option ℕ) → further 1 (further n x) ≡ further (suc n) x
+pub further_more : (n : ℕ) (x : Option ℕ) → further 1 (further n x) ≡ further (suc n) x
 further_more n None = refl
 further_more n (Some i) = ap Some (omega arith)
 
@@ -33,7 +33,7 @@ further_none : (x : Option ℕ) → further 0 x ≡ x
 further_none None = refl
 further_none (Some i) = ap Some (omega arith)
 
-bad_over : (chunk rest : List ℕ) → AllOrdinary chunk → first_bad false (chunk ++ rest) ≡ further (length chunk) (first_bad false rest)
+pub bad_over : (chunk rest : List ℕ) → AllOrdinary chunk → first_bad false (chunk ++ rest) ≡ further (length chunk) (first_bad false rest)
 bad_over [] rest h = sym (further_none (first_bad false rest))
 bad_over (b ∷ chunk) rest h =
     let first : is_ordinary b ≡ true = h 0 0 (omega arith) in
@@ -45,11 +45,11 @@ len_no_escape : (bs : List ℕ) → begins is_escapable bs ≡ false → text_le
 len_no_escape [] h = refl
 len_no_escape (b ∷ bs) h = rw h refl
 
-bad_no_escape : (bs : List ℕ) → begins is_escapable bs ≡ false → first_bad true bs ≡ first_bad false bs
+pub bad_no_escape : (bs : List ℕ) → begins is_escapable bs ≡ false → first_bad true bs ≡ first_bad false bs
 bad_no_escape [] h = refl
 bad_no_escape (b ∷ bs) h = rw h refl
 
-items_skip : (n : ℕ) (bs : List ℕ) → items_from n bs ≡ items_from 0 (drop n bs)
+pub items_skip : (n : ℕ) (bs : List ℕ) → items_from n bs ≡ items_from 0 (drop n bs)
 items_skip zero bs = refl
 items_skip (suc n) [] = refl
 items_skip (suc n) (b ∷ bs) = items_skip n bs
@@ -193,9 +193,16 @@ good_item item items h more = All-cons (λ x. x ≢ Plain 36) item items h more
 
 judged_none : (b : ℕ) (bs rest : List ℕ) (item : Item) → (s : IsStep b bs item) → item ≢ Plain 36 → (found : Option ℕ) → IsJudged s.later rest found → IsJudged (b ∷ bs) rest (further (length (item_bytes item)) found)
 judged_none b bs rest item s good None h = subst AllExpand (sym s.items) (good_item item (text_items s.later) good h)
-judged_none b bs rest item s good (Some at) (before, dollar, later, reads, fine, lone, closes, size) =
-    (item ∷ before, dollar, later, (s.later, s.bytes, s.is_item, reads), good_item item before good fine, lone, closes,
-      omega (arith, ap length s.bytes, length-append (item_bytes item) s.later, size))
+judged_none b bs rest item s good (Some at) (before, dollar, later, reads, fine, lone, closes, size) = (
+  item ∷ before,
+  dollar,
+  later,
+  (s.later, s.bytes, s.is_item, reads),
+  good_item item before good fine,
+  lone,
+  closes,
+  omega (arith, ap length s.bytes, length-append (item_bytes item) s.later, size),
+)
 
 judged_lone : (b : ℕ) (bs rest : List ℕ) (item : Item) → (s : IsStep b bs item) → item ≡ Plain 36 → IsRead s.later rest → IsJudged (b ∷ bs) rest (Some 0)
 judged_lone b bs rest item s e inner =
@@ -225,7 +232,7 @@ read (suc k) (b ∷ bs) h = elim (cases_Bool (is_stop b)) [
       let n = text_len false s.later in
       let inner : IsRead s.later (drop n s.later) = read k s.later (omega (arith, s.shorter)) in
       let same : drop (text_len false (b ∷ bs)) (b ∷ bs) ≡ drop n s.later =
-        ap (λ x. drop x (b ∷ bs)) (s.len ∙ omega arith) ∙ sym (drop-drop n (length (item_bytes item)) (b ∷ bs))
-        ∙ ap (λ x. drop n (drop (length (item_bytes item)) x)) s.bytes ∙ ap (drop n) (drop_at (item_bytes item) s.later (length (item_bytes item)) refl) in
+      ap (λ x. drop x (b ∷ bs)) (s.len ∙ omega arith) ∙ sym (drop-drop n (length (item_bytes item)) (b ∷ bs))
+      ∙ ap (λ x. drop n (drop (length (item_bytes item)) x)) s.bytes ∙ ap (drop n) (drop_at (item_bytes item) s.later (length (item_bytes item)) refl) in
       subst (λ x. IsRead (b ∷ bs) x) (sym same) (read_step b bs (drop n s.later) item s inner)
 ]

@@ -1,10 +1,10 @@
 -- Words: how far they go, and which of them are identifiers.
-use Rattle.std.proofs.Common.{◌≡◌, ◌≢◌, ◌⊎◌, ℕ, zero, suc, ◌+◌, ◌<◌, ◌≤◌, Bool, true, false, not, ◌&&◌, ◌||◌, IsTrue, eqb, ◌==◌, if◌then◌else◌, List, [], ◌∷◌, ◌++◌, length, take, drop, codes, refl, sym, ◌∙◌, ap, subst, inl, inr, arith, All, length-take, get_or-take, take-append-drop, drop_at, take_at, get_or}
+use Rattle.std.proofs.Common.{◌≡◌, ◌≢◌, ◌⊎◌, ℕ, zero, suc, ◌+◌, ◌<◌, ◌≤◌, Bool, true, false, not, ◌&&◌, ◌||◌, IsTrue, ◌==◌, List, [], ◌∷◌, ◌++◌, length, take, drop, codes, refl, sym, ap, inl, inr, arith, All, length-take, get_or-take, take-append-drop, drop_at, take_at}
 use Rattle.std.specs.List.{prefix_len}
 use Rattle.std.proofs.lemmas.Bool.{cases_Bool}
 use Rattle.std.proofs.lemmas.Bool.Decides.{eqb_tells, nat_tests}
 use Rattle.std.proofs.lemmas.List.Elements.{All-cons, All-tail}
-use Rattle.std.proofs.lemmas.List.Sums.{prefix_len_passes, prefix_len-le-length}
+use Rattle.std.proofs.lemmas.List.Sums.{prefix_len_passes}
 use Rattle.gn_tokens.specs.Bytes.{is_letter, is_word_byte, begins, begins_with, IsWord, IsIdentifier, front_word, past_word, is_text, is_reserved, is_name}
 
 pub and_left : (x y : Bool) → (x && y) ≡ true → x ≡ true
@@ -101,13 +101,15 @@ is_text_same (x ∷ c) (b ∷ w) h = elim (eqb_tells b x) [
 
 -- A word that is not reserved.
 pub is_identifier : (w : List ℕ) → IsWord w → is_reserved w ≡ false → IsIdentifier w
-is_identifier w h free = (h,
-    λ e. (let t : is_reserved w ≡ true = ap is_reserved e in cc),
-    λ e. (let t : is_reserved w ≡ true = ap is_reserved e in cc),
-    λ e. (let t : is_reserved w ≡ true = ap is_reserved e in cc),
-    λ e. (let t : is_reserved w ≡ true = ap is_reserved e in cc))
+is_identifier w h free = (
+  h,
+  λ e. (let t : is_reserved w ≡ true = ap is_reserved e in cc),
+  λ e. (let t : is_reserved w ≡ true = ap is_reserved e in cc),
+  λ e. (let t : is_reserved w ≡ true = ap is_reserved e in cc),
+  λ e. (let t : is_reserved w ≡ true = ap is_reserved e in cc),
+)
 
-not_text : (c w : List ℕ) → w ≢ c → is_text c w ≡ false
+pub not_text : (c w : List ℕ) → w ≢ c → is_text c w ≡ false
 not_text c w ne = elim (cases_Bool (is_text c w)) [
   | inl h ↦ absurd (ne (is_text_same c w h))
   | inr h ↦ h

@@ -1,5 +1,5 @@
 -- The tokens of a file, one after the other.
-use Rattle.std.specs.Prelude.{ℕ, zero, suc, ◌+◌, ◌-◌, List, length, Option, Some, None, Result, Ok, Err}
+use Rattle.std.specs.Prelude.{ℕ, zero, suc, ◌+◌, ◌-◌, List, [], ◌∷◌, length, Option, Some, None, Result, Ok, Err}
 use Rattle.gn_tokens.specs.declared.token.Token.{Token}
 use Rattle.gn_tokens.specs.declared.token.TokenError.{TokenError}
 use Rattle.gn_tokens.specs.Next.{Reader, next_token}
@@ -9,6 +9,18 @@ pub data Stream : Type 0 where
   Ends : Stream
   Fails : (error : TokenError) → Stream
   Gives : (token : Token) → (later : Stream) → Stream
+
+-- its tokens
+abbrev pub stream_tokens : Stream → List Token
+stream_tokens Ends = []
+stream_tokens (Fails error) = []
+stream_tokens (Gives token later) = token ∷ stream_tokens later
+
+-- the error behind its tokens, or none where the file ends there
+abbrev pub stream_error : Stream → Option TokenError
+stream_error Ends = None
+stream_error (Fails error) = Some error
+stream_error (Gives token later) = stream_error later
 
 -- the answer of a reader, and what comes behind it
 abbrev pub stream_with : Result (Option Token) TokenError → Stream → Stream

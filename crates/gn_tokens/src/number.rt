@@ -1,9 +1,9 @@
 //! Integers.
 
-ghost use Rattle.std.specs.Prelude.{◌≡◌, ◌+◌, ◌<◌, ◌≤◌, ◌^◌, length, drop, pos, neg_ℤ, Bool, true, false, not, ◌&&◌, IfSome, MatchOption, IsTrue};
+ghost use Rattle.std.specs.Prelude.{◌≡◌, ◌<◌, ◌≤◌, ◌^◌, length, pos, neg_ℤ, IfSome, MatchOption};
 ghost use Rattle.std.specs.List.{prefix_len};
 ghost use Rattle.gn_tokens.specs.Bytes.{is_digit, begins};
-ghost use Rattle.gn_tokens.specs.Number.{decimal, decimal_from, integer_value, begins_run, run_len, is_magnitude, is_integer, integer_len, IsInteger};
+ghost use Rattle.gn_tokens.specs.Number.{decimal, integer_value, begins_run, run_len, is_magnitude, is_integer, integer_len};
 ghost use Rattle.gn_tokens.specs.Token.{IsToken};
 
 use crate::token::TokenKind;
@@ -95,5 +95,38 @@ pub(crate) fn integer_at_front(bytes: &[u8]) -> Option<usize>
         Some(n)
     } else {
         None
+    }
+}
+
+/// The value of an integer token, by its bytes.
+#[tactic(auto, using(crate::proofs::Numbers::integer_complete))]
+pub fn integer_value(bytes: &[u8]) -> i64
+    requires { IsToken TokenKind.Integer bytes.now }
+    ensures { result ≡ integer_value bytes.now }
+{
+    match bytes {
+        [b'-', digits @ ..] => negative_value(digits),
+        _ => positive_value(bytes),
+    }
+}
+
+fn negative_value(digits: &[u8]) -> i64
+    requires { decimal digits.now ≤ 2 ^ 63 }
+    ensures { result ≡ neg_ℤ (pos (decimal digits.now)) }
+{
+    match magnitude(digits) {
+        Some(9223372036854775808) => i64::MIN,
+        Some(n) => -(n as i64),
+        None => unreachable!(),
+    }
+}
+
+fn positive_value(digits: &[u8]) -> i64
+    requires { decimal digits.now < 2 ^ 63 }
+    ensures { result ≡ pos (decimal digits.now) }
+{
+    match magnitude(digits) {
+        Some(n) => n as i64,
+        None => unreachable!(),
     }
 }
