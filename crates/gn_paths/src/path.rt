@@ -48,6 +48,14 @@ impl Path {
         })
     }
 
+    /// The path of a text in normal form, which takes no memory.
+    pub fn from_normal(text: Text) -> Path
+        requires { IsNormal text }
+        ensures { result ≡ text }
+    {
+        Path { text }
+    }
+
     /// The bytes of the path.
     pub fn as_bytes(&self) -> &[u8]
         ensures value { result.now ≡ self.now }
