@@ -1,5 +1,10 @@
 // The tree of a file. Each recursion goes through a small struct that contracts see as a tree of its own.
 
+ghost use Rattle.std.specs.Prelude.{◌≡◌, IfOk, length};
+ghost use Rattle.gn_tree.specs.Views.{expr_of, exprs_of, condition_of, block_of};
+ghost use Rattle.gn_tree.specs.Counts.{expr_count, statement_count};
+ghost use Rattle.gn_tree.specs.FirstPosition.{first_position};
+
 use crate::operator::{AssignOp, BinaryOp};
 use crate::piece::Pieces;
 use crate::position::Position;
@@ -309,4 +314,110 @@ impl Model for Block {
     ghost use Rattle.gn_tree.specs.Falls.{block_falls};
 
     ghost size_decreases = { λ a h. omega (arith, block_falls a.statements.value.items) };
+}
+
+impl Expr {
+    /// Where the first token of the expression stands.
+    pub fn first_position(&self) -> Position
+        ensures { result ≡ first_position (expr_of self.now) }
+    {
+        let mut expr = self;
+        'left: loop {
+            match expr {
+                Expr::Binary { left, .. } => expr = left.get(),
+                Expr::Call(call) => return call.position,
+                Expr::Name { position, .. }
+                | Expr::Integer { position, .. }
+                | Expr::String { position, .. }
+                | Expr::Boolean { position, .. }
+                | Expr::Item { position, .. }
+                | Expr::Entry { position, .. }
+                | Expr::Scope { position, .. }
+                | Expr::Parentheses { position, .. }
+                | Expr::List { position, .. }
+                | Expr::Not { position, .. } => return *position,
+            }
+        }
+    }
+}
+
+impl SubExpr {
+    /// A new part of an expression.
+    pub fn new(alloc: Global, expr: Expr) -> Result<SubExpr, AllocError>
+        ensures { IfOk result (λ s. s ≡ expr_of expr) }
+    {
+        Ok(SubExpr {
+            expr: Box::new(alloc, expr)?,
+        })
+    }
+
+    /// The expression.
+    pub fn get(&self) -> &Expr
+        ensures { expr_of result.now ≡ self.now }
+    {
+        &self.expr
+    }
+}
+
+impl Exprs {
+    /// These expressions in their order, which takes no memory.
+    pub fn from_vec(exprs: Vec<Expr>) -> Exprs
+        ensures { result ≡ exprs_of exprs.items }
+    {
+        Exprs { exprs }
+    }
+
+    /// The expressions, in order.
+    pub fn as_slice(&self) -> &[Expr]
+        ensures exprs { exprs_of result.now ≡ self.now }
+        ensures count { length result.now ≡ expr_count self.now }
+    {
+        self.exprs.as_slice()
+    }
+}
+
+impl SubCondition {
+    /// A new condition behind an `else`.
+    pub fn new(alloc: Global, condition: Condition) -> Result<SubCondition, AllocError>
+        ensures { IfOk result (λ s. s ≡ condition_of condition) }
+    {
+        Ok(SubCondition {
+            condition: Box::new(alloc, condition)?,
+        })
+    }
+
+    /// The condition.
+    pub fn get(&self) -> &Condition
+        ensures { condition_of result.now ≡ self.now }
+    {
+        &self.condition
+    }
+}
+
+impl Block {
+    /// A new block of these statements in their order.
+    pub fn new(alloc: Global, statements: Vec<Statement>) -> Result<Block, AllocError>
+        ensures { IfOk result (λ b. b ≡ block_of statements.items) }
+    {
+        Ok(Block {
+            statements: Arc::new(alloc, statements)?,
+        })
+    }
+
+    /// The statements, in order.
+    pub fn statements(&self) -> &[Statement]
+        ensures statements { block_of result.now ≡ self.now }
+        ensures count { length result.now ≡ statement_count self.now }
+    {
+        self.statements.as_slice()
+    }
+
+    /// The same block once more. Nothing of it is copied.
+    pub fn share(&self) -> Result<Block, AllocError>
+        ensures { IfOk result (λ b. b ≡ self.now) }
+    {
+        Ok(Block {
+            statements: self.statements.clone()?,
+        })
+    }
 }
