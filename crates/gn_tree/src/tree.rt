@@ -112,7 +112,6 @@ pub enum Expr {
 
 /// An expression inside another one.
 #[cycle(tree)]
-#[derive(Drop)]
 pub struct SubExpr {
     expr: Box<Expr>,
 }
@@ -356,6 +355,23 @@ impl SubExpr {
         ensures { expr_of result.now ≡ self.now }
     {
         &self.expr
+    }
+}
+
+// A drop calls itself for each node on the way down. The limit of 200 on the nesting of a token counts each bracket,
+// `!`, right operand and `else if` on that way, and between two of these lie at most five calls. It doesn't count
+// left operands: each of 200 brackets can be the leftmost operand of some 200 operators, which makes a tree of over
+// 20,000 nodes on one way down. So this drop goes down left operands in a loop, and the stack stays small.
+impl Drop for SubExpr {
+    #[cycle(tree)]
+    fn drop(mut self) {
+        'left: loop {
+            let SubExpr { expr } = self;
+            match Box::into_inner(expr) {
+                Expr::Binary { left, .. } => self = left,
+                _ => return,
+            }
+        }
     }
 }
 
