@@ -18,6 +18,8 @@ pub statement_count-block_of : (ss : List Statement) → statement_count (block_
 statement_count-block_of [] = refl
 statement_count-block_of (s ∷ ss) = ap suc (statement_count-block_of ss)
 
+pub ruleset counts = (expr_count-exprs_of, statement_count-block_of)
+
 -- one list behind another
 pub exprs_of-append : (es fs : List Expr) → exprs_of (es ++ fs) ≡ exprs_append (exprs_of es) (exprs_of fs)
 exprs_of-append [] fs = refl

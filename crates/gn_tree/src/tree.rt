@@ -384,6 +384,7 @@ impl Exprs {
     }
 
     /// The expressions, in order.
+    #[tactic(auto, using(crate::proofs::Lists::counts))]
     pub fn as_slice(&self) -> &[Expr]
         ensures exprs { exprs_of result.now ≡ self.now }
         ensures count { length result.now ≡ expr_count self.now }
@@ -421,6 +422,7 @@ impl Block {
     }
 
     /// The statements, in order.
+    #[tactic(auto, using(crate::proofs::Lists::counts))]
     pub fn statements(&self) -> &[Statement]
         ensures statements { block_of result.now ≡ self.now }
         ensures count { length result.now ≡ statement_count self.now }
