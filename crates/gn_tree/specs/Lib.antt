@@ -1,0 +1,9 @@
+pub mod Tree
+pub mod Depth
+pub mod Counts
+pub mod Appended
+pub mod FirstPosition
+pub mod PartsCode
+pub mod Code
+pub mod Views
+pub mod Falls
