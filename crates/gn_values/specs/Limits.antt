@@ -1,5 +1,5 @@
 -- How large values may be.
-use Rattle.std.specs.Prelude.{ℕ, ◌≤◌, List, length}
+use Rattle.std.specs.Prelude.{ℕ, ◌≤◌, Bool, ◌&&◌, nat_le, List, length}
 use Rattle.gn_values.specs.Val.{Val, list_depth, scope_depth, IsSortedByName}
 
 -- a value nests at most this deep
@@ -13,6 +13,18 @@ max_items = 1048576
 -- a string has at most this many bytes
 abbrev pub max_bytes : ℕ
 max_bytes = 16777216
+
+-- whether these bytes may be a string
+abbrev pub text_fits : List ℕ → Bool
+text_fits text = nat_le (length text) max_bytes
+
+-- whether these values may be the items of a list
+abbrev pub list_fits : List Val → Bool
+list_fits vs = nat_le (list_depth vs) max_depth && nat_le (length vs) max_items
+
+-- whether these entries may be those of a scope
+abbrev pub scope_fits : List (List ℕ × Val) → Bool
+scope_fits bs = nat_le (scope_depth bs) max_depth
 
 -- what is so of every list
 pub record IsList (vs : List Val) : Type 0 where

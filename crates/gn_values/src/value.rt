@@ -1,10 +1,16 @@
 // Values of the language.
 
-ghost use Rattle.std.specs.Prelude.{◌≡◌, ◌↔◌, IsTrue, IfOk};
+ghost use Rattle.std.specs.Prelude.{◌≡◌, ◌↔◌, ◌≤◌, IsTrue, IfOk};
+ghost use Rattle.gn_values.specs.Val.{depth_of};
+ghost use Rattle.gn_values.specs.Limits.{max_depth};
 ghost use Rattle.gn_values.specs.View.{val_of, entry_of};
 
+mod difference;
+mod list_items;
+mod scope_entries;
+mod sums;
+
 use gn_paths::Text;
-use std::alloc::{AllocError, Global};
 use std::marker::Model;
 
 /// A value of the language. Two values are equal where type and content are equal.
@@ -102,6 +108,18 @@ impl Model for Entries {
 }
 
 impl Value {
+    /// How deep the value nests, at most `MAX_DEPTH`, without a walk.
+    pub fn depth(&self) -> usize
+        ensures value { result ≡ depth_of (val_of self.now) }
+        ensures limit { result ≤ max_depth }
+    {
+        match self {
+            Value::List(items) => items.depth(),
+            Value::Scope(entries) => entries.depth(),
+            _ => 0,
+        }
+    }
+
     /// Whether type and content are equal. It takes no memory, and time linear in the lesser value.
     #[cycle(same)]
     pub fn same(&self, other: &Value) -> bool
