@@ -5,4 +5,5 @@ pub mod Equal
 pub mod Operators
 pub mod View
 pub mod Search
+pub mod Text
 pub mod Falls

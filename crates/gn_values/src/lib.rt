@@ -12,4 +12,4 @@ pub use comparison::Compare;
 pub use error::ValueError;
 pub use limits::{MAX_BYTES, MAX_DEPTH, MAX_ITEMS, append_text};
 pub use operators::{add, compare, index, subtract};
-pub use value::{Entries, Entry, Items, Value};
+pub use value::{Entries, Entry, Items, Value, print_text};

@@ -7,10 +7,13 @@ ghost use Rattle.gn_values.specs.View.{val_of, entry_of};
 
 mod difference;
 mod list_items;
+mod print;
 mod scope_entries;
 mod sums;
 
 use gn_paths::Text;
+pub use print::print_text;
+use std::alloc::{AllocError, Global};
 use std::marker::Model;
 
 /// A value of the language. Two values are equal where type and content are equal.
