@@ -1,8 +1,8 @@
 -- Loops that ask a question of each item, which they see by a view.
-use Rattle.std.proofs.Common.{◌≡◌, ℕ, zero, suc, ◌+◌, ◌<◌, ◌≤◌, Bool, true, false, cond, ◌||◌, ◌&&◌, not, List, [], ◌∷◌, ◌++◌, length, get_or, take, map, filter, refl, sym, ap, ◌∙◌, subst, arith, max}
+use Rattle.std.proofs.Common.{◌≡◌, ℕ, zero, suc, ◌+◌, ◌<◌, ◌≤◌, Bool, true, false, cond, ◌||◌, ◌&&◌, not, List, [], ◌∷◌, ◌++◌, length, get_or, take, map, filter, refl, sym, ap, ◌∙◌, arith, max}
 use Rattle.std.specs.List.{list_any, list_all}
-use Rattle.std.proofs.lemmas.List.{take_more, get_or-map, length-take}
-use Rattle.gn_values.specs.Val.{Val, Vals, vals_of, depth_of, deepest_item, list_depth}
+use Rattle.std.proofs.lemmas.List.{take_more, get_or-map}
+use Rattle.gn_values.specs.Val.{Val, vals_of, depth_of, deepest_item}
 use Rattle.gn_values.specs.Limits.{IsList, list_fits}
 use Rattle.gn_values.specs.Operators.{is_among, without}
 use Rattle.gn_values.specs.View.{val_of}

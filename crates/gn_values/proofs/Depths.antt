@@ -1,10 +1,10 @@
 -- How deep lists and scopes nest, and what is within the limits.
-use Rattle.std.proofs.Common.{◌≡◌, ◌≢◌, ℕ, ◌+◌, ◌<◌, ◌≤◌, max, suc, Bool, true, false, IsTrue, nat_lt, List, [], ◌∷◌, ◌++◌, length, map, refl, sym, ap, ◌∙◌, subst, arith, rules}
+use Rattle.std.proofs.Common.{◌≡◌, ℕ, ◌+◌, ◌<◌, ◌≤◌, max, true, false, nat_lt, List, [], ◌∷◌, ◌++◌, length, sym, ap, ◌∙◌, subst, arith}
 use Rattle.std.proofs.lemmas.List.{map-append, length-map, length-append}
 use Rattle.std.proofs.lemmas.Bool.Decides.{nat_tests}
-use Rattle.gn_values.specs.Val.{Val, Vals, vals_of, binds_of, depth_of, deepest_item, deepest_entry, list_depth, scope_depth}
-use Rattle.gn_values.specs.Limits.{max_depth, max_items, list_fits, scope_fits, IsList, IsScope}
-use Rattle.gn_values.specs.View.{val_of, vals_in, KeepsItems, KeepsEntries}
+use Rattle.gn_values.specs.Val.{Val, vals_of, depth_of, deepest_item}
+use Rattle.gn_values.specs.Limits.{max_items, list_fits, IsList}
+use Rattle.gn_values.specs.View.{val_of, vals_in, KeepsItems}
 use Rattle.gn_values.specs.declared.value.Value.{Value}
 
 pub deepest_item-append : (vs ws : List Val) → deepest_item (vals_of (vs ++ ws)) ≡ max (deepest_item (vals_of vs)) (deepest_item (vals_of ws))

@@ -1,8 +1,8 @@
 -- The operators on lists and scopes, over the lists that contracts see.
-use Rattle.std.proofs.Common.{◌≡◌, ℕ, ℤ, Bool, true, false, cond, List, ◌++◌, ◌≢◌, IsTrue, OnOk, IfErr, Result, Ok, Err, refl, sym, ap, ◌∙◌}
+use Rattle.std.proofs.Common.{◌≡◌, ℕ, ℤ, true, false, cond, List, ◌++◌, ◌≢◌, IsTrue, OnOk, IfErr, Result, Ok, Err, refl, sym, ap, ◌∙◌}
 use Rattle.std.specs.List.{list_all}
 use Rattle.std.specs.Option.{ok_or}
-use Rattle.gn_values.specs.Val.{Val, vlist, vscope, vint, vstr, vals_of, list_of, binds_of, entries_of}
+use Rattle.gn_values.specs.Val.{Val, vlist, vscope, vint, vstr, vals_of, binds_of}
 use Rattle.gn_values.specs.Operators.{sum_of, difference_of, element_of, item_at, value_at, is_among, without, list_value}
 use Rattle.gn_values.specs.declared.error.ValueError.TheVariants.{NotInList, Undefined, TooLong, Memory}
 use Rattle.gn_values.specs.declared.error.ValueError.{ValueError}

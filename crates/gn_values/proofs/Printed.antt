@@ -1,7 +1,7 @@
 -- The texts of lists and scopes with one more item.
-use Rattle.std.proofs.Common.{◌≡◌, ℕ, zero, suc, ◌+◌, ◌<◌, Bool, false, cond, ◌==◌, List, [], ◌∷◌, ◌++◌, length, get_or, take, map, codes, refl, sym, ap, ◌∙◌, append_assoc, append-nil, arith}
+use Rattle.std.proofs.Common.{◌≡◌, ℕ, zero, suc, ◌+◌, ◌<◌, false, cond, ◌==◌, List, [], ◌∷◌, ◌++◌, length, get_or, take, map, codes, sym, ap, ◌∙◌, append_assoc, append-nil, arith}
 use Rattle.std.proofs.lemmas.Bool.Decides.{nat_tests}
-use Rattle.gn_values.specs.Val.{Val, vals_of, binds_of, Vals, Binds}
+use Rattle.gn_values.specs.Val.{Val, vals_of, binds_of}
 use Rattle.gn_values.specs.Text.{inner_text, items_text, further_text, entries_text}
 use Rattle.gn_values.specs.View.{val_of, entry_of}
 use Rattle.gn_values.specs.declared.value.Value.{Value}

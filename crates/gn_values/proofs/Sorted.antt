@@ -1,21 +1,21 @@
 -- Entries in the order of their names: what a search finds, and what setting a name does.
-use Rattle.std.proofs.Common.{◌≡◌, ℕ, zero, suc, ◌+◌, ◌<◌, ◌≤◌, max, Bool, true, false, cond, List, [], ◌∷◌, ◌++◌, length, get_or, take, drop, map, Option, Some, None, Result, Ok, Err, Ordering, refl, sym, ap, ◌∙◌, subst, arith}
-use Rattle.std.specs.Ordering.{nat_cmp, is_eq, ordering_index, ordering_reverse, match_ordering}
+use Rattle.std.proofs.Common.{◌≡◌, ℕ, zero, suc, ◌+◌, ◌<◌, ◌≤◌, cond, List, [], ◌∷◌, length, get_or, Some, None, Ok, Err, Ordering, refl, sym, ap, ◌∙◌, subst, arith}
+use Rattle.std.specs.Ordering.{nat_cmp, is_eq, ordering_index, ordering_reverse}
 use Rattle.std.specs.declared.cmp.Ordering.TheVariants.{Less, Equal, Greater}
 use Rattle.std.specs.Cmp.Lexicographic.{slice_cmp, nat_list_cmp_total, texts_ties}
-use Rattle.std.specs.List.{AllByRecursion, AllWithin, HoldsAt, insert}
+use Rattle.std.specs.List.{AllByRecursion, AllWithin, HoldsAt}
 use Rattle.std.proofs.lemmas.List.{get_or_default}
 use Rattle.std.specs.List.Sorted.{IsStrictlySortedBy, IsNonDecreasingBy, IsPartitionPoint}
 use Rattle.std.specs.Map.{lookup}
-use Rattle.std.specs.BTreeMap.{is_at, insert_entry}
+use Rattle.std.specs.BTreeMap.{is_at}
 use Rattle.std.proofs.lemmas.Slice.Eq.{bytes_eq-Decides}
 use Rattle.gn_values.specs.Search.{IsPlaceOf}
 use Rattle.gn_values.specs.Operators.{value_at}
-use Rattle.gn_values.specs.Val.{Val, IsSortedByName, names_of, binds_of, depth_of, deepest_entry}
-use Rattle.gn_values.specs.View.{val_of, entry_of, entries_in}
+use Rattle.gn_values.specs.Val.{Val, IsSortedByName, names_of}
+use Rattle.gn_values.specs.View.{val_of, entries_in}
 use Rattle.gn_values.specs.declared.value.Entry.{Entry}
 
-abbrev order : List ℕ → List ℕ → Ordering
+abbrev pub order : List ℕ → List ℕ → Ordering
 order = slice_cmp nat_cmp
 
 -- names that the order doesn't tell apart are equal
@@ -25,7 +25,7 @@ tied x y h = (bytes_eq-Decides x y).0 (texts_ties x y ∙ ap is_eq h)
 flipped : (x y : List ℕ) (r : Ordering) → order x y ≡ r → order y x ≡ ordering_reverse r
 flipped x y r h = nat_list_cmp_total.antisymm y x ∙ ap ordering_reverse h
 
-by_answer : {P : Type 0} (r : Ordering) → (r ≡ Less → P) → (r ≡ Equal → P) → (r ≡ Greater → P) → P
+pub by_answer : {P : Type 0} (r : Ordering) → (r ≡ Less → P) → (r ≡ Equal → P) → (r ≡ Greater → P) → P
 by_answer Less a b c = a refl
 by_answer Equal a b c = b refl
 by_answer Greater a b c = c refl

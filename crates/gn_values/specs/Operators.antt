@@ -6,7 +6,7 @@ use Rattle.std.specs.Cmp.Lexicographic.{slice_cmp}
 use Rattle.std.specs.Map.{lookup}
 use Rattle.std.specs.BTreeMap.{is_at, insert_entry}
 use Rattle.std.specs.Fmt.{signed_decimal}
-use Rattle.gn_values.specs.Val.{Val, vbool, vint, vstr, vlist, vscope, vals_of, list_of, entries_of}
+use Rattle.gn_values.specs.Val.{Val, vint, vstr, vlist, vscope, vals_of, list_of, entries_of}
 use Rattle.gn_values.specs.Limits.{text_fits, list_fits}
 use Rattle.gn_values.specs.Equal.{equals}
 use Rattle.gn_values.specs.declared.error.ValueError.{ValueError}

@@ -9,6 +9,7 @@ mod difference;
 mod list_items;
 mod print;
 mod scope_entries;
+pub(crate) mod search;
 mod sums;
 
 use gn_paths::Text;

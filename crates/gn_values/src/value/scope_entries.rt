@@ -1,33 +1,17 @@
-// What is done with the entries of a scope.
+// Entries in the order of their names, and what is done with those of a scope.
 
 ghost use Rattle.std.specs.Prelude.{◌≡◌, ◌≢◌, ◌↔◌, ◌≤◌, [], IsTrue, OnOk, OnErr, IfErr, false, length, map, option_map};
-ghost use Rattle.gn_values.specs.Val.{scope_depth, IsSortedByName};
-ghost use Rattle.gn_values.specs.Operators.{value_at};
-ghost use Rattle.gn_values.specs.Limits.{max_depth, IsScope};
-ghost use Rattle.gn_values.specs.Search.{IsPlaceOf};
+ghost use Rattle.gn_values.specs.Val.{scope_depth};
+ghost use Rattle.gn_values.specs.Operators.{value_at, with_entry};
+ghost use Rattle.gn_values.specs.Limits.{max_depth, scope_fits, IsScope};
 ghost use Rattle.gn_values.specs.View.{val_of, entry_of};
 
+use crate::error::ValueError;
+use crate::limits::MAX_DEPTH;
+use crate::value::search::{depth_of_entries, find_entry, set_entry};
 use crate::value::{Entries, Entry, Value};
+use gn_paths::Text;
 use std::alloc::Global;
-use std::cmp::Ordering;
-
-/// The place of the entry of this name, or the place where it would stand.
-fn find_entry(entries: &[Entry], name: &[u8]) -> Result<usize, usize>
-    requires { IsSortedByName (map entry_of entries.now) }
-    ensures { IsPlaceOf name.now entries.now result }
-{
-    let mut low = 0;
-    let mut high = entries.len();
-    while low < high {
-        let middle = low + (high - low) / 2;
-        match entries[middle].name.as_bytes().cmp(name) {
-            Ordering::Less => low = middle + 1,
-            Ordering::Greater => high = middle,
-            Ordering::Equal => return Ok(middle),
-        }
-    }
-    Err(low)
-}
 
 impl Entries {
     /// The empty scope. It takes no memory.
@@ -79,5 +63,30 @@ impl Entries {
             Ok(at) => Some(&self.entries[at].value),
             Err(_) => None,
         }
+    }
+
+    /// Sets the value of a name. `TooLong` comes exactly where the scope would nest too deep. After
+    /// a refusal the scope is as before, and the value is dropped. A name that stands behind all
+    /// others is added in logarithmic time, any other new name costs a move of those behind it, and
+    /// a new value for a name that was there costs a look at each entry.
+    pub fn set(&mut self, name: Text, value: Value) -> Result<(), ValueError>
+        ensures ok { OnOk result (self.new ≡ with_entry self.old name (val_of value)) }
+        ensures fits { OnOk result (IsTrue (scope_fits self.new)) }
+        ensures too_long { result ≡ Err ValueError.TooLong
+            → scope_fits (with_entry self.old name (val_of value)) ≡ false }
+        ensures only { IfErr result (λ e. e ≢ ValueError.Memory → e ≡ ValueError.TooLong) }
+        ensures err { OnErr result (self.new ≡ self.old) }
+    {
+        if value.depth() >= MAX_DEPTH {
+            return Err(ValueError::TooLong);
+        }
+        let depth = self.depth.max(value.depth() as u8 + 1);
+        let added = set_entry(&mut self.entries, name, value)?;
+        if added {
+            self.depth = depth;
+            return Ok(());
+        }
+        self.depth = depth_of_entries(self.entries.as_slice());
+        Ok(())
     }
 }

@@ -1,4 +1,4 @@
-use Rattle.std.proofs.Common.{◌≡◌, ◌∙◌, sym, ap, Some, None, option_map, FitsSigned, w64, rules}
+use Rattle.std.proofs.Common.{◌≡◌, ◌∙◌, sym, ap, FitsSigned, w64, rules}
 use Rattle.std.specs.Option.{ok_or}
 use Rattle.std.proofs.lemmas.Int.{to_z-of_z}
 use Rattle.gn_values.specs.Operators.{element_of, item_at, value_at}

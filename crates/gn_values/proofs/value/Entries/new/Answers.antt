@@ -1,6 +1,5 @@
-use Rattle.std.proofs.Common.{◌≡◌, [], sym, ap, subst, refl, arith}
+use Rattle.std.proofs.Common.{refl, arith}
 use Rattle.std.specs.List.Sorted.{IsStrictlySortedBy}
-use Rattle.gn_values.specs.View.{KeepsEntries, entries_in}
 use Rattle.gn_values.proofs.value.Entries.new.Goals as goal
 
 pub invariant_of-result : goal.invariant_of-result

@@ -1,4 +1,4 @@
-use Rattle.std.proofs.Common.{◌≡◌, ◌≤◌, ◌+◌, max, length, arith, rules, ap, ◌∙◌, sym, IsTrue}
+use Rattle.std.proofs.Common.{◌≡◌, ◌≤◌, ◌+◌, max, length, arith, rules, ap, ◌∙◌, sym}
 use Rattle.std.proofs.lemmas.List.{length-map}
 use Rattle.gn_values.specs.Limits.{max_items}
 use Rattle.gn_values.specs.View.{val_of, vals_in, KeepsItems}

@@ -1,4 +1,4 @@
-use Rattle.std.proofs.Common.{◌++◌, ◌∷◌, [], ap, arith, rules, sym, ◌∙◌, true, ◌≡◌, ◌+◌, max, subst, List}
+use Rattle.std.proofs.Common.{◌++◌, ◌∷◌, [], rules, sym, true, ◌≡◌, ◌+◌, max, subst, List}
 use Rattle.gn_values.specs.Val.{Val, depth_of}
 use Rattle.gn_values.specs.Limits.{list_fits, IsList}
 use Rattle.gn_values.specs.View.{val_of}

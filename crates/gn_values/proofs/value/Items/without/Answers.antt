@@ -1,6 +1,5 @@
-use Rattle.std.proofs.Common.{◌≡◌, ◌++◌, ◌∷◌, [], true, false, sym, ◌∙◌, ap, map, subst, List, rules}
-use Rattle.gn_values.specs.Val.{Val}
-use Rattle.gn_values.specs.Limits.{list_fits, IsList}
+use Rattle.std.proofs.Common.{◌≡◌, ◌++◌, ◌∷◌, [], true, false, sym, ◌∙◌, ap, map, rules}
+use Rattle.gn_values.specs.Limits.{IsList}
 use Rattle.gn_values.specs.Operators.{is_among}
 use Rattle.gn_values.specs.View.{val_of}
 use Rattle.gn_values.proofs.Among.{kept_same, kept_more, kept_fits}

@@ -1,4 +1,4 @@
-use Rattle.std.proofs.Common.{◌≡◌, true, false, sym, ◌∙◌, map, arith, rules}
+use Rattle.std.proofs.Common.{sym, map}
 use Rattle.gn_values.specs.Operators.{is_among}
 use Rattle.gn_values.specs.View.{val_of}
 use Rattle.gn_values.proofs.Among.{not_all_at, all_more}

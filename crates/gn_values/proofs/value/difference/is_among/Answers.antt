@@ -1,4 +1,4 @@
-use Rattle.std.proofs.Common.{◌≡◌, true, false, sym, ◌∙◌, arith, rules}
+use Rattle.std.proofs.Common.{true, false, sym}
 use Rattle.gn_values.specs.Equal.{equals}
 use Rattle.gn_values.specs.View.{val_of}
 use Rattle.gn_values.proofs.Among.{any_at, any_more}

@@ -3,7 +3,7 @@ use Rattle.std.specs.Ordering.{nat_cmp}
 use Rattle.std.specs.Cmp.Lexicographic.{slice_cmp}
 use Rattle.std.specs.declared.cmp.Ordering.TheVariants.{Less, Greater}
 use Rattle.gn_values.proofs.Sorted.{all_below, all_above}
-use Rattle.gn_values.proofs.value.scope_entries.find_entry.Goals as goal
+use Rattle.gn_values.proofs.value.search.find_entry.Goals as goal
 
 pub loop-low-preserved-in-Less : goal.loop-low-preserved-in-Less
 loop-low-preserved-in-Less c =
