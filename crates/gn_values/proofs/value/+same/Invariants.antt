@@ -1,0 +1,9 @@
+use Rattle.std.proofs.Common.{◌≡◌, take, map}
+use Rattle.gn_values.specs.View.{val_of, entry_of}
+use Rattle.gn_values.proofs.value.+same.Given as goal
+
+abbrev pub invariant-Items::same-loop-i : goal.invariant-Items::same-loop-i
+invariant-Items::same-loop-i l = take l.i (map val_of l.self-inside.items.items) ≡ take l.i (map val_of l.other-inside.items.items)
+
+abbrev pub invariant-Entries::same-loop-i : goal.invariant-Entries::same-loop-i
+invariant-Entries::same-loop-i l = take l.i (map entry_of l.self-inside.entries.items) ≡ take l.i (map entry_of l.other-inside.entries.items)

@@ -1,0 +1,17 @@
+use Rattle.std.proofs.Common.{◌++◌, ap, ◌∙◌, arith}
+use Rattle.gn_values.proofs.Printed.{no_items_text, no_entries_text, items_step, entries_step}
+use Rattle.gn_values.proofs.value.print.+print.Goals as goal
+
+pub append_entries-loop-entry-init : goal.append_entries-loop-entry-init
+append_entries-loop-entry-init t c = no_entries_text _
+
+pub append_entries-loop-entry-preserved : goal.append_entries-loop-entry-preserved
+append_entries-loop-entry-preserved t c =
+    entries_step _ _ c.entry-item.result _ _ _ _ _ _ _ c.loop-entry-test.true c.entry-item.is c.loop-entry.invariant c.in_ok-append.ensures.ok (c.in_ok-append-2.ensures.ok ∙ ap (λ b. c.append.new.self ++ b) c.as_bytes.ensures) c.in_ok-append-3.ensures.ok c.in_ok-append_value.ensures c.in_ok-append-4.ensures.ok
+
+pub append_items-loop-index-init : goal.append_items-loop-index-init
+append_items-loop-index-init t c = no_items_text _
+
+pub append_items-loop-index-preserved : goal.append_items-loop-index-preserved
+append_items-loop-index-preserved t c =
+    items_step _ _ c.index.result.now _ _ _ _ (omega arith) c.index.ensures c.loop-index.invariant c.in_ok-append_comma.ensures c.in_ok-append_value.ensures

@@ -1,0 +1,92 @@
+// Entries in the order of their names, and what is done with those of a scope.
+
+ghost use Rattle.std.specs.Prelude.{◌≡◌, ◌≢◌, ◌↔◌, ◌≤◌, [], IsTrue, OnOk, OnErr, IfErr, false, length, map, option_map};
+ghost use Rattle.gn_values.specs.Val.{scope_depth};
+ghost use Rattle.gn_values.specs.Operators.{value_at, with_entry};
+ghost use Rattle.gn_values.specs.Limits.{max_depth, scope_fits, IsScope};
+ghost use Rattle.gn_values.specs.View.{val_of, entry_of};
+
+use crate::error::ValueError;
+use crate::limits::MAX_DEPTH;
+use crate::value::search::{depth_of_entries, find_entry, set_entry};
+use crate::value::{Entries, Entry, Value};
+use gn_paths::Text;
+use std::alloc::Global;
+
+impl Entries {
+    /// The empty scope. It takes no memory.
+    pub fn new(alloc: Global) -> Entries
+        ensures { result ≡ [] }
+    {
+        Entries {
+            entries: Vec::new(alloc),
+            depth: 1,
+        }
+    }
+
+    /// The number of entries.
+    pub fn len(&self) -> usize
+        ensures { result ≡ length self.now }
+    {
+        self.entries.len()
+    }
+
+    /// Whether the scope has no entries.
+    pub fn is_empty(&self) -> bool
+        ensures { IsTrue result ↔ (self.now ≡ []) }
+    {
+        self.entries.is_empty()
+    }
+
+    /// How deep the scope nests, from 1 to `MAX_DEPTH`, without a walk.
+    pub fn depth(&self) -> usize
+        ensures value { result ≡ scope_depth self.now }
+        ensures limit { result ≤ max_depth }
+    {
+        self.depth as usize
+    }
+
+    /// The entries, in the order of their names.
+    pub fn as_slice(&self) -> &[Entry]
+        ensures value { map entry_of result.now ≡ self.now }
+        ensures limits { IsScope self.now }
+    {
+        self.entries.as_slice()
+    }
+
+    /// The value of a name. None comes exactly where no entry has the name. It looks at
+    /// logarithmically many entries.
+    pub fn get(&self, name: &[u8]) -> Option<&Value>
+        ensures { option_map (λ v. val_of v.now) result ≡ value_at name.now self.now }
+    {
+        match find_entry(self.entries.as_slice(), name) {
+            Ok(at) => Some(&self.entries[at].value),
+            Err(_) => None,
+        }
+    }
+
+    /// Sets the value of a name. `TooLong` comes exactly where the scope would nest too deep. After
+    /// a refusal the scope is as before, and the value is dropped. A name that stands behind all
+    /// others is added in logarithmic time, any other new name costs a move of those behind it, and
+    /// a new value for a name that was there costs a look at each entry.
+    pub fn set(&mut self, name: Text, value: Value) -> Result<(), ValueError>
+        ensures ok { OnOk result (self.new ≡ with_entry self.old name (val_of value)) }
+        ensures fits { OnOk result (IsTrue (scope_fits self.new)) }
+        ensures too_long { result ≡ Err ValueError.TooLong
+            → scope_fits (with_entry self.old name (val_of value)) ≡ false }
+        ensures only { IfErr result (λ e. e ≢ ValueError.Memory → e ≡ ValueError.TooLong) }
+        ensures err { OnErr result (self.new ≡ self.old) }
+    {
+        if value.depth() >= MAX_DEPTH {
+            return Err(ValueError::TooLong);
+        }
+        let depth = self.depth.max(value.depth() as u8 + 1);
+        let added = set_entry(&mut self.entries, name, value)?;
+        if added {
+            self.depth = depth;
+            return Ok(());
+        }
+        self.depth = depth_of_entries(self.entries.as_slice());
+        Ok(())
+    }
+}
