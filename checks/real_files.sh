@@ -6,13 +6,15 @@ top=$PWD
 passed=0
 failed=0
 
-# The gate leaves no program behind, so this links it once more over what the gate has proved.
-if ! command -v rt >/dev/null 2>&1; then
-  echo "real_files: skipped, since 'rt' is missing"
-  exit 0
-fi
-(cd crates/gn && rt run </dev/null >/dev/null 2>&1)
+# The gate has just built the program; where it is missing all the same, it is proved and linked here.
 gn=$top/crates/gn/out/gn
+if [ ! -x "$gn" ]; then
+  if ! command -v rt >/dev/null 2>&1; then
+    echo "real_files: skipped, since 'rt' is missing"
+    exit 0
+  fi
+  (cd crates/gn && rt run </dev/null >/dev/null 2>&1)
+fi
 if [ ! -x "$gn" ]; then
   echo "real_files: the program isn't built" >&2
   exit 1
