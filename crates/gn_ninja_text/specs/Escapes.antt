@@ -11,8 +11,8 @@ path_special = 36 ∷ 32 ∷ 58 ∷ []
 unfoldable pub path_escaped : List ℕ → List ℕ
 path_escaped path = all_marked 36 path_special path
 
--- the path that Ninja reads: `$ `, `$:` and `$$` stand for their second byte, every other byte for itself, and a `$`
--- before another byte isn't read here
+-- the path that Ninja reads, where it holds no newline, carriage return, NUL or `|`: `$ `, `$:` and `$$` stand for their
+-- second byte, every other byte for itself, and a `$` before another byte isn't read here
 unfoldable pub path_read : List ℕ → Option (List ℕ)
 path_read text = unmarked 36 path_special false text
 
@@ -35,7 +35,8 @@ abbrev pub without_first_spaces : List ℕ → List ℕ
 without_first_spaces [] = []
 without_first_spaces (b ∷ more) = if b == 32 then without_first_spaces more else b ∷ more
 
--- the value that Ninja reads behind a `=`: spaces at the beginning are dropped, `$ ` and `$$` stand for their second
--- byte, every other byte for itself, and a `$` before another byte isn't read here
+-- the value that Ninja reads behind a `=`, where it holds no newline, carriage return or NUL: spaces at the beginning are
+-- dropped, `$ ` and `$$` stand for their second byte, every other byte for itself, and a `$` before another byte isn't
+-- read here
 unfoldable pub value_read : List ℕ → Option (List ℕ)
 value_read text = unmarked 36 (36 ∷ 32 ∷ []) false (without_first_spaces text)

@@ -7,8 +7,9 @@ use crate::marks::append_marked;
 use gn_paths::Text;
 use std::alloc::{AllocError, Global};
 
-/// A path as a Ninja file has it: a `$` stands before each `$`, space and `:`, and every other byte as it is. Ninja
-/// reads the path back, and no space or colon in it ends the path.
+/// A path as a Ninja file has it: a `$` stands before each `$`, space and `:`, and every other byte as it is. By these
+/// escapes the path is read back, and no space or colon in it ends the path. A newline, carriage return, NUL or `|`, for
+/// which Ninja has no escape, stands as it is.
 #[tactic(auto, using(crate::proofs::MarkLemmas::path_reads_back, crate::proofs::MarkLemmas::path_has_no_end), unfolding(crate::specs::Escapes::path_escaped))]
 pub fn escape_path(alloc: Global, path: &[u8]) -> Result<Text, AllocError>
     ensures text { IfOk result (λ t. t ≡ path_escaped path.now) }
@@ -33,7 +34,8 @@ fn value_text(alloc: Global, value: &[u8]) -> Result<Vec<u8>, AllocError>
 }
 
 /// The value of a variable as a Ninja file has it: each `$` is `$$`, a space at its beginning is `$ `, and every other
-/// byte stands as it is. Ninja, which drops the spaces behind the `=`, reads the value back.
+/// byte stands as it is. By these escapes, and with the spaces behind the `=` dropped, the value is read back. A newline,
+/// carriage return or NUL, for which Ninja has no escape, stands as it is.
 #[tactic(auto, using(crate::proofs::MarkLemmas::value_reads_back))]
 pub fn escape_value(alloc: Global, value: &[u8]) -> Result<Text, AllocError>
     ensures text { IfOk result (λ t. t ≡ value_escaped value.now) }

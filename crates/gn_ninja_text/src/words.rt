@@ -42,7 +42,7 @@ fn word_text(alloc: Global, word: &[u8]) -> Result<Vec<u8>, AllocError>
 
 /// A word of a POSIX shell's command: as it is where it isn't empty and has only letters, digits and
 /// `_ . / = + , @ % ^ - :`, and else between double quotes, with a backslash before each `\`, `"`, `$` and backquote.
-/// A shell reads the word back.
+/// By the rules of double quotes the word is read back. A NUL, which no command can hold, stands as it is.
 #[tactic(auto, using(crate::proofs::MarkLemmas::word_reads_back))]
 pub fn shell_word(alloc: Global, word: &[u8]) -> Result<Text, AllocError>
     ensures text { IfOk result (λ t. t ≡ shell_word_of word.now) }
