@@ -1,0 +1,12 @@
+//! The escapes of Ninja files, and words of a shell.
+#![tactic(auto)]
+
+mod escapes;
+mod marks;
+mod words;
+
+pub use escapes::{escape_path, escape_value};
+pub use words::shell_word;
+
+#[cfg(test)]
+mod tests;
