@@ -1,0 +1,6 @@
+pub mod Components
+pub mod Normal
+pub mod Resolve
+pub mod Buffer
+pub mod Rebase
+pub mod Parts

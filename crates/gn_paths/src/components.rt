@@ -1,0 +1,96 @@
+// The forms of a path's text, and its pieces.
+
+ghost use Rattle.std.specs.Prelude.{◌≡◌, ◌≤◌, length};
+ghost use Rattle.std.specs.List.{list_all, position_or_len};
+ghost use Rattle.std.specs.Str.{is_utf8};
+ghost use Rattle.gn_paths.specs.Components.{is_slash, is_source, is_system, is_absolute, ends_in_slash, without_final_slash, top_of};
+ghost use Rattle.gn_paths.specs.Normal.{is_path_byte, is_path_text};
+
+fn is_path_byte(byte: u8) -> bool
+    ensures { result ≡ is_path_byte byte }
+{
+    byte != 0 && byte != b'\n'
+}
+
+fn is_utf8(text: &[u8]) -> bool
+    ensures { result ≡ is_utf8 text.now }
+{
+    match str::from_utf8(text) {
+        Ok(_) => true,
+        Err(_) => false,
+    }
+}
+
+fn has_path_bytes(text: &[u8]) -> bool
+    ensures { result ≡ list_all is_path_byte text.now }
+{
+    text.iter().all(|byte| is_path_byte(*byte))
+}
+
+// Whether a text may name a path.
+#[tactic(auto, using(crate::proofs::NormalLemmas::bytes_eq_nil), unfolding(crate::specs::Normal::is_path_text))]
+pub(crate) fn is_path_text(text: &[u8]) -> bool
+    ensures { result ≡ is_path_text text.now }
+{
+    if text.is_empty() || !has_path_bytes(text) {
+        return false;
+    }
+    is_utf8(text)
+}
+
+// Whether a path stands in the source tree.
+pub(crate) fn is_source(text: &[u8]) -> bool
+    ensures { result ≡ is_source text.now }
+{
+    text.starts_with(b"//")
+}
+
+// Whether a text begins with a slash.
+pub(crate) fn is_absolute(text: &[u8]) -> bool
+    ensures { result ≡ is_absolute text.now }
+{
+    text.starts_with(b"/")
+}
+
+// Whether a text is a system path.
+pub(crate) fn is_system(text: &[u8]) -> bool
+    ensures { result ≡ is_system text.now }
+{
+    !is_source(text) && is_absolute(text)
+}
+
+pub(crate) fn ends_in_slash(text: &[u8]) -> bool
+    ensures { result ≡ ends_in_slash text.now }
+{
+    text.ends_with(b"/")
+}
+
+pub(crate) fn without_final_slash(text: &[u8]) -> &[u8]
+    ensures { result.now ≡ without_final_slash text.now }
+{
+    if ends_in_slash(text) {
+        &text[..text.len() - 1]
+    } else {
+        text
+    }
+}
+
+// How many bytes stand before the slash of the first component.
+pub(crate) fn top_len(path: &[u8]) -> usize
+    ensures { result ≡ length (top_of path.now) }
+{
+    if is_source(path) { 1 } else { 0 }
+}
+
+// How many bytes stand before the first slash.
+pub(crate) fn piece_len(text: &[u8]) -> usize
+    ensures value { result ≡ position_or_len is_slash text.now }
+    ensures within { result ≤ length text.now }
+{
+    for (i, byte) in text.iter().enumerate() {
+        if *byte == b'/' {
+            return i;
+        }
+    }
+    text.len()
+}

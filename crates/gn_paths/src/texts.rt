@@ -1,0 +1,98 @@
+// A list of texts.
+
+ghost use Rattle.std.specs.Prelude.{◌≡◌, ◌++◌, [], ◌∷◌, length, IfOk, OnOk, OnErr, IsTrue, ◌↔◌, slice_get};
+ghost use Rattle.std.specs.Option.{option_copied};
+
+use crate::text::Text;
+use std::alloc::{AllocError, Global};
+use std::marker::Model;
+
+/// A list of texts.
+#[derive(Debug, Drop)]
+pub struct Texts {
+    list: Vec<Text>,
+}
+
+impl Model for Texts {
+    ghost use Rattle.std.specs.Prelude.{List, ℕ};
+    ghost use Rattle.std.specs.Coded.{coded_list, coded_ℕ};
+
+    ghost Value = { List (List ℕ) };
+
+    ghost coded = { coded_list (coded_list coded_ℕ) };
+
+    ghost view = { λ t. t.list.items };
+}
+
+impl Texts {
+    /// The empty list. It takes no memory.
+    pub fn new(alloc: Global) -> Texts
+        ensures { result ≡ [] }
+    {
+        Texts {
+            list: Vec::new(alloc),
+        }
+    }
+
+    /// The list of these texts, which takes no memory.
+    pub fn from_vec(list: Vec<Text>) -> Texts
+        ensures { result ≡ list.items }
+    {
+        Texts { list }
+    }
+
+    /// The texts of the list, which takes no memory.
+    pub fn into_vec(self) -> Vec<Text>
+        ensures { result.items ≡ self }
+    {
+        self.list
+    }
+
+    /// The texts of the list, in order.
+    pub fn as_slice(&self) -> &[Text]
+        ensures { result.now ≡ self.now }
+    {
+        self.list.as_slice()
+    }
+
+    /// The number of texts.
+    pub fn len(&self) -> usize
+        ensures { result ≡ length self.now }
+    {
+        self.list.len()
+    }
+
+    /// Whether the list has no texts.
+    pub fn is_empty(&self) -> bool
+        ensures { IsTrue result ↔ (self.now ≡ []) }
+    {
+        self.list.is_empty()
+    }
+
+    /// The text number `index`, counted from 0. None comes exactly where there is no such text.
+    pub fn get(&self, index: usize) -> Option<&Text>
+        ensures { option_copied result ≡ slice_get self.now index }
+    {
+        self.list.get(index)
+    }
+
+    /// Puts a text at the end. After want of memory the list is as before.
+    pub fn push(&mut self, text: Text) -> Result<(), AllocError>
+        ensures ok { OnOk result (self.new ≡ self.old ++ text ∷ []) }
+        ensures err { OnErr result (self.new ≡ self.old) }
+    {
+        self.list.push(text)?;
+        Ok(())
+    }
+
+    /// A new list equal to this one.
+    pub fn copy(&self, alloc: Global) -> Result<Texts, AllocError>
+        ensures { IfOk result (λ t. t ≡ self.now) }
+    {
+        let mut list = Vec::with_capacity(alloc, self.list.len())?;
+        for text in self.list.as_slice() {
+            list.push(text.copy(alloc)?)?;
+        }
+        Ok(Texts { list })
+    }
+}

@@ -1,0 +1,50 @@
+use Rattle.std.proofs.Common.{sym, ◌∙◌}
+use Rattle.gn_text.specs.declared.names.Names.TheInside.{Inside}
+use Rattle.gn_text.proofs.NamesLemmas.{found_key, different, texts_of-insert, number_of-key, found_stored}
+use Rattle.gn_text.proofs.names.Names.intern.Goals as goal
+
+pub returns-in-Some-clause-found : goal.returns-in-Some-clause-found
+returns-in-Some-clause-found c =
+    let r = found_key c.self.inside c.args.name.now c.in-Some.number (sym c.in-Some.ensures.index) in
+    rw (← c.self.view_is) r.found
+
+pub returns-in-Some-clause-number : goal.returns-in-Some-clause-number
+returns-in-Some-clause-number c =
+    let r = found_key c.self.inside c.args.name.now c.in-Some.number (sym c.in-Some.ensures.index) in
+    rw (← c.self.view_is) r.number
+
+pub returns-in-Some-clause-names : goal.returns-in-Some-clause-names
+returns-in-Some-clause-names c =
+    let r = found_key c.self.inside c.args.name.now c.in-Some.number (sym c.in-Some.ensures.index) in
+    rw (← c.self.view_is) r.stays
+
+pub returns-in-Some-clause-different : goal.returns-in-Some-clause-different
+returns-in-Some-clause-different c = rw (← c.self.view_is) (different c.self.inside c.self.invariant)
+
+pub returns-in_err-text-clause-different : goal.returns-in_err-text-clause-different
+returns-in_err-text-clause-different c = rw (← c.self.view_is) (different c.self.inside c.self.invariant)
+
+pub returns-in_err-number-clause-different : goal.returns-in_err-number-clause-different
+returns-in_err-number-clause-different c =
+    different (record { alloc = c.self.inside.alloc; texts = c.insert_full.new.self }) c.in_err-number.ensures.unique
+
+pub returns-clause-found : goal.returns-clause-found
+returns-clause-found c =
+    let after : Inside = record { alloc = c.self.inside.alloc; texts = c.insert_full.new.self } in
+    let s = c.in_ok-number.ensures.stored in
+    found_stored after c.args.name.now c.in_ok-number.number s.0 s.1 (rw (← c.in_ok-text.ensures.items) s.2)
+
+pub returns-clause-number : goal.returns-clause-number
+returns-clause-number c =
+    rw (← c.self.view_is, ← c.in_ok-text.ensures.items)
+    (c.in_ok-number.ensures.index ∙ sym (number_of-key c.self.inside c.in_ok-text.text.items))
+
+pub returns-clause-names : goal.returns-clause-names
+returns-clause-names c =
+    let after : Inside = record { alloc = c.self.inside.alloc; texts = c.insert_full.new.self } in
+    rw (← c.self.view_is, ← c.in_ok-text.ensures.items)
+    (texts_of-insert c.self.inside after c.in_ok-text.text c.in_ok-number.ensures.keys)
+
+pub returns-clause-different : goal.returns-clause-different
+returns-clause-different c =
+    different (record { alloc = c.self.inside.alloc; texts = c.insert_full.new.self }) c.in_ok-number.ensures.unique

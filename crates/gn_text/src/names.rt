@@ -1,0 +1,89 @@
+// Names and their numbers.
+
+ghost use Rattle.std.specs.Prelude.{◌≡◌, [], IfOk, OnOk, OnErr, Some, length, slice_get, IsTrue, ◌↔◌};
+ghost use Rattle.std.specs.Option.{option_copied};
+ghost use Rattle.gn_text.specs.Names.{AllDifferent, number_of, with_name};
+
+use indexmap::IndexSet;
+use std::alloc::{AllocError, Global};
+use std::marker::Model;
+
+/// The number of a name in a `Names`.
+pub type Name = usize;
+
+/// A table of names, all different: each name has one number, and each number below their count one
+/// name. The numbers count from 0 in the order in which the names came.
+#[derive(Drop)]
+pub struct Names {
+    alloc: Global,
+    texts: IndexSet<Vec<u8>>,
+}
+
+impl Model for Names {
+    ghost use Rattle.std.specs.Prelude.{List, ℕ};
+    ghost use Rattle.std.specs.Coded.{coded_list, coded_ℕ};
+
+    ghost Value = { List (List ℕ) };
+
+    ghost coded = { coded_list (coded_list coded_ℕ) };
+
+    ghost use Rattle.gn_text.specs.Kept.{texts_of, HasDistinctKeys};
+
+    ghost view = { texts_of };
+
+    ghost invariant = { HasDistinctKeys };
+}
+
+impl Names {
+    /// The empty table. It takes no memory.
+    pub fn new(alloc: Global) -> Names
+        ensures { result ≡ [] }
+    {
+        Names {
+            alloc,
+            texts: IndexSet::new(alloc),
+        }
+    }
+
+    /// The number of a name. A new name is put last. After want of memory the table is as before.
+    pub fn intern(&mut self, name: &[u8]) -> Result<Name, AllocError>
+        ensures found { IfOk result (λ n. slice_get self.new n ≡ Some name.now) }
+        ensures number { IfOk result (λ n. n ≡ number_of self.old name.now) }
+        ensures names { OnOk result (self.new ≡ with_name self.old name.now) }
+        ensures different { AllDifferent self.new }
+        ensures err { OnErr result (self.new ≡ self.old) }
+    {
+        if let Some(number) = self.texts.get_index_of(name) {
+            return Ok(number);
+        }
+        let text = Vec::from_slice(self.alloc, name)?;
+        let (number, _) = self.texts.insert_full(text)?;
+        Ok(number)
+    }
+
+    /// The name that has this number. None comes exactly where the number isn't below the count of
+    /// names.
+    pub fn name(&self, number: Name) -> Option<&[u8]>
+        ensures value { option_copied result ≡ slice_get self.now number }
+        ensures different { AllDifferent self.now }
+    {
+        match self.texts.get_index(number) {
+            Some(text) => Some(text.as_slice()),
+            None => None,
+        }
+    }
+
+    /// The count of names.
+    pub fn len(&self) -> usize
+        ensures { result ≡ length self.now }
+    {
+        self.texts.len()
+    }
+
+    /// Whether the table has no names.
+    pub fn is_empty(&self) -> bool
+        ensures { IsTrue result ↔ (self.now ≡ []) }
+    {
+        self.texts.is_empty()
+    }
+}
