@@ -1,3 +1,4 @@
 pub mod Labels
 pub mod Names
 pub mod Reading
+pub mod Patterns

@@ -1,4 +1,4 @@
-//! Labels and their order.
+//! Labels, their order, and patterns of labels.
 #![tactic(auto)]
 
 mod bytes;
@@ -8,6 +8,8 @@ mod label_reading;
 mod laws;
 mod name;
 mod named;
+mod pattern;
+mod pattern_reading;
 mod toolchain;
 
 pub use error::{LabelError, PatternError};
@@ -15,6 +17,7 @@ pub use label::Label;
 pub use laws::{label_order_has_no_ties, label_order_is_strict, label_order_is_transitive};
 pub use name::is_name;
 pub use named::Named;
+pub use pattern::{Extent, Pattern};
 
 #[cfg(test)]
 mod tests;
