@@ -1,0 +1,4 @@
+pub mod NameLemmas
+pub mod OrderLemmas
+pub mod PatternLemmas
+pub mod ReadingLemmas

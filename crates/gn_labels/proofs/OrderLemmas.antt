@@ -1,0 +1,78 @@
+-- Label order.
+use Rattle.std.proofs.Common.{◌≡◌, ◌⊎◌, inl, inr, List, [], ◌∷◌, ℕ, Bool, true, false, cond, refl, sym, ap, ◌∙◌, true≢false}
+use Rattle.std.specs.declared.cmp.Ordering.{Ordering}
+use Rattle.std.specs.declared.cmp.Ordering.TheVariants.{Less, Equal, Greater}
+use Rattle.std.specs.Ordering.{is_lt, is_eq, ordering_then, ordering_reverse, nat_cmp}
+use Rattle.std.specs.Str.{bytes_eq}
+use Rattle.std.specs.Cmp.{IsTotalOrder, nat_cmp_total, tied_itself}
+use Rattle.std.specs.Cmp.Lexicographic.{slice_cmp, lists_total, lists_ties, texts_ties, pointwise_decides, bytes_decides}
+use Rattle.gn_labels.specs.declared.label.Label.{Label}
+use Rattle.gn_labels.specs.Labels.{toolchain_key, order_key, is_before}
+
+-- a comparison that comes last decides alone
+pub lt_then_equal : (r : Ordering) → is_lt (ordering_then r Equal) ≡ is_lt r
+lt_then_equal Less = refl
+lt_then_equal Equal = refl
+lt_then_equal Greater = refl
+
+-- the order of lists of texts
+abbrev texts_cmp : List (List ℕ) → List (List ℕ) → Ordering
+texts_cmp = slice_cmp (slice_cmp nat_cmp)
+
+texts_total : IsTotalOrder texts_cmp
+texts_total = lists_total (lists_total nat_cmp_total)
+
+lt_is : (r : Ordering) → is_lt r ≡ true → r ≡ Less
+lt_is Less e = refl
+lt_is Equal e = absurd (true≢false (sym e))
+lt_is Greater e = absurd (true≢false (sym e))
+
+-- no label comes before itself
+pub before_itself : (default : List ℕ) (a : Label) → is_before default a a ≡ false
+before_itself default a = ap is_lt (tied_itself texts_total (order_key default a))
+
+-- label order is transitive
+pub before_before : (default : List ℕ) (a b c : Label) → is_before default a b ≡ true → is_before default b c ≡ true → is_before default a c ≡ true
+before_before default a b c h g =
+    ap is_lt (texts_total.trans (order_key default a) (order_key default b) (order_key default c) (lt_is _ h) (lt_is _ g))
+
+-- lists of texts that compare equal are one
+texts_same : (xs ys : List (List ℕ)) → texts_cmp xs ys ≡ Equal → xs ≡ ys
+texts_same xs ys e = (pointwise_decides bytes_decides xs ys).0 (lists_ties (slice_cmp nat_cmp) texts_ties xs ys ∙ ap is_eq e)
+
+-- toolchains that are ordered alike are one
+key_same : (default s t : List ℕ) → toolchain_key default s ≡ toolchain_key default t → s ≡ t
+key_same default s t = by (bytes_eq s default) (bytes_eq t default) refl refl
+  where
+    by : (p q : Bool) → bytes_eq s default ≡ p → bytes_eq t default ≡ q → toolchain_key default s ≡ toolchain_key default t → s ≡ t
+    by true true e f h = (bytes_decides s default).0 e ∙ sym ((bytes_decides t default).0 f)
+    by true false e f h =
+        let q : toolchain_key default s ≡ [] = ap (λ b. cond b [] (0 ∷ s)) e in
+        let r : toolchain_key default t ≡ 0 ∷ t = ap (λ b. cond b [] (0 ∷ t)) f in
+        cc
+    by false true e f h =
+        let q : toolchain_key default s ≡ 0 ∷ s = ap (λ b. cond b [] (0 ∷ s)) e in
+        let r : toolchain_key default t ≡ [] = ap (λ b. cond b [] (0 ∷ t)) f in
+        cc
+    by false false e f h =
+        let q : toolchain_key default s ≡ 0 ∷ s = ap (λ b. cond b [] (0 ∷ s)) e in
+        let r : toolchain_key default t ≡ 0 ∷ t = ap (λ b. cond b [] (0 ∷ t)) f in
+        cc
+
+-- labels that are ordered alike are one
+label_same : (default : List ℕ) (a b : Label) → order_key default a ≡ order_key default b → a ≡ b
+label_same default a b h =
+    let dir : a.dir ≡ b.dir = cc in
+    let name : a.name ≡ b.name = cc in
+    let key : toolchain_key default a.toolchain ≡ toolchain_key default b.toolchain = cc in
+    let toolchain = key_same default a.toolchain b.toolchain key in
+    λ i. record { dir = dir i; name = name i; toolchain = toolchain i }
+
+-- of two labels one comes before the other, unless they are one
+pub one_before : (default : List ℕ) (a b : Label) → (is_before default a b ≡ true) ⊎ ((a ≡ b) ⊎ (is_before default b a ≡ true))
+one_before default a b = by (texts_cmp (order_key default a) (order_key default b)) refl
+  where
+    by : (r : Ordering) → texts_cmp (order_key default a) (order_key default b) ≡ r → (is_before default a b ≡ true) ⊎ ((a ≡ b) ⊎ (is_before default b a ≡ true))
+    by Less e = inl (ap is_lt e)
+    by Equal e = inr (inl (label_same default a b (texts_same _ _ e)))
+    by Greater e = inr (inr (ap is_lt (texts_total.antisymm (order_key default b) (order_key default a) ∙ ap ordering_reverse e)))
