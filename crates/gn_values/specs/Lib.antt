@@ -7,3 +7,4 @@ pub mod View
 pub mod Search
 pub mod Text
 pub mod Falls
+pub mod Members

@@ -43,7 +43,9 @@ pub fn index<'a>(base: &'a Value, at: &Value) -> Result<&'a Value, ValueError>
 
 /// The difference of integers, or the items of a list that equal no item of the right list.
 /// `Overflow` comes for a difference outside signed 64 bits, `NotInList` where an item of the right
-/// list equals no item of the left list, and `BadTypes` for values of other types.
+/// list equals no item of the left list, and `BadTypes` for values of other types. For lists of n
+/// and m items, all of them strings or integers, it takes about (n + m) log (n + m) comparisons.
+/// `Items::without` says what other items cost.
 #[tactic(auto, unfolding(crate::specs::Operators::difference_of))]
 pub fn subtract(alloc: Global, left: &Value, right: &Value) -> Result<Value, ValueError>
     ensures ok { IfOk result

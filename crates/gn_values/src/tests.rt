@@ -84,6 +84,18 @@ fn lists(rt: HostRuntime) -> Result<(), Fail> {
 }
 
 #[test]
+fn long_lists(rt: HostRuntime) -> Result<(), Fail> {
+    let alloc = rt.alloc();
+    let ten = list(alloc, &[1, 2, 3, 4, 5, 6, 7, 8, 9, 10])?;
+    let more = list(alloc, &[0, 10, 9, 8, 7, 6, 5, 4, 3, 2, 1, 11])?;
+    let kept = subtract(alloc, &more, &ten)?;
+    assert_eq!(rt; printed(alloc, &kept)?.as_slice(), &b"[0, 11]"[..]);
+    let lacking = subtract(alloc, &ten, &more);
+    assert!(rt; matches!(lacking, Err(ValueError::NotInList)));
+    Ok(())
+}
+
+#[test]
 fn scopes_and_their_text(rt: HostRuntime) -> Result<(), Fail> {
     let alloc = rt.alloc();
     let mut items = Items::new(alloc);

@@ -8,7 +8,7 @@ use Rattle.gn_values.proofs.value.Items.without.Goals as goal
 pub push_within-requires : goal.push_within-requires
 push_within-requires c =
     let new : is_among (val_of c.item-item.result) c.args.taken.now ≡ false =
-    ap (is_among (val_of c.item-item.result)) (sym c.as_slice-in-loop-item.ensures.value) ∙ sym c.if-is_among.ensures in
+    ap (is_among (val_of c.item-item.result)) (sym c.as_slice-others.ensures.value) ∙ sym c.if-is_member.ensures in
     let limits : IsList (map val_of c.as_slice-item-items.result.now) = rw c.as_slice-item-items.ensures.value c.self.invariant.limits in
     let fits = kept_fits _ _ _ _ _ c.loop-item-test.true c.item-item.is c.loop-item.invariant new limits in
     rw c.in_ok-copy.ensures (search rules)
@@ -16,12 +16,12 @@ push_within-requires c =
 pub loop-item-preserved : goal.loop-item-preserved
 loop-item-preserved c =
     let new : is_among (val_of c.item-item.result) c.args.taken.now ≡ false =
-    ap (is_among (val_of c.item-item.result)) (sym c.as_slice-in-loop-item.ensures.value) ∙ sym c.if-is_among.ensures in
+    ap (is_among (val_of c.item-item.result)) (sym c.as_slice-others.ensures.value) ∙ sym c.if-is_member.ensures in
     c.in_ok-push_within.ensures.ok ∙ ap (λ v. c.loop-item.kept ++ v ∷ []) c.in_ok-copy.ensures
     ∙ kept_more _ _ _ _ _ c.loop-item-test.true c.item-item.is c.loop-item.invariant new
 
-pub loop-item-preserved-then-is_among : goal.loop-item-preserved-then-is_among
-loop-item-preserved-then-is_among c =
+pub loop-item-preserved-then-is_member : goal.loop-item-preserved-then-is_member
+loop-item-preserved-then-is_member c =
     let there : is_among (val_of c.item-item.result) c.args.taken.now ≡ true =
-    ap (is_among (val_of c.item-item.result)) (sym c.as_slice-in-loop-item.ensures.value) ∙ sym c.if-is_among.ensures in
+    ap (is_among (val_of c.item-item.result)) (sym c.as_slice-others.ensures.value) ∙ sym c.if-is_member.ensures in
     kept_same _ _ _ _ _ c.loop-item-test.true c.item-item.is c.loop-item.invariant there
