@@ -10,3 +10,10 @@ pub mod Unique
 pub mod OneAnswer
 pub mod Nestings
 pub mod Standing
+pub mod Positions
+pub mod Hands
+pub mod Steps
+pub mod Trees
+pub mod Calls
+pub mod Whole
+pub mod Literals

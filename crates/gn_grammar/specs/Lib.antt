@@ -6,3 +6,6 @@ pub mod Machine
 pub mod Errors
 pub mod Nesting
 pub mod Laws
+pub mod Counting
+pub mod Parsing
+pub mod Literals

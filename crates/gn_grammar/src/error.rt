@@ -1,6 +1,10 @@
 //! Why the bytes of a file spell no tree.
 
+ghost use Rattle.std.specs.Prelude.{◌≡◌};
+ghost use Rattle.gn_grammar.specs.declared.error.SyntaxError.TheVariants.{Memory};
+
 use gn_tokens::TokenError;
+use std::alloc::{AllocError, AllocFailed};
 
 /// The first error of a file that spells no tree.
 #[derive(Clone, Copy, Debug, PartialEq, Eq)]
@@ -13,4 +17,20 @@ pub enum SyntaxError {
     TooDeep(usize),
     /// There is no memory for the tree.
     Memory,
+}
+
+impl From<AllocError> for SyntaxError {
+    ghost from_gives = { λ _ e. e ≡ Memory };
+
+    fn from(_error: AllocError) -> Self {
+        SyntaxError::Memory
+    }
+}
+
+impl<T: Drop> From<AllocFailed<T>> for SyntaxError {
+    ghost from_gives = { λ _ e. e ≡ Memory };
+
+    fn from(_error: AllocFailed<T>) -> Self {
+        SyntaxError::Memory
+    }
 }
