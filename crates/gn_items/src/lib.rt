@@ -1,0 +1,5 @@
+//! Faults.
+#![tactic(auto)]
+
+mod stage;
+pub use stage::Stage;

@@ -1,0 +1,5 @@
+pub mod Layers
+pub mod Chains
+pub mod Assigning
+pub mod Unread
+pub mod Environment
