@@ -1,1 +1,5 @@
 pub mod Numbers
+pub mod Texts
+pub mod Order
+pub mod Printed
+pub mod Effects

@@ -1,10 +1,6 @@
 -- What is done with layers of scopes: reading outwards, the rule of unread names, assigning.
-use Rattle.std.specs.Prelude.{ℕ, Bool, true, false, ◌&&◌, ◌||◌, nat_lt, nat_eq, not, if◌then◌else◌, List, [], ◌∷◌, Option, Some, None, Result, Ok, Err, option_map}
-use Rattle.gn_tree.specs.declared.position.Position.{Position}
-use Rattle.gn_tree.specs.declared.operator.AssignOp.{AssignOp}
-use Rattle.gn_tree.specs.declared.operator.AssignOp.TheVariants.{Set, Add, Subtract}
-use Rattle.gn_values.specs.Val.{Val, vlist, vscope, Vals, no_vals, val_then, Binds, no_binds, bind_then}
-use Rattle.gn_scopes.specs.Layers.{VariableState, Table, at_name, with_name, without_name, LayerState, ChainState, empty_layer}
+use Rattle.std.specs.Prelude.{ℕ, List, [], ◌∷◌, Option, Some, None}
+use Rattle.gn_scopes.specs.Layers.{VariableState, at_name, with_name, without_name, LayerState}
 
 -- Reading
 

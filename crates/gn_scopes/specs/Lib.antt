@@ -3,3 +3,4 @@ pub mod Chains
 pub mod Assigning
 pub mod Unread
 pub mod Environment
+pub mod Faults

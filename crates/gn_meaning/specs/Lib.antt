@@ -1,0 +1,7 @@
+pub mod Runs
+pub mod Functions
+pub mod Words
+pub mod Items
+pub mod Calls
+pub mod Pieces
+pub mod Meaning

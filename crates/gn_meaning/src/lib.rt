@@ -1,0 +1,6 @@
+//! What a block of the language means.
+#![tactic(auto)]
+
+mod function;
+
+pub use function::Function;
