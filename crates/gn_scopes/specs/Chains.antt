@@ -1,10 +1,7 @@
--- What is done with layers of scopes: reading outwards, the rule of unread names, assigning.
-use Rattle.std.specs.Prelude.{ℕ, Bool, true, false, ◌&&◌, ◌||◌, nat_lt, nat_eq, not, if◌then◌else◌, List, [], ◌∷◌, Option, Some, None, Result, Ok, Err, option_map}
-use Rattle.gn_tree.specs.declared.position.Position.{Position}
-use Rattle.gn_tree.specs.declared.operator.AssignOp.{AssignOp}
-use Rattle.gn_tree.specs.declared.operator.AssignOp.TheVariants.{Set, Add, Subtract}
-use Rattle.gn_values.specs.Val.{Val, vlist, vscope, Vals, no_vals, val_then, Binds, no_binds, bind_then}
-use Rattle.gn_scopes.specs.Layers.{VariableState, Table, at_name, with_name, without_name, LayerState, ChainState, empty_layer}
+-- Reading through layers, outwards.
+use Rattle.std.specs.Prelude.{ℕ, Bool, List, [], ◌∷◌, Option, Some, None, option_map}
+use Rattle.gn_values.specs.Val.{Val}
+use Rattle.gn_scopes.specs.Layers.{VariableState, at_name, with_name, without_name, LayerState, ChainState, empty_layer}
 
 -- Reading
 
@@ -30,6 +27,14 @@ variable_of name (l ∷ ls) = nearest (variable_in name l) (variable_of name ls)
 abbrev pub read_variable : VariableState → VariableState
 read_variable v = record v { unread = None }
 
+-- the layer after a read of a name that it may have
+abbrev pub read_in : List ℕ → LayerState → LayerState
+read_in name layer = reading (variable_in name layer)
+  where
+    reading : Option VariableState → LayerState
+    reading (Some v) = set_in name (Some (read_variable v)) layer
+    reading None = layer
+
 -- a read marks the name in the first of the layers that has it
 abbrev pub marked : List ℕ → List LayerState → List LayerState
 marked name [] = []
@@ -38,3 +43,27 @@ marked name (l ∷ ls) = marked_here (variable_in name l) (marked name ls)
     marked_here : Option VariableState → List LayerState → List LayerState
     marked_here (Some v) further = set_in name (Some (read_variable v)) l ∷ ls
     marked_here None further = l ∷ further
+
+-- what the layers have at a name
+unfoldable pub chain_value : List ℕ → ChainState → Option Val
+chain_value name chain = option_map (λ v. v.value) (variable_of name (chain.inner ∷ chain.outer))
+
+-- the layers after a read of the name
+unfoldable pub chain_read : List ℕ → ChainState → ChainState
+chain_read name chain = here (variable_in name chain.inner)
+  where
+    here : Option VariableState → ChainState
+    here (Some v) = record chain { inner = set_in name (Some (read_variable v)) chain.inner }
+    here None = record chain { outer = marked name chain.outer }
+
+-- a scope opens
+abbrev pub chain_entered : Bool → ChainState → ChainState
+chain_entered checked chain = record { inner = empty_layer checked; outer = chain.inner ∷ chain.outer }
+
+-- the innermost scope ends
+abbrev pub chain_left : ChainState → ChainState
+chain_left chain = ended chain.outer
+  where
+    ended : List LayerState → ChainState
+    ended [] = chain
+    ended (l ∷ ls) = record { inner = l; outer = ls }
