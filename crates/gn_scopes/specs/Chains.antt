@@ -1,6 +1,13 @@
+<<<<<<< HEAD
 -- What is done with layers of scopes: reading outwards, the rule of unread names, assigning.
 use Rattle.std.specs.Prelude.{ℕ, List, [], ◌∷◌, Option, Some, None}
 use Rattle.gn_scopes.specs.Layers.{VariableState, at_name, with_name, without_name, LayerState}
+=======
+-- Reading through layers, outwards.
+use Rattle.std.specs.Prelude.{ℕ, Bool, List, [], ◌∷◌, Option, Some, None, option_map}
+use Rattle.gn_values.specs.Val.{Val}
+use Rattle.gn_scopes.specs.Layers.{VariableState, at_name, with_name, without_name, LayerState, ChainState, empty_layer}
+>>>>>>> 634c923cfe7377380cde92b403eee87cdcbc1717
 
 -- Reading
 
@@ -26,6 +33,14 @@ variable_of name (l ∷ ls) = nearest (variable_in name l) (variable_of name ls)
 abbrev pub read_variable : VariableState → VariableState
 read_variable v = record v { unread = None }
 
+-- the layer after a read of a name that it may have
+abbrev pub read_in : List ℕ → LayerState → LayerState
+read_in name layer = reading (variable_in name layer)
+  where
+    reading : Option VariableState → LayerState
+    reading (Some v) = set_in name (Some (read_variable v)) layer
+    reading None = layer
+
 -- a read marks the name in the first of the layers that has it
 abbrev pub marked : List ℕ → List LayerState → List LayerState
 marked name [] = []
@@ -34,3 +49,27 @@ marked name (l ∷ ls) = marked_here (variable_in name l) (marked name ls)
     marked_here : Option VariableState → List LayerState → List LayerState
     marked_here (Some v) further = set_in name (Some (read_variable v)) l ∷ ls
     marked_here None further = l ∷ further
+
+-- what the layers have at a name
+unfoldable pub chain_value : List ℕ → ChainState → Option Val
+chain_value name chain = option_map (λ v. v.value) (variable_of name (chain.inner ∷ chain.outer))
+
+-- the layers after a read of the name
+unfoldable pub chain_read : List ℕ → ChainState → ChainState
+chain_read name chain = here (variable_in name chain.inner)
+  where
+    here : Option VariableState → ChainState
+    here (Some v) = record chain { inner = set_in name (Some (read_variable v)) chain.inner }
+    here None = record chain { outer = marked name chain.outer }
+
+-- a scope opens
+abbrev pub chain_entered : Bool → ChainState → ChainState
+chain_entered checked chain = record { inner = empty_layer checked; outer = chain.inner ∷ chain.outer }
+
+-- the innermost scope ends
+abbrev pub chain_left : ChainState → ChainState
+chain_left chain = ended chain.outer
+  where
+    ended : List LayerState → ChainState
+    ended [] = chain
+    ended (l ∷ ls) = record { inner = l; outer = ls }

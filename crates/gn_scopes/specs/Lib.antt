@@ -3,4 +3,8 @@ pub mod Chains
 pub mod Assigning
 pub mod Unread
 pub mod Environment
+pub mod Codes
+pub mod View
+pub mod Lending
+pub mod Errors
 pub mod Faults
