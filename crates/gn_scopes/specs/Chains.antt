@@ -1,13 +1,7 @@
-<<<<<<< HEAD
--- What is done with layers of scopes: reading outwards, the rule of unread names, assigning.
-use Rattle.std.specs.Prelude.{ℕ, List, [], ◌∷◌, Option, Some, None}
-use Rattle.gn_scopes.specs.Layers.{VariableState, at_name, with_name, without_name, LayerState}
-=======
 -- Reading through layers, outwards.
 use Rattle.std.specs.Prelude.{ℕ, Bool, List, [], ◌∷◌, Option, Some, None, option_map}
 use Rattle.gn_values.specs.Val.{Val}
 use Rattle.gn_scopes.specs.Layers.{VariableState, at_name, with_name, without_name, LayerState, ChainState, empty_layer}
->>>>>>> 634c923cfe7377380cde92b403eee87cdcbc1717
 
 -- Reading
 

@@ -1,5 +1,5 @@
 -- Names that nothing reads.
-use Rattle.std.specs.Prelude.{ℕ, Bool, ◌&&◌, ◌||◌, nat_lt, nat_eq, if◌then◌else◌, List, [], ◌∷◌, Option, Some, None}
+use Rattle.std.specs.Prelude.{ℕ, Bool, true, false, ◌&&◌, ◌||◌, nat_lt, nat_eq, if◌then◌else◌, List, [], ◌∷◌, Option, Some, None}
 use Rattle.gn_tree.specs.declared.position.Position.{Position}
 use Rattle.gn_scopes.specs.Layers.{VariableState, Table, LayerState}
 
