@@ -6,6 +6,7 @@ ghost use Rattle.gn_values.specs.Limits.{scope_fits};
 ghost use Rattle.gn_values.specs.View.{val_of};
 ghost use Rattle.gn_scopes.specs.Environment.{new_environment, value_of, after_read, after_assignment, after_element_assignment, entered, left, levels, IsEntered, entries_here, reported_here, variable_here, restored, given, in_item};
 ghost use Rattle.gn_scopes.specs.Errors.{refusal_of, element_refusal_of};
+ghost use Rattle.gn_scopes.specs.Faults.{fault_in};
 ghost use Rattle.gn_scopes.specs.Lending.{Ends};
 ghost use Rattle.gn_scopes.specs.View.{variable_state};
 ghost use Rattle.gn_scopes.specs.contracts.env.Env.{the_row};
@@ -14,8 +15,8 @@ use crate::error::{AssignError, ElementAssignError};
 use crate::fixed::Fixed;
 use crate::layer::Variable;
 use crate::scopes::Scopes;
-use gn_items::Stage;
-use gn_paths::{Path, Text};
+use gn_items::{Code, Fault, Stage};
+use gn_paths::{Path, Text, Texts};
 use gn_tree::{AssignOp, Position};
 use gn_values::{Entries, Value, ValueError};
 use std::alloc::{AllocError, Global};
@@ -107,6 +108,19 @@ impl Env {
         ensures { result ≡ self.now.depth }
     {
         self.depth
+    }
+
+    /// The fault with this code and these details at a position of the file.
+    pub fn fault(
+        &self,
+        alloc: Global,
+        code: Code,
+        position: Position,
+        detail: Texts,
+    ) -> Result<Fault, AllocError>
+        ensures { IfOk result (λ f. f ≡ fault_in self.now.setting position code detail) }
+    {
+        match self.never {}
     }
 
     /// The value of a name, which counts as read from then on. None comes exactly where it has none. It takes no

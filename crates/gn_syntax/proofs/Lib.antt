@@ -1,4 +1,0 @@
-pub mod WordKinds
-pub mod GroupRead
-pub mod Different
-pub mod TokensWithin
