@@ -1,3 +1,3 @@
 pub mod CommandLemmas
+pub mod ReadingLemmas
 pub mod RunLemmas
-pub mod OrderLemmas
