@@ -1,5 +1,5 @@
 -- A file is read as the tree that its bytes spell, or as their first error.
-use Rattle.std.proofs.Common.{◌≡◌, ◌≢◌, ℕ, List, refl, ap, absurd, inl, inr, ◌⊎◌}
+use Rattle.std.proofs.Common.{◌≡◌, ◌≢◌, ℕ, List, refl, ap, inl, inr, ◌⊎◌}
 use Rattle.std.specs.Prelude.{Result, Ok, Err}
 use Rattle.gn_tree.specs.Tree.{BlockTree}
 use Rattle.gn_grammar.specs.declared.error.SyntaxError.{SyntaxError}

@@ -1,5 +1,5 @@
 -- What the build file of the source root means: its items and the lines that it prints, or its first fault.
-use Rattle.std.specs.Prelude.{ℕ, List, [], ◌∷◌, Option, Some, None, Result, Ok, Err, codes}
+use Rattle.std.specs.Prelude.{ℕ, true, List, [], ◌∷◌, Option, Some, None, Result, Ok, Err, codes}
 use Rattle.gn_paths.specs.declared.place.Place.{Place}
 use Rattle.gn_tokens.specs.declared.token.TokenError.TheVariants.{BadByte, BadNumber, OpenString, BadDollar}
 use Rattle.gn_tree.specs.declared.position.Position.{Position}

@@ -1,5 +1,6 @@
 -- What the bytes of a file are read as.
-use Rattle.std.specs.Prelude.{ℕ, List, ◌⊎◌, inl, inr, Result, Ok, Err}
+use Rattle.std.specs.Prelude.{ℕ, List, ◌⊎◌, Result, Ok, Err}
+use Rattle.std.proofs.Common.{inl, inr}
 use Rattle.gn_tree.specs.Tree.{BlockTree}
 use Rattle.gn_grammar.specs.declared.error.SyntaxError.{SyntaxError}
 use Rattle.gn_grammar.specs.Errors.{IsTree}
@@ -7,7 +8,7 @@ use Rattle.gn_grammar.specs.Laws.{IsFirstError}
 use Rattle.gn_grammar.proofs.OneAnswer.{one_answer}
 
 -- the tree that bytes spell, or their first error
-abbrev read_as : (bytes : List ℕ) → ((tree : BlockTree) × IsTree bytes tree) ⊎ ((error : SyntaxError) × IsFirstError error bytes) → Result BlockTree SyntaxError
+abbrev pub read_as : (bytes : List ℕ) → ((tree : BlockTree) × IsTree bytes tree) ⊎ ((error : SyntaxError) × IsFirstError error bytes) → Result BlockTree SyntaxError
 read_as bytes (inl spelled) = Ok spelled.0
 read_as bytes (inr refused) = Err refused.0
 

@@ -1,9 +1,10 @@
 // The definition of groups.
 
-ghost use Rattle.std.specs.Prelude.{◌≡◌, IfOk, IfErr, Ok, option_map};
+ghost use Rattle.std.specs.Prelude.{◌≡◌, [], ◌∷◌, IfOk, IfErr, Ok, option_map};
 ghost use Rattle.std.specs.List.{list_all};
 ghost use Rattle.gn_values.specs.View.{val_of};
 ghost use Rattle.gn_scopes.specs.Environment.{levels};
+ghost use Rattle.gn_scopes.specs.Faults.{fault_in};
 ghost use Rattle.gn_meaning.specs.Items.{defined, item_here, may_be_strings, is_string, deps_name};
 ghost use Rattle.gn_eval.specs.Ends.{DefinesWrong};
 
@@ -103,14 +104,22 @@ fn may_be_strings(value: Option<&Value>) -> bool
     ensures { result ≡ may_be_strings (option_map (λ v. val_of v.now) value.entry) }
 {
     match value {
-        Some(Value::List(items)) => items.as_slice().iter().all(|item| is_string(item)),
-        Some(_) => false,
+        Some(value) => is_list_of_strings(value),
         None => true,
     }
 }
 
-fn is_string(value: &Value) -> bool
-    ensures { result ≡ is_string (val_of value.now) }
+fn is_list_of_strings(value: &Value) -> bool
+    ensures { result ≡ may_be_strings (Some (val_of value.now)) }
 {
-    matches!(value, Value::Str(_))
+    match value {
+        Value::List(items) => are_strings(items.as_slice()),
+        _ => false,
+    }
+}
+
+fn are_strings(items: &[Value]) -> bool
+    ensures { result ≡ list_all (λ v. is_string (val_of v)) items.now }
+{
+    items.iter().all(|item| matches!(item, Value::Str(_)))
 }

@@ -11,14 +11,24 @@ use std::alloc::{AllocError, Global};
 use std::collections::BTreeSet;
 
 /// Puts the labels of items at the end, each once, in label order, one a line.
+#[tactic(auto, unfolding(crate::specs::Labels::listing))]
 pub fn append_labels(alloc: Global, text: &mut Vec<u8>, items: &[Item]) -> Result<(), AllocError>
     ensures { OnOk result (text.new.items ≡ text.old.items ++ listing items.now) }
 {
-    let default = Text::new(alloc);
-    for label in &labels_of(alloc, items)? {
-        text.extend_from_slice(label.print(alloc, &default)?.as_bytes())?;
-        text.push(b'\n')?;
+    let labels = labels_of(alloc, items)?;
+    for label in &labels {
+        append_label(alloc, text, label)?;
     }
+    Ok(())
+}
+
+// Puts a label and a newline at the end.
+fn append_label(alloc: Global, text: &mut Vec<u8>, label: &Label) -> Result<(), AllocError>
+    ensures { OnOk result (text.new.items ≡ text.old.items ++ label_line label.now) }
+{
+    let default = Text::new(alloc);
+    text.extend_from_slice(label.print(alloc, &default)?.as_bytes())?;
+    text.push(b'\n')?;
     Ok(())
 }
 
