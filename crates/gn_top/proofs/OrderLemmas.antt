@@ -1,5 +1,6 @@
 -- The set of labels that an ordered set keeps is the list of labels in label order.
-use Rattle.std.proofs.Common.{take_more, map-append, ◌≡◌, ℕ, Bool, true, false, cond, List, [], ◌∷◌, ◌++◌, map, length, take, get_or, ◌+◌, ◌<◌, arith, refl, sym, ap, ◌∙◌, subst}
+use Rattle.std.proofs.Common.{◌≡◌, ℕ, Bool, true, false, cond, List, [], ◌∷◌, ◌++◌, map, length, take, get_or, ◌+◌, ◌<◌, arith, refl, sym, ap, ◌∙◌, subst}
+use Rattle.std.proofs.lemmas.List.{take_more}
 use Rattle.std.specs.Prelude.{Option, None, Some}
 use Rattle.std.specs.declared.cmp.Ordering.{Ordering}
 use Rattle.std.specs.declared.cmp.Ordering.TheVariants.{Less, Equal, Greater}
@@ -108,6 +109,10 @@ nothing (x ∷ es) e = absurd (omega arith)
 pub none_ordered : in_label_order [] ≡ []
 none_ordered = ap (map (λ (e : Label × Unit {0}). e.0)) (nothing (entries (empty {X = Unit {0}} {R = label_cmp})) (sym (len-entries (empty {X = Unit {0}} {R = label_cmp})) ∙ len-empty label_cmp (Unit {0})))
 
+labels-push : (items : List Item) (item : Item) → labels_of (items ++ item ∷ []) ≡ labels_of items ++ item.label ∷ []
+labels-push [] item = refl
+labels-push (first ∷ items) item = ap (λ (rest : List Label). first.label ∷ rest) (labels-push items item)
+
 -- an item more
 pub one_more_item : (items : List Item) (index : ℕ) (item : Item) (ordered after : List Label) → index < length items → item ≡ get_or items index item
     → ordered ≡ in_label_order (labels_of (take index items)) → after ≡ insert_key cmp-value.it ordered item.label
@@ -115,4 +120,4 @@ pub one_more_item : (items : List Item) (index : ℕ) (item : Item) (ordered aft
 one_more_item items index item ordered after within here before put =
     let more : take (index + 1) items ≡ take index items ++ item ∷ [] = take_more items index item within ∙ ap (λ (x : Item). take index items ++ x ∷ []) (sym here) in
     put ∙ (λ i. insert_key (order_is i) (before i) item.label) ∙ sym (one_more_label (labels_of (take index items)) item.label)
-    ∙ ap in_label_order (sym (ap labels_of more ∙ map-append (λ (x : Item). x.label) (take index items) (item ∷ [])))
+    ∙ ap in_label_order (sym (ap labels_of more ∙ labels-push (take index items) item))

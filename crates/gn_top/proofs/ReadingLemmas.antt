@@ -10,7 +10,6 @@ use Rattle.gn_grammar.proofs.OneAnswer.{one_answer}
 use Rattle.gn_top.specs.Reading.{reading, read_as}
 use Rattle.gn_top.specs.Loading.{file_loaded, tree_loaded, syntax_fault}
 
-
 pub reading-tree : (bytes : List ℕ) (tree : BlockTree) → IsTree bytes tree → reading bytes ≡ Ok tree
 unfolding reading
 reading-tree bytes tree spelled = by (one_answer bytes).some_answer

@@ -12,8 +12,8 @@ ghost use Rattle.gn_top.specs.Said.{said, asked, texts, fault_said, answer_said,
 ghost use Rattle.gn_top.specs.Steps.{answered_said, AnswersUsage, CountsFault, TakesRead, ReadsLast};
 
 use crate::answered::{Answered, RunStop};
-use crate::host::Host;
 use crate::faults::whole_file_fault;
+use crate::host::Host;
 use crate::labels::append_labels;
 use crate::loading::load_file;
 use crate::texts::{BUILD_FILE, USAGE};

@@ -38,12 +38,7 @@ impl Definer for Groups {
 
 // The group whose block has ended: its name has to be one of a label, and its `deps`, which are read, a list of strings
 // or without a value.
-fn group(
-    alloc: Global,
-    name: &Text,
-    env: &mut Env,
-    position: Position,
-) -> Result<Item, DefineError>
+fn group(alloc: Global, name: &Text, env: &mut Env, position: Position) -> Result<Item, DefineError>
     ensures ok { IfOk result (λ item. defined ItemKind.Group name.now position env.old ≡ Ok (item, env.new)) }
     ensures wrong { IfErr result (DefinesWrong (defined ItemKind.Group name.now position env.old)) }
     ensures levels { levels env.new ≡ levels env.old }
@@ -61,12 +56,7 @@ fn group(
 }
 
 // The fault of a variable of a wrong type.
-fn wrong_type(
-    alloc: Global,
-    name: Text,
-    env: &Env,
-    position: Position,
-) -> Result<Fault, AllocError>
+fn wrong_type(alloc: Global, name: Text, env: &Env, position: Position) -> Result<Fault, AllocError>
     ensures { IfOk result (λ f. f ≡ fault_in env.now.setting position Code.WrongType (name ∷ [])) }
 {
     let mut detail = Texts::new(alloc);
