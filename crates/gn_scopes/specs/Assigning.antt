@@ -40,30 +40,32 @@ abbrev pub put_in : List ℕ → Position → ChainState → Result Val ValueErr
 put_in name position chain (Ok value) = Ok (record chain { inner = put name value position chain.inner })
 put_in name position chain (Err e) = Err (operator_refuses e)
 
+-- `+=` and `-=` on a name at which the innermost layer has nothing: what stands beneath all layers is copied inwards, ..
+abbrev pub changed_beneath : List ℕ → AssignOp → Val → Position → ChainState → Option Val → Result ChainState Refusal
+changed_beneath name op value position chain (Some old) = put_in name position chain (combined op old value)
+changed_beneath name op value position chain None = Err has_no_value
+
+-- .. unless an outer layer has the name, which is read there
+abbrev pub changed_outer : List ℕ → AssignOp → Val → Position → Option Val → ChainState → Option VariableState → Result ChainState Refusal
+changed_outer name op value position beneath chain (Some old) = put_in name position (record chain { outer = marked name chain.outer }) (combined op old.value value)
+changed_outer name op value position beneath chain None = changed_beneath name op value position chain beneath
+
+abbrev pub changed_inner : List ℕ → AssignOp → Val → Position → Option Val → ChainState → Option VariableState → Result ChainState Refusal
+changed_inner name op value position beneath chain (Some old) = put_in name position chain (combined op old.value value)
+changed_inner name op value position beneath chain None = changed_outer name op value position beneath chain (variable_of name chain.outer)
+
 -- `+=` and `-=`: a name of the innermost layer is changed there; a name of an outer layer is read there and copied inwards; `beneath` is
 -- what stands beneath all layers at the name
 abbrev pub changed : List ℕ → AssignOp → Val → Position → Option Val → ChainState → Result ChainState Refusal
-changed name op value position beneath chain = at_inner (variable_in name chain.inner)
-  where
-    at_beneath : Option Val → Result ChainState Refusal
-    at_beneath (Some old) = put_in name position chain (combined op old value)
-    at_beneath None = Err has_no_value
+changed name op value position beneath chain = changed_inner name op value position beneath chain (variable_in name chain.inner)
 
-    at_outer : Option VariableState → Result ChainState Refusal
-    at_outer (Some old) = put_in name position (record chain { outer = marked name chain.outer }) (combined op old.value value)
-    at_outer None = at_beneath beneath
-
-    at_inner : Option VariableState → Result ChainState Refusal
-    at_inner (Some old) = put_in name position chain (combined op old.value value)
-    at_inner None = at_outer (variable_of name chain.outer)
+abbrev pub overwritten_over : List ℕ → Val → Position → ChainState → Option VariableState → Result ChainState Refusal
+overwritten_over name value position chain (Some old) = if replaces old.value value then Err replaces_nonempty else put_in name position chain (Ok value)
+overwritten_over name value position chain None = put_in name position chain (Ok value)
 
 -- `=`: over a nonempty list or scope of the innermost layer no nonempty one may be set
 abbrev pub overwritten : List ℕ → Val → Position → ChainState → Result ChainState Refusal
-overwritten name value position chain = over (variable_in name chain.inner)
-  where
-    over : Option VariableState → Result ChainState Refusal
-    over (Some old) = if replaces old.value value then Err replaces_nonempty else put_in name position chain (Ok value)
-    over None = put_in name position chain (Ok value)
+overwritten name value position chain = overwritten_over name value position chain (variable_in name chain.inner)
 
 unfoldable pub assigned : List ℕ → AssignOp → Val → Position → Option Val → ChainState → Result ChainState Refusal
 assigned name Set value position beneath chain = overwritten name value position chain
@@ -80,18 +82,18 @@ abbrev pub put_element : List ℕ → Position → ChainState → Result Val Ele
 put_element name position chain (Ok value) = Ok (record chain { inner = put name value position chain.inner })
 put_element name position chain (Err e) = Err (element_refuses e)
 
+abbrev pub element_beneath : List ℕ → Val → AssignOp → Val → Position → ChainState → Option Val → Result ChainState ElementRefusal
+element_beneath name at op value position chain (Some old) = put_element name position chain (element_assigned old at op value)
+element_beneath name at op value position chain None = Err base_has_no_value
+
+abbrev pub element_outer : List ℕ → Val → AssignOp → Val → Position → Option Val → ChainState → Option VariableState → Result ChainState ElementRefusal
+element_outer name at op value position beneath chain (Some old) = put_element name position (record chain { outer = marked name chain.outer }) (element_assigned old.value at op value)
+element_outer name at op value position beneath chain None = element_beneath name at op value position chain beneath
+
+abbrev pub element_inner : List ℕ → Val → AssignOp → Val → Position → Option Val → ChainState → Option VariableState → Result ChainState ElementRefusal
+element_inner name at op value position beneath chain (Some old) = put_element name position chain (element_assigned old.value at op value)
+element_inner name at op value position beneath chain None = element_outer name at op value position beneath chain (variable_of name chain.outer)
+
 -- `a[i] = v`, `a.b = v` and their kin are assignments of `a`: a list or scope of an outer layer is read there and copied inwards
 unfoldable pub element_changed : List ℕ → Val → AssignOp → Val → Position → Option Val → ChainState → Result ChainState ElementRefusal
-element_changed name at op value position beneath chain = at_inner (variable_in name chain.inner)
-  where
-    at_beneath : Option Val → Result ChainState ElementRefusal
-    at_beneath (Some old) = put_element name position chain (element_assigned old at op value)
-    at_beneath None = Err base_has_no_value
-
-    at_outer : Option VariableState → Result ChainState ElementRefusal
-    at_outer (Some old) = put_element name position (record chain { outer = marked name chain.outer }) (element_assigned old.value at op value)
-    at_outer None = at_beneath beneath
-
-    at_inner : Option VariableState → Result ChainState ElementRefusal
-    at_inner (Some old) = put_element name position chain (element_assigned old.value at op value)
-    at_inner None = at_outer (variable_of name chain.outer)
+element_changed name at op value position beneath chain = element_inner name at op value position beneath chain (variable_in name chain.inner)

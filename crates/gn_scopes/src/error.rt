@@ -1,0 +1,80 @@
+// Why an assignment is refused, and what the end of a scope reports.
+
+use gn_paths::Text;
+use gn_tree::Position;
+use gn_values::ValueError;
+use std::alloc::AllocError;
+
+/// Why an assignment to a name isn't made.
+#[derive(Clone, Copy, Debug, PartialEq, Eq)]
+pub enum AssignError {
+    /// `=` would replace a nonempty list by a nonempty list, or a nonempty scope by a nonempty scope.
+    Overwrite,
+    /// `+=` and `-=` find no value of the name.
+    Undefined,
+    /// The operator refuses the value that the name has and the one that is assigned.
+    Value(ValueError),
+    /// Want of memory.
+    Memory,
+}
+
+impl From<AllocError> for AssignError {
+    ghost use Rattle.std.specs.Prelude.{◌≡◌};
+    ghost use Rattle.gn_scopes.specs.declared.error.AssignError.TheVariants.{Memory};
+
+    ghost from_gives = { λ _ e. e ≡ Memory };
+
+    fn from(_error: AllocError) -> AssignError {
+        AssignError::Memory
+    }
+}
+
+/// Why an assignment to an element of a name's value isn't made.
+#[derive(Clone, Copy, Debug, PartialEq, Eq)]
+pub enum ElementAssignError {
+    /// The name has no value.
+    Undefined,
+    /// The element isn't found: `BadTypes`, `BadIndex` or `Undefined`.
+    Subscript(ValueError),
+    /// The operator refuses the element and the value, or what it leaves is `TooLong`.
+    Operator(ValueError),
+    /// Want of memory.
+    Memory,
+}
+
+impl From<AllocError> for ElementAssignError {
+    ghost use Rattle.std.specs.Prelude.{◌≡◌};
+    ghost use Rattle.gn_scopes.specs.declared.error.ElementAssignError.TheVariants.{Memory};
+
+    ghost from_gives = { λ _ e. e ≡ Memory };
+
+    fn from(_error: AllocError) -> ElementAssignError {
+        ElementAssignError::Memory
+    }
+}
+
+/// What the layers of scopes refuse.
+#[derive(Debug, Drop)]
+pub enum ScopeError {
+    /// At the end of a checked scope: the unread name whose last assignment stands first, and where that stands.
+    NoEffect(Text, Position),
+    /// `=` would replace a nonempty list by a nonempty list, or a nonempty scope by a nonempty scope.
+    Overwrite,
+    /// `+=` and `-=` find no value of the name.
+    Undefined,
+    /// The operator refuses the value that the name has and the one that is assigned.
+    Value(ValueError),
+    /// Want of memory.
+    Memory,
+}
+
+impl From<AllocError> for ScopeError {
+    ghost use Rattle.std.specs.Prelude.{◌≡◌};
+    ghost use Rattle.gn_scopes.specs.declared.error.ScopeError.TheVariants.{Memory};
+
+    ghost from_gives = { λ _ e. e ≡ Memory };
+
+    fn from(_error: AllocError) -> ScopeError {
+        ScopeError::Memory
+    }
+}
