@@ -22,6 +22,10 @@ abbrev pub variable_of : List ℕ → List LayerState → Option VariableState
 variable_of name [] = None
 variable_of name (l ∷ ls) = nearest (variable_in name l) (variable_of name ls)
 
+-- what the first of the layers that has the name has at it, or else what stands beneath them
+abbrev pub further_value : List ℕ → List LayerState → Option Val → Option Val
+further_value name layers beneath = nearest (option_map (λ v. v.value) (variable_of name layers)) beneath
+
 -- a variable that something has read
 abbrev pub read_variable : VariableState → VariableState
 read_variable v = record v { unread = None }
