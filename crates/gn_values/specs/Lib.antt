@@ -8,3 +8,4 @@ pub mod Search
 pub mod Text
 pub mod Falls
 pub mod Members
+pub mod Assigning

@@ -10,7 +10,7 @@ mod overrides;
 mod value;
 
 pub use comparison::Compare;
-pub use error::ValueError;
+pub use error::{ElementError, ValueError};
 pub use limits::{MAX_BYTES, MAX_DEPTH, MAX_ITEMS, append_text};
 pub use operators::{add, compare, index, subtract};
 pub use overrides::Overrides;
