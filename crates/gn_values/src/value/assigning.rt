@@ -1,10 +1,10 @@
 // The operators of assignments, in place.
 
-ghost use Rattle.std.specs.Prelude.{◌≡◌, ◌≢◌, ◌<◌, IfErr, OnOk, OnErr, IsTrue, false};
-ghost use Rattle.gn_values.specs.Val.{Val, depth_of};
+ghost use Rattle.std.specs.Prelude.{◌≡◌, ◌≢◌, ◌<◌, IfErr, OnOk, OnErr};
+ghost use Rattle.gn_values.specs.Val.{depth_of};
 ghost use Rattle.gn_values.specs.Limits.{max_depth};
 ghost use Rattle.gn_values.specs.Operators.{sum_of};
-ghost use Rattle.gn_values.specs.Assigning.{combined, put_back, element_value, element_assigned};
+ghost use Rattle.gn_values.specs.Assigning.{combined, put_back, element_value, element_assigned, is_list, grows_too_deep};
 ghost use Rattle.gn_values.specs.View.{val_of};
 
 use crate::error::{ElementError, ValueError};
@@ -17,6 +17,7 @@ use std::alloc::Global;
 impl Value {
     /// Adds a value to this one in place, as `+` does: the items of a list are moved behind those
     /// that it has. After a refusal it is as before, and the right value is dropped.
+    #[tactic(auto, unfolding(crate::specs::Operators::sum_of))]
     fn add_moved(&mut self, alloc: Global, right: Value) -> Result<(), ValueError>
         ensures ok { OnOk result (sum_of (val_of self.old) (val_of right) ≡ Ok (val_of self.new)) }
         ensures refused { IfErr result
@@ -59,21 +60,20 @@ impl Value {
         }
     }
 
-    /// Whether an element of a list or a scope would be too deep for it after an assignment.
-    fn is_too_deep_after(&self, op: AssignOp, right: &Value) -> bool
-        requires { depth_of (val_of self.now) < max_depth }
-        ensures deep { IsTrue result
-            → put_back element_value (combined op (val_of self.now) (val_of right.now))
-            ≡ Err (ElementError.Operator ValueError.TooLong) }
-        ensures shallow { result ≡ false → (v : Val)
-            → combined op (val_of self.now) (val_of right.now) ≡ Ok v → depth_of v < max_depth }
+    /// Whether the value is a list.
+    fn is_list(&self) -> bool
+        ensures { result ≡ is_list (val_of self.now) }
+    {
+        matches!(self, Value::List(_))
+    }
+
+    /// Whether this value, which is an element, is too deep for one after an assignment.
+    fn grows_too_deep(&self, op: AssignOp, right: &Value) -> bool
+        ensures { result ≡ grows_too_deep op (val_of self.now) (val_of right.now) }
     {
         match op {
             AssignOp::Set => right.depth() >= MAX_DEPTH,
-            AssignOp::Add => match (self, right) {
-                (Value::List(_), Value::List(more)) => more.depth() >= MAX_DEPTH,
-                _ => false,
-            },
+            AssignOp::Add => self.is_list() && right.is_list() && right.depth() >= MAX_DEPTH,
             AssignOp::Subtract => false,
         }
     }
@@ -97,7 +97,7 @@ impl Value {
         ensures err { OnErr result (val_of self.new ≡ val_of self.old) }
     {
         // An item that was added in place couldn't be taken back, so the depth is looked at first.
-        if self.is_too_deep_after(op, &right) {
+        if self.grows_too_deep(op, &right) {
             return Err(ElementError::Operator(ValueError::TooLong));
         }
         match self.combine(alloc, op, right) {

@@ -1,6 +1,6 @@
 // An item of a list or an entry of a scope changes in place.
 
-ghost use Rattle.std.specs.Prelude.{◌≡◌, ◌≢◌, ◌<◌, ◌≤◌, ◌+◌, ◌⊎◌, IfErr, OnOk, OnErr, IsTrue, None, false, length, map, max, slice_set};
+ghost use Rattle.std.specs.Prelude.{◌≡◌, ◌≢◌, ◌<◌, ◌≤◌, ◌+◌, ◌⊎◌, IfErr, OnOk, OnErr, IsTrue, None, false, length, map, max, pos, slice_set};
 ghost use Rattle.gn_values.specs.Val.{vlist, vscope, vals_of, binds_of, list_depth, scope_depth};
 ghost use Rattle.gn_values.specs.Limits.{max_depth, list_fits};
 ghost use Rattle.gn_values.specs.Operators.{item_at, value_at};
@@ -101,12 +101,37 @@ impl Items {
         if at < 0 || at as usize >= self.items.len() {
             return Err(ElementError::Subscript(ValueError::BadIndex));
         }
-        let index = at as usize;
+        self.combine_item(alloc, at as usize, op, value)
+    }
+
+    /// Assigns to the item of this number, in place.
+    fn combine_item(
+        &mut self,
+        alloc: Global,
+        index: usize,
+        op: AssignOp,
+        value: Value,
+    ) -> Result<(), ElementError>
+        requires { index < length self.old }
+        ensures ok { OnOk result
+            (item_assigned self.old (pos index) op (val_of value) (item_at self.old (pos index))
+            ≡ Ok (vlist (vals_of self.new))) }
+        ensures refused { IfErr result
+            (λ e. e ≢ ElementError.Memory
+            → item_assigned self.old (pos index) op (val_of value) (item_at self.old (pos index))
+            ≡ Err e) }
+        ensures err { OnErr result (self.new ≡ self.old) }
+    {
         let before = self.items[index].depth();
-        self.items[index].combine_element(alloc, op, value)?;
-        let after = self.items[index].depth();
-        self.depth = depth_of_changed_items(self.items.as_slice(), self.depth, before, after);
-        Ok(())
+        match self.items[index].combine_element(alloc, op, value) {
+            Ok(()) => {
+                let after = self.items[index].depth();
+                self.depth =
+                    depth_of_changed_items(self.items.as_slice(), self.depth, before, after);
+                Ok(())
+            }
+            Err(error) => Err(error),
+        }
     }
 }
 
@@ -128,16 +153,18 @@ impl Entries {
             ≡ Err e) }
         ensures err { OnErr result (self.new ≡ self.old) }
     {
-        match find_entry(self.entries.as_slice(), name.as_bytes()) {
-            Ok(at) => {
-                let before = self.entries[at].value.depth();
-                self.entries[at].value.combine_element(alloc, op, value)?;
+        let Ok(at) = find_entry(self.entries.as_slice(), name.as_bytes()) else {
+            return self.assign_absent(alloc, name, op, value);
+        };
+        let before = self.entries[at].value.depth();
+        match self.entries[at].value.combine_element(alloc, op, value) {
+            Ok(()) => {
                 let after = self.entries[at].value.depth();
                 self.depth =
                     depth_of_changed_entries(self.entries.as_slice(), self.depth, before, after);
                 Ok(())
             }
-            Err(_) => self.assign_absent(alloc, name, op, value),
+            Err(error) => Err(error),
         }
     }
 
