@@ -1,5 +1,5 @@
 -- What an assignment to an element leaves of what holds it.
-use Rattle.std.proofs.Common.{◌≡◌, pos, get_or, length, ℕ, ℤ, ◌+ℤ◌, ◌-ℤ◌, ◌<◌, ◌≤◌, max, Bool, true, false, nat_lt, nat_le, cond, not, ◌++◌, List, [], ◌∷◌, filter, Result, Ok, Err, refl, sym, ap, ◌∙◌, arith}
+use Rattle.std.proofs.Common.{◌≡◌, pos, get_or, length, ℕ, ◌+ℤ◌, ◌-ℤ◌, ◌<◌, ◌≤◌, max, Bool, true, false, nat_lt, cond, not, ◌++◌, List, Some, Result, Ok, Err, refl, sym, ap, ◌∙◌, arith}
 use Rattle.std.specs.List.{list_all}
 use Rattle.std.specs.Option.{ok_or}
 use Rattle.std.specs.Prelude.{slice_set}
@@ -8,17 +8,17 @@ use Rattle.std.specs.Fmt.{signed_decimal}
 use Rattle.std.proofs.lemmas.Bool.Decides.{nat_tests}
 use Rattle.gn_tree.specs.declared.operator.AssignOp.{AssignOp}
 use Rattle.gn_tree.specs.declared.operator.AssignOp.TheVariants.{Set, Add, Subtract}
-use Rattle.gn_values.specs.Val.{Val, vbool, vint, vstr, vlist, vscope, Vals, no_vals, val_then, vals_of, list_of, depth_of, deepest_item, list_depth}
-use Rattle.gn_values.specs.Limits.{max_depth, list_fits, text_fits, IsList}
-use Rattle.gn_values.specs.Operators.{sum_of, difference_of, integer_fits, integer_value, text_value, list_value, is_among, without, item_at}
-use Rattle.gn_values.specs.Assigning.{combined, operator_fault, put_back, element_value, grows_too_deep, list_with, item_assigned}
+use Rattle.gn_values.specs.Val.{Val, vint, vstr, vlist, vscope, Vals, no_vals, val_then, vals_of, binds_of, list_of, depth_of, deepest_item}
+use Rattle.gn_values.specs.Limits.{max_depth, list_fits, text_fits, IsList, IsScope}
+use Rattle.gn_values.specs.Operators.{sum_of, difference_of, integer_fits, is_among, item_at, value_at, with_entry}
+use Rattle.gn_values.specs.Assigning.{combined, operator_fault, put_back, element_value, grows_too_deep, list_with, item_assigned, scope_with, entry_assigned}
 use Rattle.gn_values.specs.declared.error.ValueError.{ValueError}
 use Rattle.gn_values.specs.declared.error.ValueError.TheVariants.{BadTypes, Overflow, NotInList, BadIndex, TooLong}
 use Rattle.gn_values.specs.declared.error.ElementError.{ElementError}
 use Rattle.gn_values.specs.declared.error.ElementError.TheVariants.{Operator}
 use Rattle.gn_values.proofs.Depths.{deepest_item-append}
 use Rattle.gn_values.proofs.Among.{deepest_item-filter}
-use Rattle.gn_values.proofs.Elements.{fits_set, item_there}
+use Rattle.gn_values.proofs.Elements.{fits_set, fits_with, item_there}
 use Rattle.std.proofs.lemmas.List.{map-set, length-map}
 use Rattle.gn_values.specs.View.{val_of, vals_in, KeepsItems}
 use Rattle.gn_values.specs.declared.value.Value.{Value}
@@ -147,3 +147,14 @@ module _ (xs : List Value) (i : ℕ) (old : Value) (value : Val) (op : AssignOp)
   item_refused_there e h =
       let inside : i < length (vals_in xs) = omega (arith, length-map xs val_of) in
       item_refused (vals_in xs) i (val_of old) value op keeps.limits inside (item_there xs i old within is) e h
+
+-- an assignment to an entry that is there
+module _ (bs : List (List ℕ × Val)) (k : List ℕ) (old value : Val) (op : AssignOp) (limits : IsScope bs) (is : value_at k bs ≡ Some old) where
+  fits_entry : (v : Val) → scope_with bs k v ≡ cond (nat_lt (depth_of v) max_depth) (Ok (vscope (binds_of (with_entry bs k v)))) (Err TooLong)
+  fits_entry v = ap (λ b. cond b (Ok (vscope (binds_of (with_entry bs k v)))) (Err TooLong)) (sym (fits_with bs k v limits))
+
+  pub entry_ok : (new : Val) → put_back element_value (combined op old value) ≡ Ok new → entry_assigned bs k op value (value_at k bs) ≡ Ok (vscope (binds_of (with_entry bs k new)))
+  entry_ok new h = ap (entry_assigned bs k op value) is ∙ put_fitting (scope_with bs k) (λ v. vscope (binds_of (with_entry bs k v))) fits_entry (combined op old value) new h
+
+  pub entry_refused : (e : ElementError) → put_back element_value (combined op old value) ≡ Err e → entry_assigned bs k op value (value_at k bs) ≡ Err e
+  entry_refused e h = ap (entry_assigned bs k op value) is ∙ put_refused (scope_with bs k) (λ v. vscope (binds_of (with_entry bs k v))) fits_entry (combined op old value) e h

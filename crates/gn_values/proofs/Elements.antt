@@ -1,16 +1,20 @@
 -- A list with an item set, and a scope with an entry set: how deep they nest, and what is within the limits.
-use Rattle.std.proofs.Common.{◌≡◌, ℕ, zero, suc, ◌+◌, ◌<◌, ◌≤◌, ◌⊎◌, inl, inr, max, nat_lt, true, false, is_none, Some, List, [], ◌∷◌, ◌++◌, length, get_or, take, map, sym, ap, ◌∙◌, subst, arith}
+use Rattle.std.proofs.Common.{◌≡◌, ℕ, zero, suc, ◌+◌, ◌<◌, ◌≤◌, ◌⊎◌, inl, inr, max, nat_lt, false, Some, List, [], ◌∷◌, length, get_or, take, map, Ok, refl, sym, ap, ◌∙◌, subst, arith}
 use Rattle.std.specs.Prelude.{slice_set}
 use Rattle.std.proofs.lemmas.List.{map-set, length-set, length-map, get_or-map}
 use Rattle.std.proofs.Math.Seq.{map-set_same}
 use Rattle.std.proofs.lemmas.Bool.Decides.{nat_tests}
-use Rattle.gn_values.specs.Val.{Val, vals_of, binds_of, depth_of, deepest_item, deepest_entry, list_depth}
-use Rattle.gn_values.specs.Limits.{max_depth, list_fits, IsList}
+use Rattle.gn_values.specs.Val.{Val, vals_of, binds_of, depth_of, deepest_item, deepest_entry, list_depth, scope_depth, IsSortedByName}
+use Rattle.gn_values.specs.Limits.{max_depth, list_fits, scope_fits, IsList, IsScope}
 use Rattle.gn_values.specs.Operators.{value_at, with_entry}
-use Rattle.gn_values.specs.View.{val_of, vals_in, KeepsItems}
+use Rattle.gn_values.specs.View.{val_of, entry_of, vals_in, entries_in, KeepsItems, KeepsEntries}
 use Rattle.gn_values.specs.declared.value.Value.{Value}
+use Rattle.gn_values.specs.declared.value.Entry.{Entry}
 use Rattle.gn_values.proofs.Among.{took_more}
-use Rattle.gn_values.proofs.Depths.{deepest_item-append, list_fits-list, list_from_fits}
+use Rattle.gn_values.proofs.Setting.{depth_with, depth_with_former, put_there}
+use Rattle.gn_values.proofs.Sorted.{value_at_place}
+use Rattle.gn_values.specs.Search.{IsPlaceOf}
+use Rattle.gn_values.proofs.Depths.{deepest_item-append}
 
 -- one more item looked at
 pub deepest_item_more : (xs : List Value) (i : ℕ) (x : Value) → i < length xs → x ≡ get_or xs i x → deepest_item (vals_of (take (i + 1) (map val_of xs))) ≡ max (deepest_item (vals_of (take i (map val_of xs)))) (depth_of (val_of x))
@@ -78,3 +82,43 @@ module _ (xs : List Value) (i : ℕ) (old new : Value) (d d' before after : ℕ)
 -- how long the list of the values is
 pub within_items : (xs : List Value) (vs : List Val) (i : ℕ) → vals_in xs ≡ vs → i < length vs → i < length xs
 within_items xs vs i e l = omega (arith, length-map xs val_of, ap length e)
+
+-- a scope with an entry set that isn't too deep
+pub fits_with : (bs : List (List ℕ × Val)) (k : List ℕ) (v : Val) → IsScope bs → nat_lt (depth_of v) 200 ≡ scope_fits (with_entry bs k v)
+fits_with bs k v h =
+    let a = h.shallow in
+    let deep = depth_with k v bs in
+    let x = deep.0 in
+    let y = deep.1 in
+    grind (arith, nat_tests)
+
+module _ (es es' : List Entry) (k : List ℕ) (old new : Value) (d before after : ℕ) where
+  change_with : value_at k (entries_in es) ≡ Some (val_of old) → entries_in es' ≡ with_entry (entries_in es) k (val_of new) → IsChange (depth_of (val_of old)) (depth_of (val_of new)) (deepest_entry (binds_of (entries_in es))) (deepest_entry (binds_of (entries_in es')))
+  change_with e n =
+      let former = depth_with_former k (val_of new) (entries_in es) (val_of old) e in
+      let deep = depth_with k (val_of new) (entries_in es) in
+      subst (λ (bs : List (List ℕ × Val)). IsChange (depth_of (val_of old)) (depth_of (val_of new)) (deepest_entry (binds_of (entries_in es))) (deepest_entry (binds_of bs))) (sym n)
+      (record { had = former.0; has = deep.0; rises = deep.1; falls = former.1 })
+
+  -- a value is one level less deep than the scope
+  pub entry_shallow : value_at k (entries_in es) ≡ Some (val_of old) → KeepsEntries (entries_in es) d → depth_of (val_of old) < max_depth
+  entry_shallow e j = let h = (depth_with_former k (val_of new) (entries_in es) (val_of old) e).0 in omega (arith, j.limits.shallow)
+
+  pub entry_change_known : value_at k (entries_in es) ≡ Some (val_of old) → entries_in es' ≡ with_entry (entries_in es) k (val_of new) → KeepsEntries (entries_in es) d → before ≡ depth_of (val_of old) → after ≡ depth_of (val_of new) → (before ≤ after) ⊎ (before + 1 < d) → scope_depth (entries_in es') ≡ max d (after + 1)
+  entry_change_known e n j b a h =
+      let r = change_with e n in
+      elim h [ inl p ↦ omega (arith, j.counted, r.had, r.has, r.rises, r.falls) | inr p ↦ omega (arith, j.counted, r.had, r.has, r.rises, r.falls) ]
+
+-- the entry where a search for its name ended, and the entries with its value changed
+module _ (k ns : List ℕ) (es fs : List Entry) (i : ℕ) (x : Entry) (name : ns ≡ k) (same : fs ≡ es) (sorted : IsSortedByName (entries_in es)) (place : IsPlaceOf ns fs (Ok i)) (is : x ≡ get_or es i x) where
+  pub found_at : value_at k (entries_in es) ≡ Some (val_of x.value)
+  found_at = sym (value_at_place ns (entries_in es) fs es i x refl same sorted place is ∙ ap (λ m. value_at m (entries_in es)) name)
+
+  pub within_at : i < length es
+  within_at = let p : i < length fs = place.0 in let long = ap length same in omega arith
+
+  pub changed_at : (new : Value) → entries_in (slice_set es i (record { name = x.name; value = new })) ≡ with_entry (entries_in es) k (val_of new)
+  changed_at new = put_there k (val_of new) ns es fs i x (record { name = x.name; value = new }) name same sorted place (ap (λ e. e.name) is) refl
+
+  pub unchanged_at : (new : Value) → val_of new ≡ val_of x.value → entries_in (slice_set es i (record { name = x.name; value = new })) ≡ entries_in es
+  unchanged_at new e = map-set_same entry_of es i (record { name = x.name; value = new }) x (ap (λ v. (x.name, v)) e ∙ ap entry_of is)

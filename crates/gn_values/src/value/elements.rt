@@ -126,8 +126,12 @@ impl Items {
         match self.items[index].combine_element(alloc, op, value) {
             Ok(()) => {
                 let after = self.items[index].depth();
-                self.depth =
-                    depth_of_changed_items(self.items.as_slice(), self.depth, before, after);
+                self.depth = depth_of_changed_items(
+                    self.items.as_slice(),
+                    self.depth,
+                    before,
+                    after,
+                );
                 Ok(())
             }
             Err(error) => Err(error),
@@ -160,8 +164,12 @@ impl Entries {
         match self.entries[at].value.combine_element(alloc, op, value) {
             Ok(()) => {
                 let after = self.entries[at].value.depth();
-                self.depth =
-                    depth_of_changed_entries(self.entries.as_slice(), self.depth, before, after);
+                self.depth = depth_of_changed_entries(
+                    self.entries.as_slice(),
+                    self.depth,
+                    before,
+                    after,
+                );
                 Ok(())
             }
             Err(error) => Err(error),

@@ -1,12 +1,11 @@
-use Rattle.std.proofs.Common.{◌≡◌, ◌<◌, ◌∙◌, length, sym, ap, subst, List}
+use Rattle.std.proofs.Common.{◌≡◌, ◌<◌, ◌∙◌, length, ap}
 use Rattle.std.proofs.Math.Seq.{map-set_same}
 use Rattle.std.proofs.lemmas.List.{get_or-set_same}
-use Rattle.std.specs.Prelude.{slice_set}
-use Rattle.gn_values.specs.Val.{Val, depth_of, list_depth}
+use Rattle.gn_values.specs.Val.{depth_of, list_depth}
 use Rattle.gn_values.specs.Limits.{max_depth}
 use Rattle.gn_values.specs.Assigning.{combined}
 use Rattle.gn_values.specs.View.{val_of, vals_in}
-use Rattle.gn_values.proofs.Elements.{item_shallow, item_change_known, keeps_set, keeps_same, within_items}
+use Rattle.gn_values.proofs.Elements.{item_change_known, keeps_set, keeps_same, within_items}
 use Rattle.gn_values.proofs.Assigned.{put_shallow, item_ok_there, item_refused_there}
 use Rattle.gn_values.proofs.value.Items.combine_item.Goals as goal
 

@@ -1,8 +1,8 @@
-use Rattle.std.proofs.Common.{◌≡◌, ◌<◌, length, arith, rules, sym, ap, ◌∙◌}
+use Rattle.std.proofs.Common.{◌<◌, length, arith, ap, ◌∙◌}
 use Rattle.std.proofs.lemmas.List.{map-set}
 use Rattle.std.specs.Prelude.{slice_set}
 use Rattle.gn_values.specs.Val.{depth_of, list_depth}
-use Rattle.gn_values.specs.Limits.{max_depth, IsList}
+use Rattle.gn_values.specs.Limits.{max_depth}
 use Rattle.gn_values.specs.View.{val_of, vals_in, KeepsItems}
 use Rattle.gn_values.proofs.Depths.{list_fits-list}
 use Rattle.gn_values.proofs.Elements.{too_deep_set, item_shallow, item_change_known, keeps_set, within_items}
