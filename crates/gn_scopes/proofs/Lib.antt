@@ -1,1 +1,4 @@
 pub mod Tables
+pub mod Changes
+pub mod Outcomes
+pub mod Earliest

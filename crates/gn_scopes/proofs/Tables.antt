@@ -4,9 +4,13 @@ use Rattle.std.specs.Cmp.Lexicographic.{slice_cmp, nat_list_cmp_total}
 use Rattle.std.proofs.lemmas.Map.Made.{lookup-map_values}
 use Rattle.gn_values.specs.Val.{Val}
 use Rattle.gn_scopes.specs.Layers.{VariableState, Table, at_name, with_name, without_name, LayerState}
+use Rattle.std.proofs.lemmas.Map.Steps.{set_value_same}
+use Rattle.gn_values.specs.View.{val_of}
+use Rattle.gn_tree.specs.declared.position.Position.{Position}
+use Rattle.gn_scopes.specs.Assigning.{unread_after, put}
 use Rattle.gn_scopes.specs.Chains.{variable_in, set_in, read_variable, read_of, read_in}
 use Rattle.gn_scopes.specs.View.{variable_state, variables_in}
-use Rattle.gn_scopes.specs.declared.layer.Variable.{Variable}
+use Rattle.gn_scopes.specs.declared.variable.Variable.{Variable}
 use Rattle.std.specs.Ordering.{nat_cmp, is_eq, match_ordering}
 use Rattle.std.specs.declared.cmp.Ordering.TheVariants.{Less, Equal, Greater}
 use Rattle.std.specs.Map.{lookup, remove_entry, set_value, keys_of}
@@ -36,6 +40,11 @@ module _ {K X Y : Type 0} (g : X → Y) where
   remove_entry-seen test [] = refl
   remove_entry-seen test (e ∷ es) =
       elim (test e.0) as (λ b. seen (cond b es (e ∷ remove_entry test es)) ≡ cond b (seen es) ((e.0, g e.1) ∷ remove_entry test (seen es))) [ true ↦ refl | false ↦ ap (λ ys. (e.0, g e.1) ∷ ys) (remove_entry-seen test es) ]
+
+  pub set_value-seen : (test : K → Bool) (es : List (K × X)) (w : X) → seen (set_value test es w) ≡ set_value test (seen es) (g w)
+  set_value-seen test [] w = refl
+  set_value-seen test (e ∷ es) w =
+      elim (test e.0) as (λ b. seen (cond b ((e.0, w) ∷ es) (e ∷ set_value test es w)) ≡ cond b ((e.0, g w) ∷ seen es) ((e.0, g e.1) ∷ set_value test (seen es) (g w))) [ true ↦ refl | false ↦ ap (λ ys. (e.0, g e.1) ∷ ys) (set_value-seen test es w) ]
 
 -- a value written at a key that the entries have is that key set
 module _ {K X : Type 0} {cmp : K → K → Ordering} (total : IsTotalOrder cmp) (k : K) (v w : X) where
@@ -84,17 +93,35 @@ module _ (templates : Table ℕ) (defaults : Table (Table Val)) (checked : Bool)
   abbrev pub layer_with : List (List ℕ × Variable) → LayerState
   layer_with es = record { variables = variables_in es; templates = templates; defaults = defaults; checked = checked }
 
-  module _ (name : List ℕ) (es ns : List (List ℕ × Variable)) where
+  pub same_layer : (es ns : List (List ℕ × Variable)) → ns ≡ es → layer_with ns ≡ layer_with es
+  same_layer es ns same = ap layer_with same
+
+  module _ (name : List ℕ) (es : List (List ℕ × Variable)) where
     pub not_there : None ≡ lookup (is_at (order name)) es → variable_in name (layer_with es) ≡ None
     not_there h = variable_at name es ∙ ap (option_map variable_state) (sym h)
 
     pub is_there : (v : Variable) → Some v ≡ lookup (is_at (order name)) es → variable_in name (layer_with es) ≡ Some (variable_state v)
     is_there v h = variable_at name es ∙ ap (option_map variable_state) (sym h)
 
-    pub read_absent : None ≡ lookup (is_at (order name)) es → ns ≡ es → layer_with ns ≡ read_in name (layer_with es)
-    read_absent h same =
+    pub read_absent : (ns : List (List ℕ × Variable)) → None ≡ lookup (is_at (order name)) es → ns ≡ es → layer_with ns ≡ read_in name (layer_with es)
+    read_absent ns h same =
         ap layer_with same ∙ ap (read_of name (layer_with es)) (sym (not_there h))
 
-    pub read_present : (v w : Variable) → Some v ≡ lookup (is_at (order name)) es → IsStrictlySortedBy order (keys_of es) → ns ≡ set_value (is_at (order name)) es w → variable_state w ≡ read_variable (variable_state v) → layer_with ns ≡ read_in name (layer_with es)
-    read_present v w h sorted written is =
-        ap layer_with written ∙ ap (λ (vs : Table VariableState). record (layer_with es) { variables = vs }) (written_variable name es v w sorted (sym h)) ∙ ap (λ s. set_in name (Some s) (layer_with es)) is ∙ ap (read_of name (layer_with es)) (sym (is_there v h))
+    -- a variable that is there is written
+    module _ (ns : List (List ℕ × Variable)) (v w : Variable) (h : Some v ≡ lookup (is_at (order name)) es) (sorted : IsStrictlySortedBy order (keys_of es)) (written : ns ≡ set_value (is_at (order name)) es w) where
+      pub set_there : layer_with ns ≡ set_in name (Some (variable_state w)) (layer_with es)
+      set_there =
+          ap layer_with written ∙ ap (λ (vs : Table VariableState). record (layer_with es) { variables = vs }) (written_variable name es v w sorted (sym h))
+
+      pub read_present : variable_state w ≡ read_variable (variable_state v) → layer_with ns ≡ read_in name (layer_with es)
+      read_present is =
+          set_there ∙ ap (λ s. set_in name (Some s) (layer_with es)) is ∙ ap (read_of name (layer_with es)) (sym (is_there v h))
+
+      pub same_there : variable_state w ≡ variable_state v → layer_with ns ≡ layer_with es
+      same_there is =
+          ap layer_with written ∙ ap (λ (vs : Table VariableState). record (layer_with es) { variables = vs }) (set_value-seen variable_state (is_at (order name)) es w ∙ set_value_same (is_at (order name)) (variables_in es) (variable_state w) (is_there v h ∙ ap Some (sym is)))
+
+      pub put_there : (value : Val) (position : Position) → val_of w.value ≡ value → w.unread ≡ unread_after (Some (variable_state v)) position → layer_with ns ≡ put name value position (layer_with es)
+      put_there value position e f =
+          let there : w.unread ≡ unread_after (variable_in name (layer_with es)) position = f ∙ ap (λ o. unread_after o position) (sym (is_there v h)) in
+          set_there ∙ (λ i. set_in name (Some (record { value = e i; unread = there i })) (layer_with es))

@@ -52,6 +52,14 @@ module _ {E R : Type 0} (absent : R) (refuses : E → R) (step : Val → Result 
   put_result layer (Ok value) = Ok (put name value position layer)
   put_result layer (Err e) = Err (refuses e)
 
+  -- a layer that has the name, with what the step makes of its value
+  abbrev pub changed_here : LayerState → Option VariableState → Result LayerState R
+  changed_here layer (Some old) = put_result layer (step old.value)
+  changed_here layer None = Err absent
+
+  abbrev pub changed_in : LayerState → Result LayerState R
+  changed_in layer = changed_here layer (variable_in name layer)
+
   -- a name at which the innermost layer has nothing: what is found further out is read there and copied inwards
   abbrev pub copied_inwards : ChainState → Option Val → Result ChainState R
   copied_inwards chain (Some old) = with_inner (record chain { outer = marked name chain.outer }) (put_result chain.inner (step old))

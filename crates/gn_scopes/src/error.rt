@@ -1,8 +1,11 @@
 // Why an assignment is refused, and what the end of a scope reports.
 
+ghost use Rattle.std.specs.Prelude.{◌≡◌, ◌≢◌, Err};
+ghost use Rattle.gn_scopes.specs.Errors.{IsRefusalOf, IsElementRefusalOf};
+
 use gn_paths::Text;
 use gn_tree::Position;
-use gn_values::ValueError;
+use gn_values::{ElementError, ValueError};
 use std::alloc::AllocError;
 
 /// Why an assignment to a name isn't made.
@@ -29,6 +32,19 @@ impl From<AllocError> for AssignError {
     }
 }
 
+impl AssignError {
+    /// The error for what an operator refuses.
+    pub(crate) fn of_operator(error: ValueError) -> AssignError
+        ensures refused { error ≢ ValueError.Memory → IsRefusalOf result (Err error) }
+        ensures memory { error ≡ ValueError.Memory → result ≡ AssignError.Memory }
+    {
+        match error {
+            ValueError::Memory => AssignError::Memory,
+            _ => AssignError::Value(error),
+        }
+    }
+}
+
 /// Why an assignment to an element of a name's value isn't made.
 #[derive(Clone, Copy, Debug, PartialEq, Eq)]
 pub enum ElementAssignError {
@@ -50,6 +66,20 @@ impl From<AllocError> for ElementAssignError {
 
     fn from(_error: AllocError) -> ElementAssignError {
         ElementAssignError::Memory
+    }
+}
+
+impl ElementAssignError {
+    /// The error for what the assignment to an element refuses.
+    pub(crate) fn of_element(error: ElementError) -> ElementAssignError
+        ensures refused { error ≢ ElementError.Memory → IsElementRefusalOf result (Err error) }
+        ensures memory { error ≡ ElementError.Memory → result ≡ ElementAssignError.Memory }
+    {
+        match error {
+            ElementError::Subscript(error) => ElementAssignError::Subscript(error),
+            ElementError::Operator(error) => ElementAssignError::Operator(error),
+            ElementError::Memory => ElementAssignError::Memory,
+        }
     }
 }
 

@@ -5,8 +5,10 @@ mod error;
 mod fixed;
 mod layer;
 mod scopes;
+mod variable;
 
 pub use error::{AssignError, ElementAssignError, ScopeError};
 pub use fixed::Fixed;
-pub use layer::{Layer, Variable};
+pub use layer::Layer;
 pub use scopes::Scopes;
+pub use variable::Variable;

@@ -1,12 +1,13 @@
 use Rattle.std.proofs.Common.{◌≡◌, refl, sym, ◌∙◌, ap, is_some, None}
 use Rattle.gn_scopes.specs.Chains.{variable_in, read_in}
-use Rattle.gn_scopes.proofs.Tables.{not_there, is_there, read_absent, read_present}
+use Rattle.gn_scopes.proofs.Tables.{read_absent, read_present}
+use Rattle.gn_scopes.proofs.Changes.{absent_in, present_in}
 use Rattle.gn_scopes.proofs.layer.Layer.mark.Goals as goal
 
 pub returns-in_default-clause-found : goal.returns-in_default-clause-found
 returns-in_default-clause-found c =
     let a = c.self.inside in
-    ap is_some (sym (not_there a.templates.entries a.defaults.entries a.checked c.args.name.now a.variables.entries a.variables.entries c.in_default.ensures.value) ∙ ap (variable_in c.args.name.now) c.self.view_is)
+    ap is_some (sym (absent_in a.templates.entries a.defaults.entries a.checked c.args.name.now a.variables.entries _ c.self.view_is c.in_default.ensures.value))
 
 pub returns-in_default-clause-read : goal.returns-in_default-clause-read
 returns-in_default-clause-read c =
@@ -16,10 +17,10 @@ returns-in_default-clause-read c =
 pub returns-clause-found : goal.returns-clause-found
 returns-clause-found c =
     let a = c.self.inside in
-    ap is_some (sym (is_there a.templates.entries a.defaults.entries a.checked c.args.name.now a.variables.entries a.variables.entries c.in-Some.variable.now c.in-Some.ensures.value) ∙ ap (variable_in c.args.name.now) c.self.view_is)
+    ap is_some (sym (present_in a.templates.entries a.defaults.entries a.checked c.args.name.now a.variables.entries _ c.self.view_is c.in-Some.variable.now c.in-Some.ensures.value))
 
 pub returns-clause-read : goal.returns-clause-read
 returns-clause-read c =
     let a = c.self.inside in
-    let written = c.get_mut.follows.holds (record {value = c.in-Some.variable.now.value; unread = None}) in
+    let written = c.get_mut.follows.holds (record { value = c.in-Some.variable.now.value; unread = None }) in
     read_present a.templates.entries a.defaults.entries a.checked c.args.name.now a.variables.entries _ c.in-Some.variable.now _ c.in-Some.ensures.value c.get_mut.ensures.ordered written.0 refl ∙ ap (read_in c.args.name.now) c.self.view_is
