@@ -2,3 +2,4 @@ pub mod Tables
 pub mod Changes
 pub mod Outcomes
 pub mod Earliest
+pub mod Outwards

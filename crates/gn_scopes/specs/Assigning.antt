@@ -36,6 +36,10 @@ abbrev pub with_inner : {R : Type 0} → ChainState → Result LayerState R → 
 with_inner chain (Ok layer) = Ok (record chain { inner = layer })
 with_inner chain (Err r) = Err r
 
+-- the layers after an assignment of a value to a name that is read further out
+abbrev pub put_and_read : List ℕ → Val → Position → ChainState → ChainState
+put_and_read name value position chain = record { inner = put name value position chain.inner; outer = marked name chain.outer }
+
 abbrev pub overwritten_over : List ℕ → Val → Position → LayerState → Option VariableState → Result LayerState Refusal
 overwritten_over name value position layer (Some old) = if replaces old.value value then Err replaces_nonempty else Ok (put name value position layer)
 overwritten_over name value position layer None = Ok (put name value position layer)

@@ -1,5 +1,5 @@
 -- Reading through layers, outwards.
-use Rattle.std.specs.Prelude.{ℕ, Bool, List, [], ◌∷◌, Option, Some, None, option_map}
+use Rattle.std.specs.Prelude.{◌≡◌, ℕ, zero, suc, IsSome, Bool, List, [], ◌∷◌, Option, Some, None, option_map}
 use Rattle.gn_values.specs.Val.{Val}
 use Rattle.gn_scopes.specs.Layers.{VariableState, at_name, with_name, without_name, LayerState, ChainState, empty_layer}
 
@@ -48,6 +48,12 @@ read_through name l ls None further = l ∷ further
 abbrev pub marked : List ℕ → List LayerState → List LayerState
 marked name [] = []
 marked name (l ∷ ls) = read_through name l ls (variable_in name l) (marked name ls)
+
+-- the layer of this number is the first that has the name
+abbrev pub IsFirstAt : List ℕ → List LayerState → ℕ → Type 0
+IsFirstAt name [] i = ⊥
+IsFirstAt name (l ∷ ls) zero = IsSome (variable_in name l)
+IsFirstAt name (l ∷ ls) (suc i) = (variable_in name l ≡ None) × IsFirstAt name ls i
 
 -- what the layers have at a name
 unfoldable pub chain_value : List ℕ → ChainState → Option Val

@@ -1,7 +1,8 @@
 // Why an assignment is refused, and what the end of a scope reports.
 
-ghost use Rattle.std.specs.Prelude.{◌≡◌, ◌≢◌, Err};
-ghost use Rattle.gn_scopes.specs.Errors.{IsRefusalOf, IsElementRefusalOf};
+ghost use Rattle.std.specs.Prelude.{◌≡◌, ◌≢◌, ℕ, List, Err};
+ghost use Rattle.gn_tree.specs.declared.position.Position.{Position};
+ghost use Rattle.gn_scopes.specs.Errors.{refusal_of, scope_refusal_of, IsRefusalOf, IsElementRefusalOf};
 
 use gn_paths::Text;
 use gn_tree::Position;
@@ -106,5 +107,20 @@ impl From<AllocError> for ScopeError {
 
     fn from(_error: AllocError) -> ScopeError {
         ScopeError::Memory
+    }
+}
+
+impl ScopeError {
+    /// The error for what an assignment refuses.
+    pub(crate) fn of_assignment(error: AssignError) -> ScopeError
+        ensures refusal { scope_refusal_of result ≡ refusal_of error }
+        ensures kind { (n : List ℕ) (p : Position) → result ≢ ScopeError.NoEffect n p }
+    {
+        match error {
+            AssignError::Overwrite => ScopeError::Overwrite,
+            AssignError::Undefined => ScopeError::Undefined,
+            AssignError::Value(error) => ScopeError::Value(error),
+            AssignError::Memory => ScopeError::Memory,
+        }
     }
 }

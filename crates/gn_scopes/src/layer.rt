@@ -63,6 +63,15 @@ impl Layer {
         self.variables.get(name)
     }
 
+    /// The value of a name. None comes exactly where the layer has nothing at it.
+    pub(crate) fn value(&self, name: &Text) -> Option<&Value>
+        ensures { option_map (λ v. val_of v.now) result
+            ≡ option_map (λ v. v.value) (variable_in name.now self.now) }
+    {
+        let variable = self.get(name)?;
+        Some(&variable.value)
+    }
+
     /// A read of a name that the layer may have, and whether it has it. It takes no memory.
     pub(crate) fn mark(&mut self, name: &Text) -> bool
         ensures found { result ≡ is_some (variable_in name.now self.old) }
@@ -205,6 +214,49 @@ impl Layer {
             return None;
         }
         first_unread(&self.variables)
+    }
+
+    /// What `unread` answers, of a layer that is spent. It takes no memory.
+    #[tactic(auto, unfolding(crate::specs::Unread::reported))]
+    pub(crate) fn into_unread(self) -> Option<(Text, Position)>
+        ensures { result ≡ reported self }
+    {
+        if !self.checked {
+            return None;
+        }
+        into_first_unread(self.variables)
+    }
+}
+
+// The same, of variables that are spent.
+fn into_first_unread(variables: BTreeMap<Text, Variable>) -> Option<(Text, Position)>
+    ensures { result ≡ first_unread_of (variables_in variables.entries) }
+{
+    let mut first = None;
+    for (name, variable) in variables {
+        first = into_earlier(first, name, variable.unread);
+    }
+    first
+}
+
+fn into_earlier(
+    first: Option<(Text, Position)>,
+    name: Text,
+    unread: Option<Position>,
+) -> Option<(Text, Position)>
+    ensures { result ≡ earlier first (unread_at name unread) }
+{
+    match (first, unread) {
+        (None, None) => None,
+        (None, Some(position)) => Some((name, position)),
+        (Some(first), None) => Some(first),
+        (Some(first), Some(position)) => {
+            if stands_before(position, first.1) {
+                Some((name, position))
+            } else {
+                Some(first)
+            }
+        }
     }
 }
 

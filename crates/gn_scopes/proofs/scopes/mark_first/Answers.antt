@@ -1,0 +1,17 @@
+use Rattle.std.proofs.Common.{◌<◌, length, sym, ap, ◌∙◌, arith}
+use Rattle.std.specs.Prelude.{slice_set}
+use Rattle.gn_scopes.proofs.Outwards.{below_length, marked_at_first, marked_nowhere}
+use Rattle.gn_scopes.proofs.scopes.mark_first.Goals as goal
+
+pub index_mut-requires : goal.index_mut-requires
+index_mut-requires c =
+    let layers = c.args.layers.now in
+    omega (arith, layers.ok.0, below_length c.args.name.now layers.items c.in-Some.i c.in-Some.ensures.some)
+
+pub returns-in-Some : goal.returns-in-Some
+returns-in-Some c =
+    let layers = c.args.layers.now in
+    ap (slice_set layers.items c.in-Some.i) c.mark.ensures.read ∙ marked_at_first c.args.name.now layers.items c.in-Some.i c.index_mut.result.now c.in-Some.ensures.some c.index_mut.ensures.value
+
+pub returns-in_default : goal.returns-in_default
+returns-in_default c = marked_nowhere c.args.name.now c.args.layers.now.items c.in_default.ensures.none
