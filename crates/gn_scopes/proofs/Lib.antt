@@ -3,3 +3,5 @@ pub mod Changes
 pub mod Outcomes
 pub mod Earliest
 pub mod Outwards
+pub mod Gathered
+pub mod Levels

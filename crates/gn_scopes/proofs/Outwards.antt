@@ -9,6 +9,7 @@ use Rattle.std.specs.BTreeMap.{is_at, insert_entry}
 use Rattle.gn_values.specs.Val.{Val}
 use Rattle.gn_values.proofs.Sorted.{order, by_answer}
 use Rattle.gn_scopes.specs.Layers.{VariableState, Table, at_name, with_name, LayerState, ChainState}
+use Rattle.gn_scopes.specs.Environment.{Environment, fixed_value, value_of, after_read}
 use Rattle.gn_scopes.specs.Chains.{variable_in, set_in, nearest, variable_of, read_variable, read_of, read_in, read_through, marked, IsFirstAt, chain_value, chain_read, chain_read_of}
 
 tied : (r : Ordering) → r ≡ ordering_reverse r → r ≡ Equal
@@ -108,3 +109,8 @@ module _ (name : List ℕ) where
   pub chain_value-chain_read : (chain : ChainState) → chain_value name (chain_read name chain) ≡ chain_value name chain
   unfolding chain_value chain_read
   chain_value-chain_read chain = chain_kept chain (variable_in name chain.inner) refl
+
+  pub value_of-after_read : (env : Environment) → value_of name (after_read name env) ≡ value_of name env
+  unfolding value_of after_read
+  value_of-after_read env =
+      ap (λ v. nearest v (fixed_value name env.beneath)) (chain_value-chain_read env.chain)

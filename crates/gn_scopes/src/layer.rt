@@ -1,6 +1,6 @@
 // A layer: the names that one scope has.
 
-ghost use Rattle.std.specs.Prelude.{◌≡◌, [], IfOk, OnOk, OnErr, IfErr, IfSome, Some, None, false, is_some, option_map, map};
+ghost use Rattle.std.specs.Prelude.{◌≡◌, ◌≢◌, [], IfOk, OnOk, OnErr, IfErr, IfSome, Some, None, true, false, is_some, option_map, map};
 ghost use Rattle.gn_values.specs.View.{val_of};
 ghost use Rattle.gn_values.specs.Limits.{scope_fits};
 ghost use Rattle.gn_scopes.specs.Layers.{empty_layer, values_in};
@@ -202,6 +202,24 @@ impl Layer {
             return Err(ElementAssignError::Undefined);
         };
         variable.assign_element(alloc, at, op, value, position)
+    }
+
+    /// The names with their values, which aren't copied. `TooLong` comes exactly where they would nest too deep for a
+    /// scope's value.
+    pub(crate) fn into_entries(self, alloc: Global) -> Result<Entries, ValueError>
+        ensures ok { IfOk result (λ entries. entries ≡ values_in self) }
+        ensures fits { OnOk result (scope_fits (values_in self) ≡ true) }
+        ensures refused { IfErr result
+            (λ e. e ≢ ValueError.Memory
+            → (e ≡ ValueError.TooLong) × (scope_fits (values_in self) ≡ false)) }
+    {
+        let mut entries = Entries::new(alloc);
+        for (name, variable) in self.variables {
+            if let Err(error) = entries.set(name, variable.value) {
+                return Err(error);
+            }
+        }
+        Ok(entries)
     }
 
     /// What the end of the layer reports: the unread name whose last assignment stands first, and where that stands.

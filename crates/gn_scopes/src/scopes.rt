@@ -1,20 +1,22 @@
 // The layers of the scopes that are open.
 
 ghost use types.Logic.{sem};
-ghost use Rattle.std.specs.Prelude.{◌≡◌, ◌≢◌, ℕ, List, ◌<◌, [], OnOk, OnErr, IfOk, IfErr, IfSome, IfNone, None, length, option_map};
+ghost use Rattle.std.specs.Prelude.{◌≡◌, ◌≢◌, ℕ, List, ◌<◌, [], OnOk, OnErr, IfOk, IfErr, IfSome, IfNone, Some, None, length, option_map};
 ghost use Rattle.gn_values.specs.View.{val_of};
 ghost use Rattle.gn_scopes.specs.Layers.{empty_layer};
-ghost use Rattle.gn_scopes.specs.Chains.{variable_in, variable_of, further_value, marked, IsFirstAt, chain_value, chain_read, chain_entered, chain_left};
+ghost use Rattle.gn_scopes.specs.Chains.{variable_in, set_in, variable_of, further_value, marked, IsFirstAt, chain_value, chain_read, chain_entered, chain_left};
 ghost use Rattle.gn_values.specs.Assigning.{combined, element_assigned};
 ghost use Rattle.gn_scopes.specs.Assigning.{assigned, element_changed, changed_by, put_and_read, has_no_value, operator_refuses, base_has_no_value, element_refuses};
 ghost use Rattle.gn_tree.specs.declared.position.Position.{Position};
 ghost use Rattle.gn_scopes.specs.Unread.{reported};
 ghost use Rattle.gn_scopes.specs.Errors.{refusal_of, element_refusal_of, scope_refusal_of, IsReport};
 ghost use Rattle.gn_scopes.specs.Lending.{Ends};
+ghost use Rattle.gn_scopes.specs.View.{variable_state};
 ghost use Rattle.gn_scopes.specs.contracts.scopes.Scopes.{the_row};
 
 use crate::error::{AssignError, ElementAssignError, ScopeError};
 use crate::layer::Layer;
+use crate::variable::Variable;
 use gn_paths::Text;
 use gn_tree::{AssignOp, Position};
 use gn_values::Value;
@@ -104,10 +106,29 @@ impl Scopes {
         &self.inner
     }
 
-    // A read of a name that the layers may have.
+    /// Takes a name out of the innermost layer, and answers what it stood for there. It takes no memory.
+    pub(crate) fn take(&mut self, name: &Text) -> Option<Variable>
+        ensures value { option_map variable_state result ≡ variable_in name.now self.old.inner }
+        ensures new { self.new ≡ record self.old { inner = set_in name.now None self.old.inner } }
+    {
+        self.inner.take(name)
+    }
+
+    /// Sets what a name of the innermost layer stands for. After want of memory nothing is changed.
+    pub(crate) fn put(&mut self, name: Text, variable: Variable) -> Result<(), AllocError>
+        ensures ok { OnOk result
+            (self.new
+            ≡ record self.old { inner = set_in name (Some (variable_state variable)) self.old.inner }) }
+        ensures err { OnErr result (self.new ≡ self.old) }
+    {
+        self.inner.put(name, variable)
+    }
+
+    /// A read of a name that the layers may have. It takes no memory.
     #[tactic(auto, unfolding(crate::specs::Chains::chain_read))]
     pub(crate) fn mark(&mut self, name: &Text)
-        ensures { self.new ≡ chain_read name.now self.old }
+        ensures new { self.new ≡ chain_read name.now self.old }
+        ensures outer { length self.new.outer ≡ length self.old.outer }
     {
         if self.inner.mark(name) {
             return;
@@ -168,6 +189,7 @@ impl Scopes {
         ensures ok { OnOk result
             (self.new ≡ put_and_read name.now (val_of value) position self.old) }
         ensures err { OnErr result (self.new ≡ self.old) }
+        ensures outer { length self.new.outer ≡ length self.old.outer }
     {
         self.inner.put_assigned(alloc, name, value, position)?;
         mark_first(&mut self.outer, name);
@@ -194,6 +216,7 @@ impl Scopes {
             name.now position (option_map (λ v. val_of v.now) beneath.entry) self.old
             ≡ Err r)) }
         ensures err { OnErr result (self.new ≡ self.old) }
+        ensures outer { length self.new.outer ≡ length self.old.outer }
     {
         if self.inner.has(name) {
             return self.inner.combine(alloc, name, op, value, position);
@@ -228,6 +251,7 @@ impl Scopes {
             (λ r. assigned name.now op (val_of value) position
             (option_map (λ v. val_of v.now) beneath.entry) self.old ≡ Err r)) }
         ensures err { OnErr result (self.new ≡ self.old) }
+        ensures outer { length self.new.outer ≡ length self.old.outer }
     {
         match op {
             AssignOp::Set => self.inner.overwrite(alloc, name, value, position),
@@ -261,6 +285,7 @@ impl Scopes {
             (λ r. element_changed name.now (val_of at.now) op (val_of value) position
             (option_map (λ v. val_of v.now) beneath.entry) self.old ≡ Err r)) }
         ensures err { OnErr result (self.new ≡ self.old) }
+        ensures outer { length self.new.outer ≡ length self.old.outer }
     {
         if self.inner.has(name) {
             return self.inner.assign_element(alloc, name, at, op, value, position);
@@ -315,8 +340,11 @@ fn find(layers: &VecDeque<Layer>, name: &Text) -> Option<usize>
     None
 }
 
+// A read of a name that the layers may have.
+#[tactic(auto, using(crate::proofs::Levels::marked_length))]
 fn mark_first(layers: &mut VecDeque<Layer>, name: &Text)
-    ensures { layers.new.items ≡ marked name.now layers.old.items }
+    ensures marked { layers.new.items ≡ marked name.now layers.old.items }
+    ensures len { length layers.new.items ≡ length layers.old.items }
 {
     if let Some(i) = find(layers, name) {
         layers[i].mark(name);

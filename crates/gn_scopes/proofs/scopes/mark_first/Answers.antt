@@ -8,10 +8,10 @@ index_mut-requires c =
     let layers = c.args.layers.now in
     omega (arith, layers.ok.0, below_length c.args.name.now layers.items c.in-Some.i c.in-Some.ensures.some)
 
-pub returns-in-Some : goal.returns-in-Some
-returns-in-Some c =
+pub returns-in-Some-clause-marked : goal.returns-in-Some-clause-marked
+returns-in-Some-clause-marked c =
     let layers = c.args.layers.now in
     ap (slice_set layers.items c.in-Some.i) c.mark.ensures.read ∙ marked_at_first c.args.name.now layers.items c.in-Some.i c.index_mut.result.now c.in-Some.ensures.some c.index_mut.ensures.value
 
-pub returns-in_default : goal.returns-in_default
-returns-in_default c = marked_nowhere c.args.name.now c.args.layers.now.items c.in_default.ensures.none
+pub returns-in_default-clause-marked : goal.returns-in_default-clause-marked
+returns-in_default-clause-marked c = marked_nowhere c.args.name.now c.args.layers.now.items c.in_default.ensures.none
