@@ -1,35 +1,30 @@
 -- The order of faults.
-use Rattle.std.proofs.Common.{◌≡◌, ◌⊎◌, inl, inr, List, [], ◌∷◌, ℕ, Bool, true, false, refl, sym, ap, ◌∙◌, true≢false}
+use Rattle.std.proofs.Common.{◌≡◌, ◌⊎◌, inl, inr, List, ℕ, true, false, refl, ap, ◌∙◌}
 use Rattle.std.specs.declared.cmp.Ordering.{Ordering}
 use Rattle.std.specs.declared.cmp.Ordering.TheVariants.{Less, Equal, Greater}
 use Rattle.std.specs.declared.option.Option.{Option}
 use Rattle.std.specs.declared.option.Option.TheVariants.{None, Some}
 use Rattle.std.specs.Ordering.{is_lt, is_eq, ordering_then, ordering_reverse, nat_cmp}
-use Rattle.std.specs.Option.{option_cmp}
+use Rattle.std.specs.Option.{option_map, option_cmp}
 use Rattle.std.specs.Cmp.{IsTotalOrder, nat_cmp_total, then_total, on_total, tied_itself}
 use Rattle.std.specs.Cmp.Lexicographic.{slice_cmp, lists_total, lists_ties, options_total, texts_ties, nat_list_cmp_total, pointwise_decides, bytes_decides}
-use Rattle.std.proofs.lemmas.Map.Lookups.{CmpEqualImpliesEq, exact_unsigned, exact_bytes}
+use Rattle.std.proofs.lemmas.Map.Lookups.{exact_unsigned, exact_bytes}
 use Rattle.gn_paths.specs.declared.place.Place.{Place}
 use Rattle.gn_items.specs.declared.fault.Fault.{Fault}
 use Rattle.gn_items.specs.Numbers.{code_number, stage_number}
-use Rattle.gn_items.specs.Order.{text_cmp, file_cmp, position_cmp, fault_cmp, is_before}
+use Rattle.gn_items.specs.Order.{text_cmp, file_of, position_of, position_cmp, fault_cmp, is_before}
 use Rattle.gn_items.proofs.NumberLemmas.{code_same, stage_same}
 
-files_total : IsTotalOrder (option_cmp file_cmp)
-files_total = options_total (on_total (λ (p : Place). p.file) nat_list_cmp_total)
-
-positions_total : IsTotalOrder (option_cmp position_cmp)
-positions_total =
-    options_total
-    (then_total (on_total (λ (p : Place). p.line) nat_cmp_total) (on_total (λ (p : Place). p.column) nat_cmp_total))
+positions_total : IsTotalOrder position_cmp
+positions_total = then_total (on_total (λ (p : ℕ × ℕ). p.0) nat_cmp_total) (on_total (λ (p : ℕ × ℕ). p.1) nat_cmp_total)
 
 faults_total : IsTotalOrder fault_cmp
 unfolding fault_cmp
 faults_total =
     then_total (on_total (λ (f : Fault). stage_number f.stage) nat_cmp_total)
-    (then_total (on_total (λ (f : Fault). f.place) files_total)
+    (then_total (on_total file_of (options_total nat_list_cmp_total))
     (then_total (on_total (λ (f : Fault). f.toolchain) nat_list_cmp_total)
-    (then_total (on_total (λ (f : Fault). f.place) positions_total)
+    (then_total (on_total position_of (options_total positions_total))
     (then_total (on_total (λ (f : Fault). code_number f.code) nat_cmp_total)
     (on_total (λ (f : Fault). f.detail) (lists_total nat_list_cmp_total))))))
 
@@ -43,17 +38,22 @@ details_same : (xs ys : List (List ℕ)) → slice_cmp text_cmp xs ys ≡ Equal 
 details_same xs ys e =
     (pointwise_decides bytes_decides xs ys).0 (lists_ties (slice_cmp nat_cmp) texts_ties xs ys ∙ ap is_eq e)
 
+position_same : (p q : ℕ × ℕ) → position_cmp p q ≡ Equal → p ≡ q
+position_same p q e =
+    let both = both_equal _ _ e in
+    let line = exact_unsigned p.0 q.0 both.0 in
+    let column = exact_unsigned p.1 q.1 both.1 in
+    λ i. (line i, column i)
+
 -- places of one file, line and column are one
-place_same : (a b : Option Place) → option_cmp file_cmp a b ≡ Equal → option_cmp position_cmp a b ≡ Equal → a ≡ b
+place_same : (a b : Option Place) → option_cmp text_cmp (option_map (λ p. p.file) a) (option_map (λ p. p.file) b) ≡ Equal → option_cmp position_cmp (option_map (λ p. (p.line, p.column)) a) (option_map (λ p. (p.line, p.column)) b) ≡ Equal → a ≡ b
 place_same None None e h = refl
 place_same None (Some q) e h = cc
 place_same (Some p) None e h = cc
 place_same (Some p) (Some q) e h =
-    let file : p.file ≡ q.file = exact_bytes p.file q.file e in
-    let both = both_equal (nat_cmp p.line q.line) (nat_cmp p.column q.column) h in
-    let line : p.line ≡ q.line = exact_unsigned p.line q.line both.0 in
-    let column : p.column ≡ q.column = exact_unsigned p.column q.column both.1 in
-    ap Some (λ i. record { file = file i; line = line i; column = column i })
+    let file = exact_bytes p.file q.file e in
+    let position = position_same (p.line, p.column) (q.line, q.column) h in
+    ap Some (λ i. record { file = file i; line = (position i).0; column = (position i).1 })
 
 -- faults that no comparison tells apart are one
 fault_same : (a b : Fault) → fault_cmp a b ≡ Equal → a ≡ b

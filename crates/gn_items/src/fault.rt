@@ -1,8 +1,8 @@
 // A fault, how it is printed, and the order of faults.
 
 ghost use Rattle.std.specs.Prelude.{◌≡◌, IfOk};
-ghost use Rattle.std.specs.Option.{option_cmp};
-ghost use Rattle.gn_items.specs.Order.{file_cmp, position_cmp, fault_cmp, is_before};
+ghost use Rattle.std.specs.Option.{option_copied};
+ghost use Rattle.gn_items.specs.Order.{file_of, position_of, fault_cmp, is_before};
 ghost use Rattle.gn_items.specs.Printed.{printed};
 
 use crate::code::Code;
@@ -59,11 +59,25 @@ impl Fault {
     {
         self.stage
             .cmp(&other.stage)
-            .then_with(|| file_order(&self.place, &other.place))
+            .then_with(|| self.file().cmp(&other.file()))
             .then_with(|| self.toolchain.cmp(&other.toolchain))
-            .then_with(|| position_order(&self.place, &other.place))
+            .then_with(|| self.position().cmp(&other.position()))
             .then_with(|| self.code.cmp(&other.code))
             .then_with(|| self.detail.as_slice().cmp(other.detail.as_slice()))
+    }
+
+    // The file of the place, if there is a place.
+    fn file(&self) -> Option<&Text>
+        ensures { option_copied result ≡ file_of self.now }
+    {
+        self.place.as_ref().map(|place| &place.file)
+    }
+
+    // The line and column of the place, if there is a place.
+    fn position(&self) -> Option<(u32, u32)>
+        ensures { result ≡ position_of self.now }
+    {
+        self.place.as_ref().map(|place| (place.line, place.column))
     }
 
     /// The line of the fault: `ERROR at FILE:LINE:COLUMN: TEXT` and a newline, or `ERROR: TEXT` and a newline where it
@@ -88,32 +102,5 @@ fn copy_place(place: &Option<Place>, alloc: Global) -> Result<Option<Place>, All
     match place {
         Some(place) => Ok(Some(place.copy(alloc)?)),
         None => Ok(None),
-    }
-}
-
-// Where one fault's place stands to another's by its file: none is before any.
-fn file_order(own: &Option<Place>, other: &Option<Place>) -> Ordering
-    ensures { result ≡ option_cmp file_cmp own.now other.now }
-{
-    match (own, other) {
-        (Some(own), Some(other)) => own.file.cmp(&other.file),
-        (Some(_), None) => Ordering::Greater,
-        (None, Some(_)) => Ordering::Less,
-        (None, None) => Ordering::Equal,
-    }
-}
-
-// Where one fault's place stands to another's by line, then column: none is before any.
-fn position_order(own: &Option<Place>, other: &Option<Place>) -> Ordering
-    ensures { result ≡ option_cmp position_cmp own.now other.now }
-{
-    match (own, other) {
-        (Some(own), Some(other)) => own
-            .line
-            .cmp(&other.line)
-            .then(own.column.cmp(&other.column)),
-        (Some(_), None) => Ordering::Greater,
-        (None, Some(_)) => Ordering::Less,
-        (None, None) => Ordering::Equal,
     }
 }

@@ -16,3 +16,5 @@ pub use laws::{
 };
 pub use stage::Stage;
 
+#[cfg(test)]
+mod tests;
