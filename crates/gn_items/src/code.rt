@@ -40,7 +40,7 @@ pub enum Code {
     Overflow = 13,
     /// An item to be taken away that the list lacks.
     NotInList = 14,
-    /// A number of no item of the list.
+    /// A subscript that no item of the list has.
     BadIndex = 15,
     /// A value longer or deeper than values may be.
     TooLong = 16,
@@ -52,15 +52,15 @@ pub enum Code {
     Conflict = 19,
     /// A value that nothing reads. Detail: the name.
     NoEffect = 20,
-    /// A name that a copy would set again. Detail: the name.
+    /// A name that is given again in a scope that has it, and not by an assignment. Detail: the name.
     AlreadySet = 21,
     /// A build argument that is declared twice. Detail: the name.
     DuplicateArgument = 22,
-    /// A condition that is neither true nor false.
+    /// A condition whose value is no boolean.
     NotBoolean = 23,
     /// A call of no function. Detail: the name.
     UnknownFunction = 24,
-    /// A call whose arguments it doesn't take. Detail: the name.
+    /// A call with a wrong number of arguments, or with a value that it doesn't take. Detail: the name.
     BadArguments = 25,
     /// Calls and blocks that run deeper within one another than the limit.
     Nesting = 26,
@@ -70,19 +70,20 @@ pub enum Code {
     Excluded = 28,
     /// A variable of an item with a value of another type. Detail: the name.
     WrongType = 29,
-    /// A variable or a call that has to be there and isn't. Detail: the name.
+    /// A variable or a call that has to be there and isn't, or is empty. Detail: the name.
     Missing = 30,
-    /// A label that two items have. Detail: the label.
+    /// A label that two items have, or a tool that a toolchain has twice. Detail: the label, or the name of the tool.
     DuplicateItem = 31,
     /// A name that can't stand at its place. Detail: the name.
     NotAllowedHere = 32,
-    /// A label without an item. Details: the label that needs it, and the label, or the name of a tool.
+    /// A label without an item. Details: the label that needs it, or for the default toolchain the path of the build
+    /// configuration; and the label, or the name of a tool.
     Unresolved = 33,
     /// A label of an item of another kind than is needed. Details: the label that names it, and the label.
     WrongKind = 34,
     /// Dependencies in a circle. Details: its labels in order, the first one again at the end.
     Cycle = 35,
-    /// A dependency that the visibility of its end forbids. Details: the label that depends, and the other.
+    /// A dependency or a configuration whose visibility forbids it. Details: the label that needs it, and its label.
     Invisible = 36,
     /// A dependency of what isn't testonly on what is. Details: the label that depends, and the other.
     TestOnly = 37,
