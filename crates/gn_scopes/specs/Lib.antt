@@ -7,3 +7,4 @@ pub mod Codes
 pub mod View
 pub mod Lending
 pub mod Errors
+pub mod Faults

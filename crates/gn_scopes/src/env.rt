@@ -5,6 +5,7 @@ ghost use Rattle.std.specs.Prelude.{◌≡◌, ◌≢◌, ◌+◌, OnOk, OnErr, 
 ghost use Rattle.gn_values.specs.Limits.{scope_fits};
 ghost use Rattle.gn_values.specs.View.{val_of};
 ghost use Rattle.gn_scopes.specs.Environment.{new_environment, fixed_value, value_of, after_read, after_assignment, after_element_assignment, entered, left, levels, IsEntered, entries_here, reported_here, variable_here, restored, given, in_item};
+ghost use Rattle.gn_scopes.specs.Faults.{fault_in};
 ghost use Rattle.gn_scopes.specs.Errors.{refusal_of, element_refusal_of};
 ghost use Rattle.gn_scopes.specs.Lending.{Ends};
 ghost use Rattle.gn_scopes.specs.View.{variable_state};
@@ -14,8 +15,8 @@ use crate::error::{AssignError, ElementAssignError};
 use crate::fixed::Fixed;
 use crate::scopes::Scopes;
 use crate::variable::Variable;
-use gn_items::Stage;
-use gn_paths::{Path, Text};
+use gn_items::{Code, Fault, Stage};
+use gn_paths::{Path, Place, Text, Texts};
 use gn_tree::{AssignOp, Position};
 use gn_values::{Entries, Value, ValueError};
 use std::alloc::{AllocError, Global};
@@ -292,6 +293,30 @@ impl Env {
             unread: None,
         };
         self.restore(alloc, name, Some(variable))
+    }
+
+    /// The fault with this code and these details at a position of the file that is evaluated.
+    pub fn fault(
+        &self,
+        alloc: Global,
+        code: Code,
+        position: Position,
+        detail: Texts,
+    ) -> Result<Fault, AllocError>
+        ensures { IfOk result (λ f. f ≡ fault_in self.now.setting position code detail) }
+    {
+        let place = Place {
+            file: self.file.copy(alloc)?,
+            line: position.line,
+            column: position.column,
+        };
+        Ok(Fault {
+            stage: self.stage,
+            place: Some(place),
+            toolchain: self.toolchain.copy(alloc)?,
+            code,
+            detail,
+        })
     }
 
     // A read of a name that it may have.

@@ -15,7 +15,7 @@ use crate::error::{AssignError, ElementAssignError};
 use crate::variable::Variable;
 use gn_paths::Text;
 use gn_tree::{AssignOp, Position};
-use gn_values::{Entries, Overrides, Value, ValueError};
+use gn_values::{Bindings, Entries, Value, ValueError};
 use std::alloc::{AllocError, Global};
 use std::collections::BTreeMap;
 use std::marker::Model;
@@ -26,7 +26,7 @@ use std::marker::Model;
 pub struct Layer {
     variables: BTreeMap<Text, Variable>,
     templates: BTreeMap<Text, usize>,
-    defaults: BTreeMap<Text, Overrides>,
+    defaults: BTreeMap<Text, Bindings>,
     checked: bool,
 }
 
@@ -213,13 +213,11 @@ impl Layer {
             (λ e. e ≢ ValueError.Memory
             → (e ≡ ValueError.TooLong) × (scope_fits (values_in self) ≡ false)) }
     {
-        let mut entries = Entries::new(alloc);
+        let mut bindings = Bindings::new(alloc);
         for (name, variable) in self.variables {
-            if let Err(error) = entries.set(name, variable.value) {
-                return Err(error);
-            }
+            bindings.push_last(name, variable.value)?;
         }
-        Ok(entries)
+        Entries::from_bindings(bindings)
     }
 
     /// What the end of the layer reports: the unread name whose last assignment stands first, and where that stands.
