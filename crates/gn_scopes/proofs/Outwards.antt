@@ -89,6 +89,35 @@ module _ (name : List ℕ) where
       (λ h. ap (at_name name) (set_step a e es Equal h) ∙ found_step (e.0, a) es Equal h)
       (λ h. ap (at_name name) (set_step a e es Greater h) ∙ found_step e (with_name name a es) Greater h ∙ at_name-with_name a es)
 
+  -- a read leaves a name where it is
+  reads_there : (l : LayerState) (o : Option VariableState) → variable_in name l ≡ o → is_some o ≡ is_some (variable_in name (read_of name l o))
+  reads_there l (Some v) h = ap is_some (sym (at_name-with_name (read_variable v) l.variables))
+  reads_there l None h = ap is_some (sym h)
+
+  pub stays_there : (l : LayerState) → is_some (variable_in name l) ≡ is_some (variable_in name (read_in name l))
+  stays_there l = reads_there l (variable_in name l) refl
+
+  first_there : (l : LayerState) (ls further : List LayerState) (o : Option VariableState) → is_some o ≡ true → IsFirstAt name (read_through name l ls o further) 0
+  first_there l ls further None h = cc
+  first_there l ls further (Some v) h = ap is_some (at_name-with_name (read_variable v) l.variables)
+
+  pub stays_first : (ls : List LayerState) (i : ℕ) → IsFirstAt name ls i → IsFirstAt name (marked name ls) i
+  stays_first [] i f = absurd f
+  stays_first (l ∷ ls) zero f = first_there l ls (marked name ls) (variable_in name l) f
+  stays_first (l ∷ ls) (suc i) f =
+      subst (λ (o : Option VariableState). IsFirstAt name (read_through name l ls o (marked name ls)) (suc i)) (sym f.0) (f.0, stays_first ls i f.1)
+
+  -- the value at the place where a name is found
+  pub found_inner : (chain : ChainState) → IsSome (variable_in name chain.inner) → option_map (λ v. v.value) (variable_in name chain.inner) ≡ chain_value name chain
+  unfolding chain_value
+  found_inner chain h =
+      ap (option_map (λ v. v.value)) (sym (nearest_here (variable_in name chain.inner) (variable_of name chain.outer) h))
+
+  pub found_outer : (chain : ChainState) (i : ℕ) (x : LayerState) → (variable_in name chain.inner ≡ None) × IsFirstAt name chain.outer i → x ≡ get_or chain.outer i x → option_map (λ v. v.value) (variable_in name x) ≡ chain_value name chain
+  unfolding chain_value
+  found_outer chain i x f is =
+      ap (option_map (λ v. v.value)) (sym (value_at_first chain.outer i x f.1 is) ∙ ap (λ o. nearest o (variable_of name chain.outer)) (sym f.0))
+
   -- a read changes no value
   abbrev value_of_variable : Option VariableState → Option Val
   value_of_variable o = option_map (λ v. v.value) o

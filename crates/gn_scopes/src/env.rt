@@ -7,13 +7,14 @@ ghost use Rattle.gn_values.specs.View.{val_of};
 ghost use Rattle.gn_scopes.specs.Environment.{new_environment, fixed_value, value_of, after_read, after_assignment, after_element_assignment, entered, left, levels, IsEntered, entries_here, reported_here, variable_here, restored, given, in_item};
 ghost use Rattle.gn_scopes.specs.Faults.{fault_in};
 ghost use Rattle.gn_scopes.specs.Errors.{refusal_of, element_refusal_of};
+ghost use Rattle.gn_scopes.specs.Found.{IsFound};
 ghost use Rattle.gn_scopes.specs.Lending.{Ends};
 ghost use Rattle.gn_scopes.specs.View.{variable_state};
 ghost use Rattle.gn_scopes.specs.contracts.env.Env.{the_row};
 
 use crate::error::{AssignError, ElementAssignError};
 use crate::fixed::Fixed;
-use crate::scopes::Scopes;
+use crate::scopes::{Found, Scopes};
 use crate::variable::Variable;
 use gn_items::{Code, Fault, Stage};
 use gn_paths::{Path, Place, Text, Texts};
@@ -139,8 +140,8 @@ impl Env {
             (λ env. (env ≡ after_read name.now self.old) × (levels env ≡ levels self.old))) }
         ensures value { option_map (λ v. val_of v.now) result ≡ value_of name.now self.old }
     {
-        self.mark(name);
-        self.value(name)
+        let found = self.mark(name);
+        self.value_at(name, found)
     }
 
     /// `name = value`, `name += value` or `name -= value`, whose operator stands at the position. `Overwrite` comes
@@ -319,21 +320,23 @@ impl Env {
         })
     }
 
-    // A read of a name that it may have.
+    // A read of a name that it may have, and where in the scopes it is.
     #[tactic(auto, unfolding(crate::specs::Environment::after_read))]
-    fn mark(&mut self, name: &Text)
+    fn mark(&mut self, name: &Text) -> Found
         ensures new { self.new ≡ after_read name.now self.old }
         ensures levels { levels self.new ≡ levels self.old }
+        ensures found { IsFound name.now self.new.chain result }
     {
-        self.scopes.mark(name);
+        self.scopes.mark(name)
     }
 
-    // The value of a name.
+    // The value of a name that is there in the scopes, or else beneath them.
     #[tactic(auto, unfolding(crate::specs::Environment::value_of))]
-    fn value(&self, name: &Text) -> Option<&Value>
+    fn value_at(&self, name: &Text, found: Found) -> Option<&Value>
+        requires { IsFound name.now self.now.chain found }
         ensures { option_map (λ v. val_of v.now) result ≡ value_of name.now self.now }
     {
-        match self.scopes.value(name) {
+        match self.scopes.value_at(name, found) {
             Some(value) => Some(value),
             None => fixed_value(&self.beneath, name),
         }

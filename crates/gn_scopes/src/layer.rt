@@ -76,6 +76,7 @@ impl Layer {
     pub(crate) fn mark(&mut self, name: &Text) -> bool
         ensures found { result ≡ is_some (variable_in name.now self.old) }
         ensures read { self.new ≡ read_in name.now self.old }
+        ensures stays { result ≡ is_some (variable_in name.now self.new) }
     {
         let Some(variable) = self.variables.get_mut(name) else {
             return false;

@@ -10,6 +10,7 @@ ghost use Rattle.gn_scopes.specs.Assigning.{assigned, element_changed, changed_b
 ghost use Rattle.gn_tree.specs.declared.position.Position.{Position};
 ghost use Rattle.gn_scopes.specs.Unread.{reported};
 ghost use Rattle.gn_scopes.specs.Errors.{refusal_of, element_refusal_of, scope_refusal_of, IsReport};
+ghost use Rattle.gn_scopes.specs.Found.{IsFound};
 ghost use Rattle.gn_scopes.specs.Lending.{Ends};
 ghost use Rattle.gn_scopes.specs.View.{variable_state};
 ghost use Rattle.gn_scopes.specs.contracts.scopes.Scopes.{the_row};
@@ -24,6 +25,14 @@ use std::alloc::{AllocError, Global};
 use std::collections::VecDeque;
 use std::marker::Model;
 use std::mem;
+
+/// Where a name is found: in the innermost layer, in the outer one of this number, or in none.
+#[derive(Clone, Copy, Debug)]
+pub(crate) enum Found {
+    Inner,
+    Outer(usize),
+    Nowhere,
+}
 
 /// The layers of the scopes that are open, the innermost first.
 #[derive(Debug, Drop)]
@@ -124,26 +133,32 @@ impl Scopes {
         self.inner.put(name, variable)
     }
 
-    /// A read of a name that the layers may have. It takes no memory.
+    /// A read of a name that the layers may have, and where it is. It takes no memory.
     #[tactic(auto, unfolding(crate::specs::Chains::chain_read))]
-    pub(crate) fn mark(&mut self, name: &Text)
+    pub(crate) fn mark(&mut self, name: &Text) -> Found
         ensures new { self.new ≡ chain_read name.now self.old }
         ensures outer { length self.new.outer ≡ length self.old.outer }
+        ensures found { IsFound name.now self.new result }
     {
         if self.inner.mark(name) {
-            return;
+            return Found::Inner;
         }
-        mark_first(&mut self.outer, name);
+        match mark_first(&mut self.outer, name) {
+            Some(i) => Found::Outer(i),
+            None => Found::Nowhere,
+        }
     }
 
-    /// The value of a name. None comes exactly where no layer has it.
+    /// The value of a name that is there.
     #[tactic(auto, unfolding(crate::specs::Chains::chain_value))]
-    pub(crate) fn value(&self, name: &Text) -> Option<&Value>
+    pub(crate) fn value_at(&self, name: &Text, found: Found) -> Option<&Value>
+        requires { IsFound name.now self.now found }
         ensures { option_map (λ v. val_of v.now) result ≡ chain_value name.now self.now }
     {
-        match self.inner.value(name) {
-            Some(value) => Some(value),
-            None => outer_value(&self.outer, name),
+        match found {
+            Found::Inner => self.inner.value(name),
+            Found::Outer(i) => self.outer[i].value(name),
+            Found::Nowhere => None,
         }
     }
 
@@ -153,8 +168,8 @@ impl Scopes {
         ensures* read { sem 𝓛 (Ends the_row self.entry (λ chain. chain ≡ chain_read name.now self.old)) }
         ensures value { option_map (λ v. val_of v.now) result ≡ chain_value name.now self.old }
     {
-        self.mark(name);
-        self.value(name)
+        let found = self.mark(name);
+        self.value_at(name, found)
     }
 
     // A copy of the value that a name has further out than in the innermost scope, where `beneath` is what it has
@@ -192,7 +207,7 @@ impl Scopes {
         ensures outer { length self.new.outer ≡ length self.old.outer }
     {
         self.inner.put_assigned(alloc, name, value, position)?;
-        mark_first(&mut self.outer, name);
+        let _found = mark_first(&mut self.outer, name);
         Ok(())
     }
 
@@ -340,15 +355,19 @@ fn find(layers: &VecDeque<Layer>, name: &Text) -> Option<usize>
     None
 }
 
-// A read of a name that the layers may have.
+// A read of a name that the layers may have, and the first that has it.
 #[tactic(auto, using(crate::proofs::Levels::marked_length))]
-fn mark_first(layers: &mut VecDeque<Layer>, name: &Text)
+fn mark_first(layers: &mut VecDeque<Layer>, name: &Text) -> Option<usize>
     ensures marked { layers.new.items ≡ marked name.now layers.old.items }
     ensures len { length layers.new.items ≡ length layers.old.items }
+    ensures some { IfSome result (λ i. IsFirstAt name.now layers.new.items i) }
+    ensures none { IfNone result (variable_of name.now layers.new.items ≡ None) }
 {
-    if let Some(i) = find(layers, name) {
-        layers[i].mark(name);
-    }
+    let Some(i) = find(layers, name) else {
+        return None;
+    };
+    layers[i].mark(name);
+    Some(i)
 }
 
 fn outer_value<'a>(layers: &'a VecDeque<Layer>, name: &Text) -> Option<&'a Value>
