@@ -1,0 +1,7 @@
+pub mod Tables
+pub mod Changes
+pub mod Outcomes
+pub mod Earliest
+pub mod Outwards
+pub mod Gathered
+pub mod Levels

@@ -1,7 +1,0 @@
-use Rattle.gn_values.specs.View.{val_of}
-use Rattle.gn_values.proofs.Setting.{sorted_with}
-use Rattle.gn_values.proofs.overrides.Overrides.set.Goals as goal
-
-pub invariant_of-self-2 : goal.invariant_of-self-2
-invariant_of-self-2 c =
-    rw c.in_ok-_added.ensures.ok (sorted_with c.args.name (val_of c.args.value) _ c.self.invariant)
