@@ -1,9 +1,9 @@
-// What defines the items of a block.
+// What makes an item of the scope of its block.
 
-ghost use Rattle.std.specs.Prelude.{◌≡◌, IfOk, IfErr, Ok};
-ghost use Rattle.gn_meaning.specs.Items.{defined};
+ghost use Rattle.std.specs.Prelude.{◌≡◌, Ok, Err, IfOk, IfErr};
 ghost use Rattle.gn_scopes.specs.Environment.{levels};
-ghost use Rattle.gn_eval.specs.Ends.{DefinesWrong};
+ghost use Rattle.gn_meaning.specs.Items.{defined};
+ghost use Rattle.gn_eval.specs.Definitions.{IfWrong};
 
 use gn_items::{Fault, Item, ItemKind};
 use gn_paths::Text;
@@ -11,10 +11,10 @@ use gn_scopes::Env;
 use gn_tree::Position;
 use std::alloc::{AllocError, Global};
 
-/// Why an item isn't defined.
-#[derive(Drop)]
+/// Why an item isn't made.
+#[derive(Debug, Drop)]
 pub enum DefineError {
-    /// The definition has this fault.
+    /// The first fault of the definition.
     Wrong(Fault),
     /// Want of memory.
     Memory,
@@ -26,14 +26,16 @@ impl From<AllocError> for DefineError {
 
     ghost from_gives = { λ _ e. e ≡ Memory };
 
-    fn from(_: AllocError) -> Self {
+    fn from(_error: AllocError) -> DefineError {
         DefineError::Memory
     }
 }
 
-/// Defines the items whose blocks have ended.
+/// What makes an item of the scope of its block, once the block has run. It stays as it is.
 pub trait Definer {
-    /// The item whose block has ended in this environment, at the position of its call's name.
+    /// The item of this kind and name, whose call stands at the position; the names that its kind reads count as read
+    /// from then on. `Wrong` has the first fault of the definition, and comes exactly where there is one, but for want
+    /// of memory.
     fn define(
         &mut self,
         alloc: Global,
@@ -42,8 +44,8 @@ pub trait Definer {
         env: &mut Env,
         position: Position,
     ) -> Result<Item, DefineError>
-        ensures ok { IfOk result (λ item. defined kind name.now position env.old ≡ Ok (item, env.new)) }
-        ensures wrong { IfErr result (DefinesWrong (defined kind name.now position env.old)) }
-        ensures levels { levels env.new ≡ levels env.old }
-        ensures same { self.new ≡ self.old };
+        ensures same { self.new ≡ self.old }
+        ensures item { IfOk result (λ item. defined kind name.now position env.old ≡ Ok (item, env.new)) }
+        ensures wrong { IfErr result (λ e. IfWrong e (λ fault. defined kind name.now position env.old ≡ Err fault)) }
+        ensures levels { levels env.new ≡ levels env.old };
 }

@@ -2,7 +2,9 @@
 #![tactic(auto)]
 
 mod definer;
+mod ending;
 mod run;
 
 pub use definer::{DefineError, Definer};
-pub use run::{EvalEnd, run_file};
+pub use ending::EvalEnd;
+pub use run::run_file;

@@ -1,5 +1,5 @@
 pub mod CommandLemmas
 pub mod DefinedLemmas
 pub mod OrderLemmas
-pub mod ReadingLemmas
+pub mod LoadingLemmas
 pub mod RunLemmas

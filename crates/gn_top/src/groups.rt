@@ -1,12 +1,12 @@
 // The definition of groups.
 
-ghost use Rattle.std.specs.Prelude.{◌≡◌, [], ◌∷◌, IfOk, IfErr, Ok, option_map};
+ghost use Rattle.std.specs.Prelude.{◌≡◌, [], ◌∷◌, IfOk, IfErr, Ok, Err, option_map};
 ghost use Rattle.std.specs.List.{list_all};
 ghost use Rattle.gn_values.specs.View.{val_of};
 ghost use Rattle.gn_scopes.specs.Environment.{levels};
 ghost use Rattle.gn_scopes.specs.Faults.{fault_in};
 ghost use Rattle.gn_meaning.specs.Items.{defined, item_here, may_be_strings, is_string, deps_name};
-ghost use Rattle.gn_eval.specs.Ends.{DefinesWrong};
+ghost use Rattle.gn_eval.specs.Definitions.{IfWrong};
 
 use gn_eval::{DefineError, Definer};
 use gn_items::{Code, Fault, Item, ItemKind};
@@ -40,7 +40,7 @@ impl Definer for Groups {
 // or without a value.
 fn group(alloc: Global, name: &Text, env: &mut Env, position: Position) -> Result<Item, DefineError>
     ensures ok { IfOk result (λ item. defined ItemKind.Group name.now position env.old ≡ Ok (item, env.new)) }
-    ensures wrong { IfErr result (DefinesWrong (defined ItemKind.Group name.now position env.old)) }
+    ensures wrong { IfErr result (λ e. IfWrong e (λ fault. defined ItemKind.Group name.now position env.old ≡ Err fault)) }
     ensures levels { levels env.new ≡ levels env.old }
 {
     if !is_name(name.as_bytes()) {

@@ -6,9 +6,11 @@ ghost use Rattle.gn_top.specs.Steps.{IsFaultOf};
 
 use crate::faults::syntax_fault;
 use crate::groups::Groups;
+use crate::texts::BUILD_FILE;
 use gn_eval::{EvalEnd, run_file};
 use gn_grammar::parse;
-use gn_items::Outcome;
+use gn_items::{Outcome, Stage};
+use gn_paths::{Path, Text};
 use gn_scopes::Env;
 use gn_tree::Block;
 use std::alloc::{AllocError, Global};
@@ -17,7 +19,7 @@ use std::alloc::{AllocError, Global};
 pub fn load_file(alloc: Global, bytes: &[u8]) -> Result<Outcome, EvalEnd>
     requires { length bytes.now ≤ 16777216 }
     ensures ok { IfOk result (λ out. file_loaded bytes.now ≡ Ok out) }
-    ensures wrong { IfErr result (IsFaultOf (file_loaded bytes.now)) }
+    ensures wrong { IfErr result (λ e. IsFaultOf e (file_loaded bytes.now)) }
 {
     match parse(alloc, bytes) {
         Ok(parsed) => run_block(alloc, parsed.block()),
@@ -28,17 +30,39 @@ pub fn load_file(alloc: Global, bytes: &[u8]) -> Result<Outcome, EvalEnd>
 // What the run of a whole file leaves, or its first fault.
 fn run_block(alloc: Global, block: &Block) -> Result<Outcome, EvalEnd>
     ensures ok { IfOk result (λ out. tree_loaded block.now ≡ Ok out) }
-    ensures wrong { IfErr result (IsFaultOf (tree_loaded block.now)) }
+    ensures wrong { IfErr result (λ e. IsFaultOf e (tree_loaded block.now)) }
 {
     let mut env = build_env(alloc)?;
+    run_in(alloc, block, &mut env)
+}
+
+// The same, from where the run of the build file begins.
+fn run_in(alloc: Global, block: &Block, env: &mut Env) -> Result<Outcome, EvalEnd>
+    requires { env.old ≡ build_environment }
+    ensures ok { IfOk result (λ out. tree_loaded block.now ≡ Ok out) }
+    ensures wrong { IfErr result (λ e. IsFaultOf e (tree_loaded block.now)) }
+{
     let mut out = Outcome::new(alloc);
-    run_file(alloc, block, &mut env, &mut out, &mut Groups)?;
-    Ok(out)
+    match run_file(alloc, block, env, &mut out, &mut Groups) {
+        Ok(()) => Ok(out),
+        Err(end) => Err(end),
+    }
 }
 
 // Where the run of the build file begins.
 fn build_env(alloc: Global) -> Result<Env, AllocError>
     ensures { IfOk result (λ env. env ≡ build_environment) }
 {
-    Err(AllocError)
+    let file = Text::from_bytes(alloc, BUILD_FILE.as_bytes())?;
+    let root = Path::root(alloc)?;
+    let none = Vec::new(alloc);
+    Ok(Env::new(
+        alloc,
+        Stage::Loading,
+        Text::new(alloc),
+        file,
+        root,
+        true,
+        none,
+    ))
 }

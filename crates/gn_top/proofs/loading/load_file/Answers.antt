@@ -1,5 +1,5 @@
 use Rattle.std.proofs.Common.{◌≡◌, ◌∙◌, ap, sym, Err, rules}
-use Rattle.gn_top.proofs.ReadingLemmas.{loaded-tree, loaded-error}
+use Rattle.gn_top.proofs.LoadingLemmas.{loaded-tree, loaded-error}
 use Rattle.gn_top.proofs.loading.load_file.Goals as goal
 
 pub returns-in-Ok-clause-ok : goal.returns-in-Ok-clause-ok
