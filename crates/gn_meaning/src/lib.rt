@@ -2,8 +2,10 @@
 #![tactic(auto)]
 
 mod function;
+mod laws;
 
 pub use function::Function;
+pub use laws::evaluations_are_trees;
 
 #[cfg(test)]
 mod tests;
