@@ -1,8 +1,8 @@
 -- Each evaluation is a tree of questions: a line for each case.
-use Rattle.std.proofs.Common.{◌≡◌, ℕ, true, false, List, [], ◌∷◌, if◌then◌else◌, Option, Some, None}
+use Rattle.std.proofs.Common.{ℕ, false, List, [], Option, Some, None}
 use Rattle.gn_tree.specs.declared.position.Position.{Position}
 use Rattle.gn_tree.specs.declared.operator.AssignOp.{AssignOp}
-use Rattle.gn_tree.specs.Tree.{ExprTree, name_expr, integer_expr, string_expr, boolean_expr, call_expr, item_expr, entry_expr, scope_expr, parentheses_expr, list_expr, not_expr, binary_expr, ExprTrees, no_exprs, expr_then, CallTree, call_tree, BodyTree, no_body, some_body, TargetTree, name_target, item_target, entry_target, StatementTree, assign_statement, call_statement, condition_statement, ConditionTree, condition_tree, OtherwiseTree, no_otherwise, else_block, else_if, BlockTree, no_statements, statement_then}
+use Rattle.gn_tree.specs.Tree.{ExprTree, name_expr, integer_expr, string_expr, boolean_expr, call_expr, item_expr, entry_expr, scope_expr, parentheses_expr, list_expr, not_expr, binary_expr, ExprTrees, no_exprs, expr_then, CallTree, call_tree, no_body, some_body, TargetTree, name_target, item_target, entry_target, StatementTree, assign_statement, call_statement, condition_statement, ConditionTree, condition_tree, OtherwiseTree, no_otherwise, else_block, else_if, BlockTree, no_statements, statement_then}
 use Rattle.gn_tree.specs.FirstPosition.{first_position, call_position}
 use Rattle.gn_values.specs.Val.{Val, vstr}
 use Rattle.gn_items.specs.declared.item.ItemKind.{ItemKind}
@@ -11,9 +11,10 @@ use Rattle.gn_scopes.specs.Environment.{Environment, entered, after_assignment, 
 use Rattle.gn_meaning.specs.Runs.{Answers, IsTree}
 use Rattle.gn_meaning.specs.Functions.{function_of}
 use Rattle.gn_meaning.specs.Calls.{Steps}
-use Rattle.gn_meaning.specs.Meaning.{allowed_runs, expr_runs, items_run, values_run, call_runs, body_steps, assert_runs, defined_runs, foreach_runs, print_runs, item_call_runs, assignment_runs, statement_runs, condition_runs, otherwise_runs, block_runs, file_runs}
+use Rattle.gn_meaning.specs.Meaning.{allowed_runs, expr_runs, items_run, values_run, call_runs, assert_runs, defined_runs, foreach_runs, print_runs, item_call_runs, assignment_runs, statement_runs, condition_runs, otherwise_runs, block_runs, file_runs}
+use Rattle.gn_meaning.specs.Laws.{Evaluation, of_block, of_file, meaning_of}
 use Rattle.gn_meaning.proofs.Trees.{tree_then, tree_ends, tree_fails, tree_if}
-use Rattle.gn_meaning.proofs.Words.{AreTrees, value_tree, name_tree, element_tree, base_tree, negation_tree, item_added_tree, scope_tree, assigned_tree, element_assigned_tree, operator_tree, picked_tree, pieces_tree, asserted_tree, asserted_with_message_tree, has_entry_tree, has_value_tree, loop_tree, checked_tree, item_block_tree, call_value_tree, function_tree}
+use Rattle.gn_meaning.proofs.Words.{AreTrees, name_tree, element_tree, base_tree, negation_tree, item_added_tree, scope_tree, assigned_tree, element_assigned_tree, operator_tree, picked_tree, pieces_tree, asserted_tree, asserted_with_message_tree, has_entry_tree, has_value_tree, loop_tree, checked_tree, item_block_tree, call_value_tree, function_tree}
 
 allowed_tree : {A : Type 0} (p : Position) (name : List ℕ) (steps : Answers → Steps A) → AreTrees steps → AreTrees (λ a. allowed_runs p name (steps a))
 allowed_tree p name steps t env out = tree_if env.setting.in_item _ _ (tree_fails _) (t env out)
@@ -59,18 +60,18 @@ mutual
   called_tree : (c : CallTree) (env : Environment) (out : Effects) → IsTree (λ a. call_runs a c env out)
   called_tree (call_tree p name es no_body) env out =
       function_tree (function_of name) _ _ _ _ _ (λ en ou. assert_tree es p name None en ou) (λ en ou. defined_tree es p name None en ou)
-          (λ en ou. foreach_tree es p name None tt en ou) (λ en ou. print_tree es p name None en ou)
-          (λ kind. allowed_tree p name _ (λ en ou. item_call_tree es kind p name None tt en ou)) p name env out
+      (λ en ou. foreach_tree es p name None tt en ou) (λ en ou. print_tree es p name None en ou)
+      (λ kind. allowed_tree p name _ (λ en ou. item_call_tree es kind p name None tt en ou)) p name env out
   called_tree (call_tree p name es (some_body b)) env out =
       function_tree (function_of name) _ _ _ _ _ (λ en ou. assert_tree es p name (Some (λ a. block_runs a b)) en ou) (λ en ou. defined_tree es p name (Some (λ a. block_runs a b)) en ou)
-          (λ en ou. foreach_tree es p name (Some (λ a. block_runs a b)) (λ e o. block_tree b e o) en ou) (λ en ou. print_tree es p name (Some (λ a. block_runs a b)) en ou)
-          (λ kind. allowed_tree p name _ (λ en ou. item_call_tree es kind p name (Some (λ a. block_runs a b)) (λ e o. block_tree b e o) en ou)) p name env out
+      (λ en ou. foreach_tree es p name (Some (λ a. block_runs a b)) (λ e o. block_tree b e o) en ou) (λ en ou. print_tree es p name (Some (λ a. block_runs a b)) en ou)
+      (λ kind. allowed_tree p name _ (λ en ou. item_call_tree es kind p name (Some (λ a. block_runs a b)) (λ e o. block_tree b e o) en ou)) p name env out
 
   assert_tree : (es : ExprTrees) (p : Position) (name : List ℕ) (body : Option (Answers → Steps (Unit {0}))) (env : Environment) (out : Effects) → IsTree (λ a. assert_runs a es p name (given_block body a) env out)
   assert_tree (expr_then c no_exprs) p name None env out = tree_then _ _ (expr_tree c env out) (λ v env1 out1. asserted_tree v (first_position c) p env1 out1)
   assert_tree (expr_then c (expr_then m no_exprs)) p name None env out =
       tree_then _ _ (expr_tree c env out) (λ v env1 out1. tree_then _ _ (expr_tree m env1 out1)
-          (λ w env2 out2. asserted_with_message_tree v w (first_position c) (first_position m) p env2 out2))
+      (λ w env2 out2. asserted_with_message_tree v w (first_position c) (first_position m) p env2 out2))
   assert_tree es p name body env out = tree_fails _
 
   defined_tree : (es : ExprTrees) (p : Position) (name : List ℕ) (body : Option (Answers → Steps (Unit {0}))) (env : Environment) (out : Effects) → IsTree (λ a. defined_runs a es p name (given_block body a) env out)
@@ -111,17 +112,22 @@ mutual
   condition_tree_of : (c : ConditionTree) (env : Environment) (out : Effects) → IsTree (λ a. condition_runs a c env out)
   condition_tree_of (condition_tree test b o) env out =
       tree_then _ _ (expr_tree test env out)
-          (λ v env1 out1. picked_tree v (first_position test) (λ a. block_runs a b) (λ a. otherwise_runs a o) (λ en ou. block_tree b en ou) (λ en ou. otherwise_tree o en ou) env1 out1)
+      (λ v env1 out1. picked_tree v (first_position test) (λ a. block_runs a b) (λ a. otherwise_runs a o) (λ en ou. block_tree b en ou) (λ en ou. otherwise_tree o en ou) env1 out1)
 
   otherwise_tree : (o : OtherwiseTree) (env : Environment) (out : Effects) → IsTree (λ a. otherwise_runs a o env out)
   otherwise_tree no_otherwise env out = tree_ends tt env out
   otherwise_tree (else_block b) env out = block_tree b env out
   otherwise_tree (else_if c) env out = condition_tree_of c env out
 
-  pub block_tree : (b : BlockTree) (env : Environment) (out : Effects) → IsTree (λ a. block_runs a b env out)
+  block_tree : (b : BlockTree) (env : Environment) (out : Effects) → IsTree (λ a. block_runs a b env out)
   block_tree no_statements env out = tree_ends tt env out
   block_tree (statement_then s b) env out = tree_then _ _ (statement_tree s env out) (λ _ env1 out1. block_tree b env1 out1)
 
-pub file_tree : (b : BlockTree) (env : Environment) (out : Effects) → IsTree (λ a. file_runs a b env out)
+file_tree : (b : BlockTree) (env : Environment) (out : Effects) → IsTree (λ a. file_runs a b env out)
 unfolding file_runs
 file_tree b env out = tree_then _ _ (block_tree b env out) (λ _ env1 out1. checked_tree (reported_here env1) tt env1 env1 out1)
+
+-- each evaluation
+pub evaluation_tree : (e : Evaluation) → IsTree (meaning_of e)
+evaluation_tree (of_block b env out) = block_tree b env out
+evaluation_tree (of_file b env out) = file_tree b env out

@@ -1,3 +1,4 @@
 mod Trees
+mod TreeLaws
 mod Words
 mod Evaluations

@@ -1,5 +1,5 @@
 -- Trees of questions one behind another, and the rules by which a definition is a tree.
-use Rattle.std.proofs.Common.{◌≡◌, Bool, true, false, List, [], ◌∷◌, ◌++◌, if◌then◌else◌, Option, Some, None, refl, sym, ◌∙◌, ap}
+use Rattle.std.proofs.Common.{◌≡◌, Bool, true, false, List, ◌∷◌, ◌++◌, if◌then◌else◌, Option, Some, None, refl, sym, ◌∙◌, ap}
 use Rattle.gn_paths.specs.declared.place.Place.{Place}
 use Rattle.gn_items.specs.declared.fault.Fault.{Fault}
 use Rattle.gn_items.specs.Effects.{Effects}
@@ -46,11 +46,12 @@ after_same (needs q p) asked f g e = refl
 
 -- what is done behind a tree
 pub tree_then : {A B : Type 0} (m : Answers → Run A) (f : Answers → A → Environment → Effects → Run B) → IsTree m → ((x : A) (env : Environment) (out : Effects) → IsTree (λ a. f a x env out)) → IsTree (λ a. then_do (m a) (f a))
-tree_then {A} m f t g =
-    (bind t.0 (λ x env out. (g x env out).0),
-     λ a. ap (λ (r : Run A). then_do r (f a)) (t.1 a)
-       ∙ after_same (run_tree t.0 a).end (run_tree t.0 a).asked (f a) (λ x env out. run_tree (g x env out).0 a) (λ x env out. (g x env out).1 a)
-       ∙ sym (run-bind t.0 (λ x env out. (g x env out).0) a))
+tree_then {A} m f t g = (
+  bind t.0 (λ x env out. (g x env out).0),
+  λ a. ap (λ (r : Run A). then_do r (f a)) (t.1 a)
+      ∙ after_same (run_tree t.0 a).end (run_tree t.0 a).asked (f a) (λ x env out. run_tree (g x env out).0 a) (λ x env out. (g x env out).1 a)
+      ∙ sym (run-bind t.0 (λ x env out. (g x env out).0) a),
+)
 
 -- a value, and a fault
 pub tree_ends : {A : Type 0} (x : A) (env : Environment) (out : Effects) → IsTree (λ a. ends x env out)

@@ -1,5 +1,5 @@
 -- The small steps of an evaluation are trees of questions: a line for each case.
-use Rattle.std.proofs.Common.{◌≡◌, ℕ, Bool, true, false, ◌++◌, List, [], ◌∷◌, if◌then◌else◌, Option, Some, None, Result, Ok, Err, refl}
+use Rattle.std.proofs.Common.{◌≡◌, ℕ, Bool, true, false, ◌++◌, List, [], ◌∷◌, Option, Some, None, Result, Ok, Err, refl}
 use Rattle.gn_tree.specs.declared.position.Position.{Position}
 use Rattle.gn_tree.specs.declared.operator.BinaryOp.{BinaryOp}
 use Rattle.gn_tree.specs.declared.operator.BinaryOp.TheVariants.{And, Or}
@@ -7,7 +7,7 @@ use Rattle.gn_tree.specs.declared.piece.Piece.{Piece}
 use Rattle.gn_tree.specs.declared.piece.Piece.TheVariants.{Bytes, Name, Item as ItemPiece, Entry}
 use Rattle.gn_tree.specs.declared.piece.Subscript.{Subscript}
 use Rattle.gn_tree.specs.declared.piece.Subscript.TheVariants.{Name as NameSubscript, Integer}
-use Rattle.gn_values.specs.Val.{Val, vbool, vint, vstr, vlist, vscope, list_of, binds_of}
+use Rattle.gn_values.specs.Val.{Val, vbool, vstr, vlist, vscope, list_of}
 use Rattle.gn_values.specs.declared.error.ValueError.{ValueError}
 use Rattle.gn_values.specs.declared.error.ElementError.{ElementError}
 use Rattle.gn_values.specs.declared.error.ElementError.TheVariants as element_error
@@ -16,7 +16,7 @@ use Rattle.gn_items.specs.declared.fault.Fault.{Fault}
 use Rattle.gn_items.specs.declared.item.Item.{Item}
 use Rattle.gn_items.specs.declared.item.ItemKind.{ItemKind}
 use Rattle.gn_items.specs.Effects.{Effects, is_defined}
-use Rattle.gn_scopes.specs.Environment.{Environment, value_of, entries_here, given, restored, reported_here, left, in_item}
+use Rattle.gn_scopes.specs.Environment.{Environment, value_of, entries_here, given, reported_here}
 use Rattle.gn_scopes.specs.Assigning.{Refusal, replaces_nonempty, has_no_value, operator_refuses, ElementRefusal, base_has_no_value, element_refuses}
 use Rattle.gn_meaning.specs.declared.function.Function.{Function}
 use Rattle.gn_meaning.specs.declared.function.Function.TheVariants.{Assert, Defined, Foreach, Print, Item as ItemOf, Excluded, Unknown}
