@@ -45,12 +45,15 @@ fn items_and_lines_come_in_order(rt: HostRuntime) -> Result<(), Fail> {
     }
     assert_eq!(rt; outcome.items().len(), 3);
     let (items, prints) = outcome.into_parts();
-    for (at, (name, line)) in [(&b"k"[..], 1), (&b"g"[..], 2), (&b"k"[..], 3)]
-        .iter()
-        .enumerate()
-    {
-        assert_eq!(rt; items[at].place.line, *line);
-        assert_eq!(rt; prints[at].as_bytes(), *name);
+    let mut lines = Vec::new(alloc);
+    for item in &items {
+        lines.push(item.place.line)?;
     }
+    assert_eq!(rt; lines.as_slice(), &[1, 2, 3][..]);
+    let mut text = Text::new(alloc);
+    for line in &prints {
+        text.append(line.as_bytes())?;
+    }
+    assert_eq!(rt; text.as_bytes(), &b"kgk"[..]);
     Ok(())
 }

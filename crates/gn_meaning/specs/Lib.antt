@@ -5,3 +5,4 @@ pub mod Items
 pub mod Calls
 pub mod Pieces
 pub mod Meaning
+pub mod Laws
