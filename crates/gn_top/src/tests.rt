@@ -10,7 +10,7 @@ use std::thread::Threads;
 
 const USAGE: &str = "usage: gn gen|ls|desc|refs|path|check|args|sample ...\n";
 
-const GROUPS: &str = "group(\"b\") {\n}\ngroup(\"a\") {\n}\n";
+const GROUPS: &[u8] = b"group(\"b\") {\n}\ngroup(\"a\") {\n}\n";
 
 fn host(alloc: Global) -> Result<Host, AllocError>
     ensures { IfOk result (λ host. IsRoot (string_bytes host.root)) }
@@ -31,10 +31,10 @@ fn words(alloc: Global, line: &str) -> Result<Vec<String>, AllocError> {
 }
 
 // A source over a tree with this build file, which fails at the calls of these numbers.
-fn source(alloc: Global, file: Option<&str>, failing: Vec<u64>) -> Result<TreeSource, AllocError> {
+fn source(alloc: Global, file: Option<&[u8]>, failing: Vec<u64>) -> Result<TreeSource, AllocError> {
     let mut tree = Tree::new(alloc);
-    if let Some(text) = file {
-        tree.put("//BUILD.gn", text.as_bytes())?;
+    if let Some(bytes) = file {
+        tree.put("//BUILD.gn", bytes)?;
     }
     Ok(TreeSource::new(alloc, tree, failing))
 }
@@ -52,7 +52,7 @@ fn run_over<R: Threads + Sync>(
     rt: &R,
     alloc: Global,
     line: &str,
-    file: Option<&str>,
+    file: Option<&[u8]>,
 ) -> Result<Run, AllocError> {
     let host = host(alloc)?;
     let words = words(alloc, line)?;
@@ -68,7 +68,7 @@ fn a_run_says_the_meaning_of_its_words(rt: HostRuntime) -> Result<(), Fail> {
     let absent = "ERROR at //BUILD.gn:1:1: No such file \"//BUILD.gn\".\n";
     for (line, file, status, text, reads) in [
         ("ls out", Some(GROUPS), 0, "//:a\n//:b\n", 1),
-        ("ls _A9", Some(""), 0, "", 1),
+        ("ls _A9", Some(b""), 0, "", 1),
         ("ls out", None, 1, absent, 1),
         ("", Some(GROUPS), 2, USAGE, 0),
         ("frob", Some(GROUPS), 2, USAGE, 0),
@@ -133,7 +133,7 @@ fn a_file_says_its_lines_and_then_its_labels(rt: HostRuntime) -> Result<(), Fail
             "1 2 2\n",
         ),
     ] {
-        let run = run_over(&rt, alloc, "ls out", Some(file))?;
+        let run = run_over(&rt, alloc, "ls out", Some(file.as_bytes()))?;
         assert_eq!(rt; run.one.status, 0, "at {file}");
         assert!(rt; run.sink.said() == text.as_bytes(), "at {file}");
     }
@@ -217,7 +217,7 @@ fn a_fault_is_said_with_its_place(rt: HostRuntime) -> Result<(), Fail> {
             "Undefined identifier \"nope\".",
         ),
     ] {
-        let run = run_over(&rt, alloc, "ls out", Some(file))?;
+        let run = run_over(&rt, alloc, "ls out", Some(file.as_bytes()))?;
         assert_eq!(rt; run.one.status, 1, "at {file}");
         let line = format!(in alloc; "ERROR at //BUILD.gn:{place}: {text}\n")?;
         assert!(rt; run.sink.said() == line.as_bytes(), "at {file}");
@@ -240,8 +240,9 @@ fn a_file_of_the_limit_is_read_and_a_longer_one_is_too_big(rt: HostRuntime) -> R
     let alloc = rt.alloc();
     let too_big = "ERROR at //BUILD.gn:1:1: File \"//BUILD.gn\" is too big.\n";
     for (size, status, text) in [(16_777_216, 0, ""), (16_777_217, 1, too_big)] {
-        let spaces = repeated(alloc, " ", size)?;
-        let run = run_over(&rt, alloc, "ls out", Some(spaces.as_str()))?;
+        let mut spaces = Vec::new(alloc);
+        spaces.resize(size, b' ')?;
+        let run = run_over(&rt, alloc, "ls out", Some(&spaces))?;
         assert_eq!(rt; run.one.status, status);
         assert!(rt; run.sink.said() == text.as_bytes());
     }
@@ -255,7 +256,7 @@ fn brackets_nest_up_to_the_limit(rt: HostRuntime) -> Result<(), Fail> {
         let open = repeated(alloc, "[", depth)?;
         let close = repeated(alloc, "]", depth)?;
         let file = format!(in alloc; "x = {open}{close}\nprint(x)\n")?;
-        let run = run_over(&rt, alloc, "ls out", Some(file.as_str()))?;
+        let run = run_over(&rt, alloc, "ls out", Some(file.as_bytes()))?;
         assert_eq!(rt; run.one.status, status);
         let line = if status == 0 {
             format!(in alloc; "{open}{close}\n")?
