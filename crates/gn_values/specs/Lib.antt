@@ -8,3 +8,6 @@ pub mod Search
 pub mod Text
 pub mod Falls
 pub mod Members
+pub mod Assigning
+pub mod Imported
+pub mod ImportedCode
