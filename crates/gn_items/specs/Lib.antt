@@ -2,3 +2,5 @@ pub mod Numbers
 pub mod Texts
 pub mod Order
 pub mod Printed
+pub mod Effects
+pub mod Labels

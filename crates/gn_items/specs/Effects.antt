@@ -1,0 +1,31 @@
+-- What an execution leaves beside its variables.
+use Rattle.std.specs.Prelude.{ℕ, Bool, List, [], ◌∷◌, ◌++◌}
+use Rattle.std.specs.List.{list_any}
+use Rattle.std.specs.Str.{bytes_eq}
+use Rattle.std.specs.Prelude.{◌&&◌}
+use Rattle.gn_labels.specs.declared.label.Label.{Label}
+use Rattle.gn_items.specs.declared.item.Item.{Item}
+
+-- the items and the lines printed, each in order
+pub record Effects : Type 0 where
+  pub items : List Item
+  pub prints : List (List ℕ)
+
+abbrev pub no_effects : Effects
+no_effects = record { items = []; prints = [] }
+
+-- whether two labels are equal
+abbrev pub same_label : Label → Label → Bool
+same_label a b = bytes_eq a.dir b.dir && (bytes_eq a.name b.name && bytes_eq a.toolchain b.toolchain)
+
+-- whether an item has the label
+unfoldable pub is_defined : Label → Effects → Bool
+is_defined label effects = list_any (λ (item : Item). same_label label item.label) effects.items
+
+-- one more item
+unfoldable pub with_item : Item → Effects → Effects
+with_item item effects = record effects { items = effects.items ++ item ∷ [] }
+
+-- one more line
+unfoldable pub with_print : List ℕ → Effects → Effects
+with_print line effects = record effects { prints = effects.prints ++ line ∷ [] }

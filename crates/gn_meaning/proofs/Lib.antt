@@ -1,0 +1,4 @@
+mod Trees
+mod TreeLaws
+mod Words
+mod Evaluations

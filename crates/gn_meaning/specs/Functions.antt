@@ -1,0 +1,30 @@
+-- The calls of the language by their names.
+use Rattle.std.specs.Prelude.{ℕ, List, [], ◌∷◌, if◌then◌else◌, codes}
+use Rattle.std.specs.List.{list_any}
+use Rattle.std.specs.Str.{bytes_eq}
+use Rattle.gn_items.specs.declared.item.ItemKind.TheVariants.{Group}
+use Rattle.gn_meaning.specs.declared.function.Function.{Function}
+use Rattle.gn_meaning.specs.declared.function.Function.TheVariants.{Assert, Defined, Foreach, Print, Item, Excluded, Unknown}
+
+-- the functions of GN that are left out: those that the profile leaves out for good, and those that aren't built yet
+unfoldable pub excluded_names : List (List ℕ)
+excluded_names =
+    codes "action" ∷ codes "action_foreach" ∷ codes "bundle_data" ∷ codes "config" ∷ codes "copy" ∷ codes "create_bundle" ∷ codes "declare_args"
+    ∷ codes "exec_script" ∷ codes "executable" ∷ codes "filter_exclude" ∷ codes "filter_include" ∷ codes "filter_labels_exclude"
+    ∷ codes "filter_labels_include" ∷ codes "forward_variables_from" ∷ codes "generated_file" ∷ codes "get_label_info" ∷ codes "get_path_info"
+    ∷ codes "get_target_outputs" ∷ codes "getenv" ∷ codes "import" ∷ codes "label_matches" ∷ codes "loadable_module" ∷ codes "not_needed"
+    ∷ codes "path_exists" ∷ codes "pool" ∷ codes "process_file_template" ∷ codes "read_file" ∷ codes "rebase_path" ∷ codes "rust_library"
+    ∷ codes "rust_proc_macro" ∷ codes "set_default_toolchain" ∷ codes "set_defaults" ∷ codes "shared_library" ∷ codes "source_set"
+    ∷ codes "split_list" ∷ codes "static_library" ∷ codes "string_hash" ∷ codes "string_join" ∷ codes "string_replace" ∷ codes "string_split"
+    ∷ codes "target" ∷ codes "template" ∷ codes "tool" ∷ codes "toolchain" ∷ codes "write_file" ∷ []
+
+-- what a name calls
+unfoldable pub function_of : List ℕ → Function
+function_of name =
+    if bytes_eq name (codes "assert") then Assert
+    else if bytes_eq name (codes "defined") then Defined
+    else if bytes_eq name (codes "foreach") then Foreach
+    else if bytes_eq name (codes "print") then Print
+    else if bytes_eq name (codes "group") then Item Group
+    else if list_any (bytes_eq name) excluded_names then Excluded
+    else Unknown

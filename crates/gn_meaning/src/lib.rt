@@ -1,0 +1,14 @@
+//! What a block of the language means.
+#![tactic(auto)]
+
+mod function;
+mod laws;
+
+pub use function::Function;
+pub use laws::{
+    evaluations_are_trees, evaluations_depend_on_what_they_ask, evaluations_stop_at_answers,
+    more_answers_keep_evaluations,
+};
+
+#[cfg(test)]
+mod tests;

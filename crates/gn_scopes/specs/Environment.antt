@@ -1,0 +1,104 @@
+-- The environment of an evaluation: the layers of its scopes, what stands beneath them, and where it takes place. Each word here is what one
+-- kind of step does to it.
+use Rattle.std.specs.Prelude.{ℕ, Bool, List, [], ◌∷◌, Option, Some, None, Result, Ok, Err}
+use Rattle.gn_tree.specs.declared.position.Position.{Position}
+use Rattle.gn_tree.specs.declared.operator.AssignOp.{AssignOp}
+use Rattle.gn_items.specs.declared.stage.Stage.{Stage}
+use Rattle.gn_values.specs.Val.{Val}
+use Rattle.gn_scopes.specs.Layers.{VariableState, Table, at_name, LayerState, FixedState, ChainState, empty_layer, values_in}
+use Rattle.gn_scopes.specs.Chains.{variable_in, set_in, variable_of, marked, read_variable}
+use Rattle.gn_scopes.specs.Assigning.{Refusal, assigned, ElementRefusal, element_changed}
+use Rattle.gn_scopes.specs.Unread.{reported}
+
+-- where an evaluation takes place: the stage and the toolchain that its faults have, the file that its places name, the current directory, and
+-- whether the block of an item is open
+pub record Setting : Type 0 where
+  pub stage : Stage
+  pub toolchain : List ℕ
+  pub file : List ℕ
+  pub directory : List ℕ
+  pub in_item : Bool
+
+pub record Environment : Type 0 where
+  pub setting : Setting
+  pub chain : ChainState
+  -- searched behind the layers, in order
+  pub beneath : List FixedState
+  -- the depth of the evaluation: the sum over the template calls that are open
+  pub depth : ℕ
+
+-- the first of the fixed layers that has the name
+abbrev pub fixed_value : List ℕ → List FixedState → Option Val
+fixed_value name [] = None
+fixed_value name (f ∷ fs) = nearest (at_name name f.values) (fixed_value name fs)
+  where
+    nearest : Option Val → Option Val → Option Val
+    nearest (Some v) further = Some v
+    nearest None further = further
+
+-- what a read of the name finds: it searches the layers outwards, then what stands beneath them
+unfoldable pub value_of : List ℕ → Environment → Option Val
+value_of name env = found (variable_of name (env.chain.inner ∷ env.chain.outer))
+  where
+    found : Option VariableState → Option Val
+    found (Some v) = Some v.value
+    found None = fixed_value name env.beneath
+
+-- the environment after a read of the name
+unfoldable pub after_read : List ℕ → Environment → Environment
+after_read name env = here (variable_in name env.chain.inner)
+  where
+    here : Option VariableState → Environment
+    here (Some v) = record env { chain = record env.chain { inner = set_in name (Some (read_variable v)) env.chain.inner } }
+    here None = record env { chain = record env.chain { outer = marked name env.chain.outer } }
+
+-- the environment with other layers
+abbrev pub with_chain : {E : Type 0} → Environment → Result ChainState E → Result Environment E
+with_chain env (Ok chain) = Ok (record env { chain = chain })
+with_chain env (Err e) = Err e
+
+-- `name = value`, `name += value`, `name -= value`
+unfoldable pub after_assignment : List ℕ → AssignOp → Val → Position → Environment → Result Environment Refusal
+after_assignment name op value position env =
+    with_chain env (assigned name op value position (fixed_value name env.beneath) env.chain)
+
+-- `name[at] = value`, `name.at = value`, and their kin
+unfoldable pub after_element_assignment : List ℕ → Val → AssignOp → Val → Position → Environment → Result Environment ElementRefusal
+after_element_assignment name at op value position env =
+    with_chain env (element_changed name at op value position (fixed_value name env.beneath) env.chain)
+
+-- a scope opens
+unfoldable pub entered : Bool → Environment → Environment
+entered checked env = record env { chain = record { inner = empty_layer checked; outer = env.chain.inner ∷ env.chain.outer } }
+
+-- the innermost scope ends
+unfoldable pub left : Environment → Environment
+left env = ended env.chain.outer
+  where
+    ended : List LayerState → Environment
+    ended [] = env
+    ended (l ∷ ls) = record env { chain = record { inner = l; outer = ls } }
+
+-- the names that stand directly in the innermost scope, with their values
+unfoldable pub entries_here : Environment → Table Val
+entries_here env = values_in env.chain.inner
+
+-- what the end of the innermost scope reports: the unread name whose last assignment stands first
+unfoldable pub reported_here : Environment → Option (List ℕ × Position)
+reported_here env = reported env.chain.inner
+
+-- what the innermost scope has at a name
+unfoldable pub variable_here : List ℕ → Environment → Option VariableState
+variable_here name env = variable_in name env.chain.inner
+
+-- the innermost scope with a name as it was
+unfoldable pub restored : List ℕ → Option VariableState → Environment → Environment
+restored name variable env = record env { chain = record env.chain { inner = set_in name variable env.chain.inner } }
+
+-- a name gets a value without an assignment, and counts as read
+unfoldable pub given : List ℕ → Val → Environment → Environment
+given name value env = restored name (Some (record { value = value; unread = None })) env
+
+-- the block of an item opens or ends
+abbrev pub in_item : Bool → Environment → Environment
+in_item inside env = record env { setting = record env.setting { in_item = inside } }

@@ -1,0 +1,2 @@
+//! Scopes.
+#![tactic(auto)]
