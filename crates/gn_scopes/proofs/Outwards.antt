@@ -108,11 +108,6 @@ module _ (name : List ℕ) where
       subst (λ (o : Option VariableState). IsFirstAt name (read_through name l ls o (marked name ls)) (suc i)) (sym f.0) (f.0, stays_first ls i f.1)
 
   -- the value at the place where a name is found
-  pub found_inner : (chain : ChainState) → IsSome (variable_in name chain.inner) → option_map (λ v. v.value) (variable_in name chain.inner) ≡ chain_value name chain
-  unfolding chain_value
-  found_inner chain h =
-      ap (option_map (λ v. v.value)) (sym (nearest_here (variable_in name chain.inner) (variable_of name chain.outer) h))
-
   pub found_outer : (chain : ChainState) (i : ℕ) (x : LayerState) → (variable_in name chain.inner ≡ None) × IsFirstAt name chain.outer i → x ≡ get_or chain.outer i x → option_map (λ v. v.value) (variable_in name x) ≡ chain_value name chain
   unfolding chain_value
   found_outer chain i x f is =

@@ -270,9 +270,7 @@ impl Scopes {
     {
         match op {
             AssignOp::Set => self.inner.overwrite(alloc, name, value, position),
-            AssignOp::Add => {
-                self.combine(alloc, name, AssignOp::Add, value, position, beneath)
-            }
+            AssignOp::Add => { self.combine(alloc, name, AssignOp::Add, value, position, beneath) }
             AssignOp::Subtract => {
                 self.combine(alloc, name, AssignOp::Subtract, value, position, beneath)
             }
@@ -303,7 +301,9 @@ impl Scopes {
         ensures outer { length self.new.outer ≡ length self.old.outer }
     {
         if self.inner.has(name) {
-            return self.inner.assign_element(alloc, name, at, op, value, position);
+            return self
+                .inner
+                .assign_element(alloc, name, at, op, value, position);
         }
         let Some(mut copy) = self.copy_of_outer(alloc, name, beneath)? else {
             return Err(ElementAssignError::Undefined);
