@@ -3,7 +3,7 @@
 ghost use Rattle.std.specs.Prelude.{◌≡◌};
 ghost use Rattle.gn_scopes.specs.Environment.{levels};
 
-use crate::{AssignError, ElementAssignError, Env, Fixed, Layer, ScopeError, Scopes};
+use crate::{AssignError, ElementAssignError, Env, Fixed, ScopeError, Scopes};
 use gn_items::{Code, Stage};
 use gn_paths::{Path, Text, Texts};
 use gn_tree::{AssignOp, Position};
@@ -314,8 +314,8 @@ fn a_scope_literal(rt: HostRuntime) -> Result<(), Fail> {
     Ok(())
 }
 
-// The end of a scope in which `x` is set, and read or not.
-fn ended(alloc: Global, reads: bool) -> Result<Result<Layer, ScopeError>, Fail> {
+// The column that the end of a scope reports in which `x` is set, and read or not.
+fn ended(alloc: Global, reads: bool) -> Result<u32, Fail> {
     let name = text(alloc, b"x")?;
     let mut scopes = Scopes::new(alloc, false);
     scopes.enter(true)?;
@@ -323,22 +323,17 @@ fn ended(alloc: Global, reads: bool) -> Result<Result<Layer, ScopeError>, Fail> 
     if reads {
         let _value = scopes.get(&name);
     }
-    Ok(scopes.leave())
+    match scopes.leave() {
+        Err(ScopeError::NoEffect(_name, position)) => Ok(position.column),
+        Err(_error) => Ok(0),
+        Ok(layer) => Ok(column_of(layer.unread())),
+    }
 }
 
 #[test]
 fn layers(rt: HostRuntime) -> Result<(), Fail> {
     let alloc = rt.alloc();
-    match ended(alloc, false)? {
-        Err(ScopeError::NoEffect(name, position)) => {
-            assert_eq!(rt; name.as_bytes(), &b"x"[..]);
-            assert_eq!(rt; position.column, 2);
-        }
-        _ => assert!(rt; false),
-    }
-    match ended(alloc, true)? {
-        Ok(layer) => assert!(rt; layer.unread().is_none()),
-        _ => assert!(rt; false),
-    }
+    assert_eq!(rt; ended(alloc, false)?, 2);
+    assert_eq!(rt; ended(alloc, true)?, 0);
     Ok(())
 }
