@@ -1,12 +1,12 @@
 -- The environment of an evaluation: the layers of its scopes, what stands beneath them, and where it takes place. Each word here is what one
 -- kind of step does to it.
-use Rattle.std.specs.Prelude.{ℕ, Bool, List, [], ◌∷◌, Option, Some, None, Result, Ok, Err}
+use Rattle.std.specs.Prelude.{ℕ, ◌<◌, Bool, false, List, [], ◌∷◌, length, Option, Some, None, Result, Ok, Err}
 use Rattle.gn_tree.specs.declared.position.Position.{Position}
 use Rattle.gn_tree.specs.declared.operator.AssignOp.{AssignOp}
 use Rattle.gn_items.specs.declared.stage.Stage.{Stage}
 use Rattle.gn_values.specs.Val.{Val}
-use Rattle.gn_scopes.specs.Layers.{VariableState, Table, at_name, LayerState, FixedState, ChainState, empty_layer, values_in}
-use Rattle.gn_scopes.specs.Chains.{variable_in, set_in, variable_of, marked, read_variable}
+use Rattle.gn_scopes.specs.Layers.{VariableState, Table, at_name, FixedState, ChainState, empty_layer, values_in}
+use Rattle.gn_scopes.specs.Chains.{variable_in, set_in, nearest, chain_value, chain_read, chain_entered, chain_left}
 use Rattle.gn_scopes.specs.Assigning.{Refusal, assigned, ElementRefusal, element_changed}
 use Rattle.gn_scopes.specs.Unread.{reported}
 
@@ -27,30 +27,27 @@ pub record Environment : Type 0 where
   -- the depth of the evaluation: the sum over the template calls that are open
   pub depth : ℕ
 
+-- an environment of one scope, in which nothing is set
+unfoldable pub new_environment : Stage → List ℕ → List ℕ → List ℕ → Bool → List FixedState → Environment
+new_environment stage toolchain file directory checked beneath = record {
+  setting = record { stage = stage; toolchain = toolchain; file = file; directory = directory; in_item = false };
+  chain = record { inner = empty_layer checked; outer = [] };
+  beneath = beneath;
+  depth = 0;
+}
+
 -- the first of the fixed layers that has the name
 abbrev pub fixed_value : List ℕ → List FixedState → Option Val
 fixed_value name [] = None
 fixed_value name (f ∷ fs) = nearest (at_name name f.values) (fixed_value name fs)
-  where
-    nearest : Option Val → Option Val → Option Val
-    nearest (Some v) further = Some v
-    nearest None further = further
 
 -- what a read of the name finds: it searches the layers outwards, then what stands beneath them
 unfoldable pub value_of : List ℕ → Environment → Option Val
-value_of name env = found (variable_of name (env.chain.inner ∷ env.chain.outer))
-  where
-    found : Option VariableState → Option Val
-    found (Some v) = Some v.value
-    found None = fixed_value name env.beneath
+value_of name env = nearest (chain_value name env.chain) (fixed_value name env.beneath)
 
 -- the environment after a read of the name
 unfoldable pub after_read : List ℕ → Environment → Environment
-after_read name env = here (variable_in name env.chain.inner)
-  where
-    here : Option VariableState → Environment
-    here (Some v) = record env { chain = record env.chain { inner = set_in name (Some (read_variable v)) env.chain.inner } }
-    here None = record env { chain = record env.chain { outer = marked name env.chain.outer } }
+after_read name env = record env { chain = chain_read name env.chain }
 
 -- the environment with other layers
 abbrev pub with_chain : {E : Type 0} → Environment → Result ChainState E → Result Environment E
@@ -69,15 +66,18 @@ after_element_assignment name at op value position env =
 
 -- a scope opens
 unfoldable pub entered : Bool → Environment → Environment
-entered checked env = record env { chain = record { inner = empty_layer checked; outer = env.chain.inner ∷ env.chain.outer } }
+entered checked env = record env { chain = chain_entered checked env.chain }
 
 -- the innermost scope ends
 unfoldable pub left : Environment → Environment
-left env = ended env.chain.outer
-  where
-    ended : List LayerState → Environment
-    ended [] = env
-    ended (l ∷ ls) = record env { chain = record { inner = l; outer = ls } }
+left env = record env { chain = chain_left env.chain }
+
+-- how many scopes are open beside the outermost one, and whether one is
+abbrev pub levels : Environment → ℕ
+levels env = length env.chain.outer
+
+abbrev pub IsEntered : Environment → Type 0
+IsEntered env = 0 < levels env
 
 -- the names that stand directly in the innermost scope, with their values
 unfoldable pub entries_here : Environment → Table Val

@@ -3,4 +3,9 @@ pub mod Chains
 pub mod Assigning
 pub mod Unread
 pub mod Environment
+pub mod Codes
+pub mod View
+pub mod Lending
+pub mod Errors
 pub mod Faults
+pub mod Found
