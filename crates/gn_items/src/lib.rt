@@ -5,6 +5,7 @@ mod code;
 mod fault;
 mod item;
 mod laws;
+mod outcome;
 mod printing;
 mod stage;
 mod template;
@@ -16,6 +17,7 @@ pub use laws::{
     codes_have_different_numbers, fault_order_has_no_ties, fault_order_is_strict,
     fault_order_is_transitive,
 };
+pub use outcome::Outcome;
 pub use stage::Stage;
 
 #[cfg(test)]

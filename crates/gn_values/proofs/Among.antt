@@ -79,7 +79,7 @@ module _ {X Y : Type 0} (f : X → Y) where
     pub filter_more : (xs : List X) (i : ℕ) (x : X) → i < length xs → x ≡ get_or xs i x → filter p (take (i + 1) (map f xs)) ≡ cond (p (f x)) (filter p (take i (map f xs)) ++ f x ∷ []) (filter p (take i (map f xs)))
     filter_more xs i x l e = ap (filter p) (took_more xs i x l e) ∙ filter-push p (take i (map f xs)) (f x)
 
-deepest_item-filter : (p : Val → Bool) (vs : List Val) → deepest_item (vals_of (filter p vs)) ≤ deepest_item (vals_of vs)
+pub deepest_item-filter : (p : Val → Bool) (vs : List Val) → deepest_item (vals_of (filter p vs)) ≤ deepest_item (vals_of vs)
 deepest_item-filter p [] = omega arith
 deepest_item-filter p (v ∷ vs) = by (p v) (deepest_item-filter p vs)
   where

@@ -4,6 +4,8 @@ use Rattle.std.specs.List.{list_all}
 use Rattle.std.specs.Option.{ok_or}
 use Rattle.gn_values.specs.Val.{Val, vlist, vscope, vint, vstr, vals_of, binds_of}
 use Rattle.gn_values.specs.Operators.{sum_of, difference_of, element_of, item_at, value_at, is_among, without, list_value}
+use Rattle.gn_tree.specs.declared.operator.AssignOp.{AssignOp}
+use Rattle.gn_values.specs.Assigning.{element_assigned, item_assigned, entry_assigned}
 use Rattle.gn_values.specs.declared.error.ValueError.TheVariants.{NotInList, Undefined, TooLong, Memory}
 use Rattle.gn_values.specs.declared.error.ValueError.{ValueError}
 use Rattle.gn_values.specs.Limits.{list_fits}
@@ -24,6 +26,14 @@ element_of-list vs n = ap (λ l. item_at l n) (list_of-vals vs)
 pub element_of-scope : (bs : List (List ℕ × Val)) (name : List ℕ) → element_of (vscope (binds_of bs)) (vstr name) ≡ ok_or (value_at name bs) Undefined
 unfolding element_of
 element_of-scope bs name = ap (λ l. ok_or (value_at name l) Undefined) (entries_of-binds bs)
+
+pub element_assigned-list : (vs : List Val) (n : ℤ) (op : AssignOp) (v : Val) → element_assigned (vlist (vals_of vs)) (vint n) op v ≡ item_assigned vs n op v (item_at vs n)
+unfolding element_assigned
+element_assigned-list vs n op v = ap (λ l. item_assigned l n op v (item_at l n)) (list_of-vals vs)
+
+pub element_assigned-scope : (bs : List (List ℕ × Val)) (name : List ℕ) (op : AssignOp) (v : Val) → element_assigned (vscope (binds_of bs)) (vstr name) op v ≡ entry_assigned bs name op v (value_at name bs)
+unfolding element_assigned
+element_assigned-scope bs name op v = ap (λ l. entry_assigned l name op v (value_at name l)) (entries_of-binds bs)
 
 pub difference_of-found : (vs ws : List Val) → list_all (λ w. is_among w vs) ws ≡ true → difference_of (vlist (vals_of vs)) (vlist (vals_of ws)) ≡ Ok (vlist (vals_of (without vs ws)))
 difference_of-found vs ws h = difference_of-lists vs ws ∙ rw h refl

@@ -1,5 +1,5 @@
 -- Entries with a name set: their order, their depth, and where the place of the name is known.
-use Rattle.std.proofs.Common.{◌≡◌, ℕ, zero, suc, ◌+◌, ◌<◌, ◌≤◌, max, true, false, cond, List, [], ◌∷◌, ◌++◌, length, get_or, take, map, is_none, Some, Result, Ok, Err, Ordering, sym, ap, ◌∙◌, subst, arith}
+use Rattle.std.proofs.Common.{◌≡◌, ℕ, zero, suc, ◌+◌, ◌<◌, ◌≤◌, max, true, false, cond, List, [], ◌∷◌, ◌++◌, length, get_or, take, map, is_none, Some, None, Result, Ok, Err, Ordering, sym, ap, ◌∙◌, subst, arith}
 use Rattle.std.specs.Prelude.{slice_set}
 use Rattle.std.specs.Ordering.{is_eq, match_ordering, ordering_reverse}
 use Rattle.std.specs.declared.cmp.Ordering.TheVariants.{Less, Equal, Greater}
@@ -58,6 +58,14 @@ module _ (k : List ℕ) (v : Val) where
       (λ h. ap (λ l. deepest_entry (binds_of l)) (set_step b bs Less h) ∙ omega arith)
       (λ h. absurd (let f : false ≡ true = sym (ap is_none (found_here b bs Equal h)) ∙ n in cc))
       (λ h. let r = depth_with_new bs (sym (ap is_none (found_here b bs Greater h)) ∙ n) in ap (λ l. deepest_entry (binds_of l)) (set_step b bs Greater h) ∙ omega arith)
+
+  -- with a name that was there the former value was no deeper than the scope, and the rest is as deep as before
+  pub depth_with_former : (bs : List (List ℕ × Val)) (old : Val) → value_at k bs ≡ Some old → (depth_of old ≤ deepest_entry (binds_of bs)) × (deepest_entry (binds_of bs) ≤ max (deepest_entry (binds_of (with_entry bs k v))) (depth_of old))
+  depth_with_former [] old n = absurd (let f : None ≡ Some old = n in cc)
+  depth_with_former (b ∷ bs) old n = by_answer (order k b.0)
+      (λ h. let r = depth_with_former bs old (sym (found_here b bs Less h) ∙ n) in let e = ap (λ l. deepest_entry (binds_of l)) (set_step b bs Less h) in (omega arith, omega arith))
+      (λ h. let same : Some b.1 ≡ Some old = sym (found_here b bs Equal h) ∙ n in let is : b.1 ≡ old = cc in let deep = ap depth_of is in let e = ap (λ l. deepest_entry (binds_of l)) (set_step b bs Equal h) in (omega arith, omega arith))
+      (λ h. let r = depth_with_former bs old (sym (found_here b bs Greater h) ∙ n) in let e = ap (λ l. deepest_entry (binds_of l)) (set_step b bs Greater h) in (omega arith, omega arith))
 
   -- an entry put in where the name would stand
   pub inserted : (es : List Entry) (i : ℕ) (e : Entry) → i ≤ length es → entry_of e ≡ (k, v) → AboveFirst k es i → StandsAt k es i Less → entries_in (insert es i e) ≡ with_entry (entries_in es) k v

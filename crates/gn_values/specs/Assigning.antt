@@ -1,5 +1,5 @@
 -- What the operators of assignments leave: of a value, and of a list or a scope where they are for one of its elements.
-use Rattle.std.specs.Prelude.{ℕ, ℤ, pos, negsuc, nat_lt, if◌then◌else◌, List, slice_set, Option, Some, None, Result, Ok, Err}
+use Rattle.std.specs.Prelude.{ℕ, ℤ, pos, negsuc, nat_lt, nat_le, Bool, true, false, ◌&&◌, if◌then◌else◌, List, slice_set, Option, Some, None, Result, Ok, Err}
 use Rattle.gn_tree.specs.declared.operator.AssignOp.{AssignOp}
 use Rattle.gn_tree.specs.declared.operator.AssignOp.TheVariants.{Set, Add, Subtract}
 use Rattle.gn_values.specs.Val.{Val, vint, vstr, vlist, vscope, binds_of, list_of, entries_of, depth_of}
@@ -55,3 +55,14 @@ element_assigned _ _ _ _ = Err (Subscript BadTypes)
 -- an element as such: one level less deep than the list or scope that holds it
 abbrev pub element_value : Val → Result Val ValueError
 element_value v = if nat_lt (depth_of v) max_depth then Ok v else Err TooLong
+
+-- whether an element is too deep after an assignment, known before it: a sum of two lists is as deep as the deeper one,
+-- a difference no deeper than the left list, and an element was not too deep before
+abbrev pub is_list : Val → Bool
+is_list (vlist vs) = true
+is_list _ = false
+
+abbrev pub grows_too_deep : AssignOp → Val → Val → Bool
+grows_too_deep Set left right = nat_le max_depth (depth_of right)
+grows_too_deep Add left right = is_list left && is_list right && nat_le max_depth (depth_of right)
+grows_too_deep Subtract left right = false

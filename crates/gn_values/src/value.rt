@@ -5,7 +5,9 @@ ghost use Rattle.gn_values.specs.Val.{depth_of};
 ghost use Rattle.gn_values.specs.Limits.{max_depth};
 ghost use Rattle.gn_values.specs.View.{val_of, entry_of};
 
+mod assigning;
 mod difference;
+mod elements;
 mod list_items;
 mod print;
 mod scope_entries;

@@ -53,6 +53,14 @@ impl Items {
         self.items.as_slice()
     }
 
+    /// The items, in order, moved out of the list. It takes no memory.
+    pub fn into_vec(self) -> Vec<Value>
+        ensures { map val_of result.items ≡ self }
+    {
+        let Items { items, .. } = self;
+        items
+    }
+
     /// The item of this number, counted from 0. None comes exactly where there is no such item.
     pub fn get(&self, index: usize) -> Option<&Value>
         ensures { option_map (λ v. val_of v.now) result ≡ slice_get self.now index }
@@ -119,14 +127,31 @@ impl Items {
         ensures only { IfErr result (λ e. e ≢ ValueError.Memory → e ≡ ValueError.TooLong) }
         ensures err { OnErr result (self.new ≡ self.old) }
     {
-        if other.items.len() > MAX_ITEMS - self.items.len() {
+        if other.len() > MAX_ITEMS - self.len() {
             return Err(ValueError::TooLong);
         }
+        self.append_moved(other.copy(alloc)?)
+    }
+
+    /// Moves the other list's items to the end. `TooLong` comes exactly where the list would be
+    /// above a limit. After a refusal the list is as before, and the other list is dropped. It
+    /// walks over no items and copies none.
+    pub fn append_moved(&mut self, other: Items) -> Result<(), ValueError>
+        ensures ok { OnOk result (self.new ≡ self.old ++ other) }
+        ensures fits { OnOk result (IsTrue (list_fits self.new)) }
+        ensures too_long { result ≡ Err ValueError.TooLong
+            → list_fits (self.old ++ other) ≡ false }
+        ensures only { IfErr result (λ e. e ≢ ValueError.Memory → e ≡ ValueError.TooLong) }
+        ensures err { OnErr result (self.new ≡ self.old) }
+    {
         let Items {
-            items: mut copies,
+            items: mut moved,
             depth,
-        } = other.copy(alloc)?;
-        self.items.append(&mut copies)?;
+        } = other;
+        if moved.len() > MAX_ITEMS - self.items.len() {
+            return Err(ValueError::TooLong);
+        }
+        self.items.append(&mut moved)?;
         self.depth = self.depth.max(depth);
         Ok(())
     }

@@ -1,11 +1,12 @@
 // Entries in the order of their names, and what is done with those of a scope.
 
-ghost use Rattle.std.specs.Prelude.{◌≡◌, ◌≢◌, ◌↔◌, ◌≤◌, [], IsTrue, OnOk, OnErr, IfErr, false, length, map, option_map};
-ghost use Rattle.gn_values.specs.Val.{scope_depth};
+ghost use Rattle.std.specs.Prelude.{◌≡◌, ◌≢◌, ◌↔◌, ◌≤◌, [], IsTrue, IfOk, OnOk, OnErr, IfErr, false, length, map, option_map};
+ghost use Rattle.gn_values.specs.Val.{scope_depth, IsSortedByName};
 ghost use Rattle.gn_values.specs.Operators.{value_at, with_entry};
 ghost use Rattle.gn_values.specs.Limits.{max_depth, scope_fits, IsScope};
 ghost use Rattle.gn_values.specs.View.{val_of, entry_of};
 
+use crate::bindings::Bindings;
 use crate::error::ValueError;
 use crate::limits::MAX_DEPTH;
 use crate::value::search::{depth_of_entries, find_entry, set_entry};
@@ -22,6 +23,30 @@ impl Entries {
             entries: Vec::new(alloc),
             depth: 1,
         }
+    }
+
+    /// A scope of these names and values, in time linear in their number. `TooLong` comes exactly
+    /// where it would nest too deep, and the values are dropped then. It takes no memory.
+    pub fn from_bindings(bindings: Bindings) -> Result<Entries, ValueError>
+        ensures ok { IfOk result (λ r. r ≡ bindings) }
+        ensures fits { IfOk result (λ r. IsTrue (scope_fits bindings)) }
+        ensures too_long { result ≡ Err ValueError.TooLong → scope_fits bindings ≡ false }
+        ensures only { IfErr result (λ e. e ≡ ValueError.TooLong) }
+    {
+        let entries = bindings.into_vec();
+        let depth = depth_of_entries(entries.as_slice());
+        if depth as usize > MAX_DEPTH {
+            return Err(ValueError::TooLong);
+        }
+        Ok(Entries { entries, depth })
+    }
+
+    /// The entries, in the order of their names. It takes no memory.
+    pub(crate) fn into_vec(self) -> Vec<Entry>
+        ensures value { map entry_of result.items ≡ self }
+        ensures sorted { IsSortedByName (map entry_of result.items) }
+    {
+        self.entries
     }
 
     /// The number of entries.

@@ -1,5 +1,5 @@
 use Rattle.std.specs.List.Sorted.{IsStrictlySortedBy}
-use Rattle.gn_values.proofs.overrides.Overrides.new.Goals as goal
+use Rattle.gn_values.proofs.bindings.Bindings.new.Goals as goal
 
 pub invariant_of-result : goal.invariant_of-result
 unfolding IsStrictlySortedBy

@@ -1,5 +1,5 @@
 use Rattle.gn_values.proofs.Sorted.{value_at_place, no_value_at_place}
-use Rattle.gn_values.proofs.overrides.Overrides.get.Goals as goal
+use Rattle.gn_values.proofs.bindings.Bindings.get.Goals as goal
 
 pub returns-in-Ok : goal.returns-in-Ok
 returns-in-Ok c =

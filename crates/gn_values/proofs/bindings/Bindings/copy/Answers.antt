@@ -1,7 +1,7 @@
 use Rattle.std.proofs.Common.{arith}
 use Rattle.gn_values.specs.View.{entry_of}
 use Rattle.gn_values.proofs.Mapped.{map_grown}
-use Rattle.gn_values.proofs.overrides.Overrides.copy.Goals as goal
+use Rattle.gn_values.proofs.bindings.Bindings.copy.Goals as goal
 
 pub loop-entry-preserved : goal.loop-entry-preserved
 loop-entry-preserved c =

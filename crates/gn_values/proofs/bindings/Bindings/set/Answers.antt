@@ -1,6 +1,6 @@
 use Rattle.gn_values.specs.View.{val_of}
 use Rattle.gn_values.proofs.Setting.{sorted_with}
-use Rattle.gn_values.proofs.overrides.Overrides.set.Goals as goal
+use Rattle.gn_values.proofs.bindings.Bindings.set.Goals as goal
 
 pub invariant_of-self-2 : goal.invariant_of-self-2
 invariant_of-self-2 c =

@@ -1,25 +1,29 @@
-// The values that build arguments are given.
+// Names with values, in the order of the names.
 
-ghost use Rattle.std.specs.Prelude.{◌≡◌, ◌↔◌, [], IsTrue, IfOk, OnOk, OnErr, length, map, option_map};
+ghost use Rattle.std.specs.Prelude.{◌≡◌, ◌↔◌, ◌++◌, [], ◌∷◌, IsTrue, IfOk, OnOk, OnErr, length, map, option_map};
 ghost use Rattle.gn_values.specs.Operators.{value_at, with_entry};
 ghost use Rattle.gn_values.specs.Val.{IsSortedByName};
 ghost use Rattle.gn_values.specs.View.{val_of, entry_of};
 
 use crate::value::search::{find_entry, set_entry};
-use crate::value::{Entry, Value};
+use crate::value::{Entries, Entry, Value};
 use gn_paths::Text;
 use std::alloc::{AllocError, Global};
 use std::marker::Model;
 
-/// The values that build arguments are given, in the order of the bytes of their names. A name that
-/// is given again gets the new value, so the last of a name counts. Contracts see a list of pairs
+/// Names with values, in the order of the bytes of the names, which differ. Other than a scope's
+/// entries they aren't a value, so no limit on depth holds for them. Contracts see a list of pairs
 /// of a name and a value.
 #[derive(Debug, Drop)]
-pub struct Overrides {
+pub struct Bindings {
     entries: Vec<Entry>,
 }
 
-impl Model for Overrides {
+/// The values that build arguments are given. A name that is given again gets the new value, so the
+/// last of a name counts.
+pub type Overrides = Bindings;
+
+impl Model for Bindings {
     ghost use Rattle.std.specs.Prelude.{List, ℕ};
     ghost use Rattle.std.specs.Coded.{coded_list, coded×, coded_ℕ};
     ghost use Rattle.gn_values.specs.Val.{Val, IsSortedByName};
@@ -36,14 +40,31 @@ impl Model for Overrides {
     ghost invariant = { λ a. IsSortedByName (entries_in a.entries.items) };
 }
 
-impl Overrides {
-    /// No values. It takes no memory.
-    pub fn new(alloc: Global) -> Overrides
+impl Bindings {
+    /// No names. It takes no memory.
+    pub fn new(alloc: Global) -> Bindings
         ensures { result ≡ [] }
     {
-        Overrides {
+        Bindings {
             entries: Vec::new(alloc),
         }
+    }
+
+    /// The entries of a scope. It takes no memory.
+    pub fn from_entries(entries: Entries) -> Bindings
+        ensures { result ≡ entries }
+    {
+        Bindings {
+            entries: entries.into_vec(),
+        }
+    }
+
+    /// The names and their values, in the order of the names. It takes no memory.
+    pub(crate) fn into_vec(self) -> Vec<Entry>
+        ensures value { map entry_of result.items ≡ self }
+        ensures sorted { IsSortedByName (map entry_of result.items) }
+    {
+        self.entries
     }
 
     /// The number of names.
@@ -53,7 +74,7 @@ impl Overrides {
         self.entries.len()
     }
 
-    /// Whether nothing is given.
+    /// Whether there are no names.
     pub fn is_empty(&self) -> bool
         ensures { IsTrue result ↔ (self.now ≡ []) }
     {
@@ -68,7 +89,7 @@ impl Overrides {
         self.entries.as_slice()
     }
 
-    /// The value that a name is given. None comes exactly where it is given none. It looks at
+    /// The value of a name. None comes exactly where the name isn't there. It looks at
     /// logarithmically many entries.
     pub fn get(&self, name: &[u8]) -> Option<&Value>
         ensures { option_map (λ v. val_of v.now) result ≡ value_at name.now self.now }
@@ -79,8 +100,8 @@ impl Overrides {
         }
     }
 
-    /// Gives a name a value, in place of one that it was given before. After want of memory nothing
-    /// is changed, and the value is dropped.
+    /// Gives a name a value, in place of one that it had. After want of memory nothing is changed,
+    /// and the value is dropped. A new name costs a move of the entries behind it.
     pub fn set(&mut self, name: Text, value: Value) -> Result<(), AllocError>
         ensures ok { OnOk result (self.new ≡ with_entry self.old name (val_of value)) }
         ensures err { OnErr result (self.new ≡ self.old) }
@@ -89,14 +110,25 @@ impl Overrides {
         Ok(())
     }
 
-    /// New overrides equal to these.
-    pub fn copy(&self, alloc: Global) -> Result<Overrides, AllocError>
+    /// Puts a name that is behind all others at the end, without a search. After want of memory
+    /// nothing is changed, and the value is dropped.
+    pub fn push_last(&mut self, name: Text, value: Value) -> Result<(), AllocError>
+        requires { IsSortedByName (self.old ++ (name, val_of value) ∷ []) }
+        ensures ok { OnOk result (self.new ≡ self.old ++ (name, val_of value) ∷ []) }
+        ensures err { OnErr result (self.new ≡ self.old) }
+    {
+        self.entries.push(Entry { name, value })?;
+        Ok(())
+    }
+
+    /// New bindings equal to these.
+    pub fn copy(&self, alloc: Global) -> Result<Bindings, AllocError>
         ensures { IfOk result (λ r. r ≡ self.now) }
     {
         let mut entries = Vec::with_capacity(alloc, self.entries.len())?;
         for entry in &self.entries {
             entries.push(entry.copy(alloc)?)?;
         }
-        Ok(Overrides { entries })
+        Ok(Bindings { entries })
     }
 }
