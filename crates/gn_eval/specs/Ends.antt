@@ -1,7 +1,9 @@
 -- How what the program answers stands to the meaning.
-use Rattle.std.specs.Prelude.{◌≡◌, Result, Ok, Err}
+use Rattle.std.specs.Prelude.{◌≡◌, ℕ, List, Result, Ok, Err}
 use Rattle.gn_items.specs.declared.fault.Fault.{Fault}
 use Rattle.gn_items.specs.Effects.{Effects}
+use Rattle.gn_values.specs.declared.error.ValueError.{ValueError}
+use Rattle.gn_values.specs.declared.error.ValueError.TheVariants as value_error
 use Rattle.gn_scopes.specs.Environment.{Environment}
 use Rattle.gn_meaning.specs.Runs.{Run, ends, fails}
 use Rattle.gn_eval.specs.declared.ending.EvalEnd.{EvalEnd}
@@ -11,6 +13,11 @@ use Rattle.gn_eval.specs.declared.ending.EvalEnd.TheVariants.{Wrong, Memory}
 abbrev pub IsFault : EvalEnd → Fault → Type 0
 IsFault (Wrong f) fault = f ≡ fault
 IsFault Memory fault = Unit {0}
+
+-- the end is this fault, but want of memory where that is what an operator answers
+abbrev pub IsRefusal : ValueError → EvalEnd → Fault → Type 0
+IsRefusal value_error.Memory end fault = end ≡ Memory
+IsRefusal error end fault = IsFault end fault
 
 -- an evaluation without a value: the run ends with its fault. Of want of memory nothing is claimed.
 abbrev pub IsFailure : {A : Type 0} → EvalEnd → Run A → Type 0
