@@ -7,5 +7,6 @@ mod ending;
 mod faults;
 mod names;
 mod operators;
+mod strings;
 
 pub use ending::EvalEnd;
