@@ -3,3 +3,4 @@ pub mod Texts
 pub mod Order
 pub mod Printed
 pub mod Effects
+pub mod Labels

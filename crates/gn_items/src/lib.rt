@@ -1,4 +1,4 @@
-//! Faults of a build: their codes, their order, their texts.
+//! Faults of a build: their codes, their order, their texts. The items that an execution defines, and what it leaves.
 #![tactic(auto)]
 
 mod code;
@@ -22,3 +22,5 @@ pub use stage::Stage;
 
 #[cfg(test)]
 mod tests;
+#[cfg(test)]
+mod tests_outcome;

@@ -1,21 +1,24 @@
-// A stand-in: what an execution leaves beside its variables.
+// What an execution leaves beside its variables.
 
 ghost use Rattle.std.specs.Prelude.{◌≡◌, OnOk, OnErr};
-ghost use Rattle.gn_items.specs.Effects.{is_defined, with_item, with_print};
+ghost use Rattle.gn_items.specs.Effects.{no_effects, is_defined, with_item, with_print};
 
 use crate::item::Item;
 use gn_labels::Label;
 use gn_paths::Text;
-use std::alloc::AllocError;
-use std::convert::Infallible;
+use std::alloc::{AllocError, Global};
+use std::collections::BTreeSet;
 use std::marker::Model;
 
-/// What an execution leaves beside its variables.
+/// What an execution leaves beside its variables: the items that it defines and the lines that it prints, each in
+/// order. Items of one label may stand in it twice; `has` tells in time whether a label is new.
 #[derive(Debug, Drop)]
 pub struct Outcome {
+    alloc: Global,
     items: Vec<Item>,
+    // The labels of the items.
+    labels: BTreeSet<Label>,
     prints: Vec<Text>,
-    never: Infallible,
 }
 
 impl Model for Outcome {
@@ -23,30 +26,76 @@ impl Model for Outcome {
 
     ghost Value = { Effects };
 
+    ghost use Rattle.gn_labels.specs.declared.label.Label.{Label};
+    ghost use Rattle.gn_items.specs.Labels.{HasLabels};
+
     ghost view = { λ o. record { items = o.items.items; prints = o.prints.items } };
+
+    ghost invariant = { λ o. HasLabels ⟦<Label as Ord>⟧.cmp o.labels o.items.items };
 }
 
 impl Outcome {
-    /// Whether an item has the label.
+    /// No items and no lines. It takes no memory.
+    pub fn new(alloc: Global) -> Outcome
+        ensures { result ≡ no_effects }
+    {
+        Outcome {
+            alloc,
+            items: Vec::new(alloc),
+            labels: BTreeSet::new(alloc),
+            prints: Vec::new(alloc),
+        }
+    }
+
+    /// Whether an item has the label. It takes no memory, and looks at logarithmically many labels.
     pub fn has(&self, label: &Label) -> bool
         ensures { result ≡ is_defined label.now self.now }
     {
-        match self.never {}
+        self.labels.contains(label)
     }
 
-    /// Puts an item behind the others.
+    /// Puts an item behind the others. After want of memory nothing is changed, and the item is dropped.
+    #[tactic(auto, unfolding(crate::specs::Effects::with_item))]
     pub fn add_item(&mut self, item: Item) -> Result<(), AllocError>
         ensures ok { OnOk result (self.new ≡ with_item item self.old) }
         ensures err { OnErr result (self.new ≡ self.old) }
     {
-        match self.never {}
+        let label = item.label.copy(self.alloc)?;
+        self.items.reserve(1)?;
+        self.labels.insert(label)?;
+        self.items.push(item)?;
+        Ok(())
     }
 
-    /// Puts a line behind the others.
+    /// Puts a line behind the others. After want of memory nothing is changed, and the line is dropped.
+    #[tactic(auto, unfolding(crate::specs::Effects::with_print))]
     pub fn print(&mut self, line: Text) -> Result<(), AllocError>
         ensures ok { OnOk result (self.new ≡ with_print line self.old) }
         ensures err { OnErr result (self.new ≡ self.old) }
     {
-        match self.never {}
+        self.prints.push(line)?;
+        Ok(())
+    }
+
+    /// The items, in the order in which they were defined.
+    pub fn items(&self) -> &[Item]
+        ensures { result.now ≡ self.now.items }
+    {
+        self.items.as_slice()
+    }
+
+    /// The lines printed, in order.
+    pub fn prints(&self) -> &[Text]
+        ensures { result.now ≡ self.now.prints }
+    {
+        self.prints.as_slice()
+    }
+
+    /// The items and the lines printed, each in order. It takes no memory.
+    pub fn into_parts(self) -> (Vec<Item>, Vec<Text>)
+        ensures items { result.0.items ≡ self.items }
+        ensures prints { result.1.items ≡ self.prints }
+    {
+        (self.items, self.prints)
     }
 }

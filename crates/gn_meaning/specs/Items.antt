@@ -30,9 +30,11 @@ abbrev pub label_here : Setting → List ℕ → Label
 label_here setting name = record { dir = setting.directory; name = name; toolchain = setting.toolchain }
 
 abbrev pub item_here : Setting → ItemKind → List ℕ → Position → Item
-item_here setting kind name position = record
-    { kind = kind; label = label_here setting name
-    ; place = record { file = setting.file; line = position.line; column = position.column } }
+item_here setting kind name position = record {
+  kind = kind;
+  label = label_here setting name;
+  place = record { file = setting.file; line = position.line; column = position.column };
+}
 
 abbrev pub deps_name : List ℕ
 deps_name = codes "deps"
@@ -42,8 +44,8 @@ deps_name = codes "deps"
 unfoldable pub defined : ItemKind → List ℕ → Position → Environment → Result (Item × Environment) Fault
 defined Group name position env =
     if is_name name then
-        (if may_be_strings (value_of deps_name env) then Ok (item_here env.setting Group name position, after_read deps_name env)
-        else Err (fault_in env.setting position code.WrongType (deps_name ∷ [])))
+    (if may_be_strings (value_of deps_name env) then Ok (item_here env.setting Group name position, after_read deps_name env)
+    else Err (fault_in env.setting position code.WrongType (deps_name ∷ [])))
     else Err (fault_in env.setting position code.BadLabel [])
 
 -- the text of a label: the toolchain of an evaluation is the empty text where it is the default one

@@ -72,8 +72,8 @@ unfoldable mutual
   pub call_runs : Answers → CallTree → Steps (Option Val)
   call_runs a (call_tree p name es body) env out =
       function_runs (function_of name) (assert_runs a es p name (body_steps a body)) (defined_runs a es p name (body_steps a body))
-          (foreach_runs a es p name (body_steps a body)) (print_runs a es p name (body_steps a body))
-          (λ kind. allowed_runs p name (item_call_runs a es kind p name (body_steps a body))) p name env out
+      (foreach_runs a es p name (body_steps a body)) (print_runs a es p name (body_steps a body))
+      (λ kind. allowed_runs p name (item_call_runs a es kind p name (body_steps a body))) p name env out
 
   -- the block behind a call, if there is one
   pub body_steps : Answers → BodyTree → Option (Steps (Unit {0}))
@@ -84,7 +84,7 @@ unfoldable mutual
   assert_runs a (expr_then c no_exprs) p name None env out = then_do (expr_runs a c env out) (λ v env1 out1. asserted_runs v (first_position c) p env1 out1)
   assert_runs a (expr_then c (expr_then m no_exprs)) p name None env out =
       then_do (expr_runs a c env out) (λ v env1 out1. then_do (expr_runs a m env1 out1)
-          (λ w env2 out2. asserted_with_message_runs v w (first_position c) (first_position m) p env2 out2))
+      (λ w env2 out2. asserted_with_message_runs v w (first_position c) (first_position m) p env2 out2))
   assert_runs a _ p name _ env out = refused_runs p name env out
 
   pub defined_runs : Answers → ExprTrees → Position → List ℕ → Option (Steps (Unit {0})) → Steps (Option Val)

@@ -26,7 +26,7 @@ piece_runs (Bytes text) env out = ends text env out
 piece_runs (Name position name) env out = text_runs (name_runs name position env out)
 piece_runs (Item position base subscript) env out =
     text_runs (then_do (base_runs base position env out)
-        (λ _ env1 out1. then_do (subscript_runs subscript position env1 out1) (λ at env2 out2. element_runs base position at position env2 out2)))
+    (λ _ env1 out1. then_do (subscript_runs subscript position env1 out1) (λ at env2 out2. element_runs base position at position env2 out2)))
 piece_runs (Entry position base entry) env out = text_runs (element_runs base position (vstr entry) position env out)
 
 -- the pieces behind a text, in order
@@ -34,4 +34,4 @@ abbrev pub pieces_run : List Piece → List ℕ → Position → Steps (List ℕ
 pieces_run [] text quote env out = ends text env out
 pieces_run (piece ∷ pieces) text quote env out =
     then_do (piece_runs piece env out)
-        (λ more env1 out1. then_do (text_added_runs text more quote env1 out1) (λ longer env2 out2. pieces_run pieces longer quote env2 out2))
+    (λ more env1 out1. then_do (text_added_runs text more quote env1 out1) (λ longer env2 out2. pieces_run pieces longer quote env2 out2))

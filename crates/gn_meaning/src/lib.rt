@@ -4,3 +4,6 @@
 mod function;
 
 pub use function::Function;
+
+#[cfg(test)]
+mod tests;
