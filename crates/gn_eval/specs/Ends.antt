@@ -14,6 +14,11 @@ abbrev pub IsFault : EvalEnd → Fault → Type 0
 IsFault (Wrong f) fault = f ≡ fault
 IsFault Memory fault = Unit {0}
 
+-- a fact of the fault, where the end isn't want of memory
+abbrev pub IfFault : EvalEnd → (Fault → Type 0) → Type 0
+IfFault (Wrong fault) P = P fault
+IfFault Memory P = Unit {0}
+
 -- the end is this fault, but want of memory where that is what an operator answers
 abbrev pub IsRefusal : ValueError → EvalEnd → Fault → Type 0
 IsRefusal value_error.Memory end fault = end ≡ Memory

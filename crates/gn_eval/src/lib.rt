@@ -2,11 +2,15 @@
 #![tactic(auto)]
 
 mod assignments;
+mod calls;
 mod collections;
+mod definer;
 mod ending;
 mod faults;
+mod items;
 mod names;
 mod operators;
 mod strings;
 
+pub use definer::{DefineError, Definer};
 pub use ending::EvalEnd;
