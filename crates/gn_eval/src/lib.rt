@@ -9,6 +9,7 @@ mod ending;
 mod faults;
 mod items;
 mod names;
+mod operations;
 mod operators;
 mod strings;
 
