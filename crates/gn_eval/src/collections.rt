@@ -1,6 +1,6 @@
 // Lists and scopes that are written out.
 
-ghost use Rattle.std.specs.Prelude.{◌≡◌, ◌+◌};
+ghost use Rattle.std.specs.Prelude.{◌≡◌, ◌+◌, ◌++◌, [], ◌∷◌, OnOk, map};
 ghost use Rattle.gn_items.specs.Effects.{Effects};
 ghost use Rattle.gn_values.specs.View.{val_of};
 ghost use Rattle.gn_scopes.specs.Environment.{levels, IsEntered};
@@ -12,7 +12,7 @@ use crate::faults::refused;
 use gn_scopes::Env;
 use gn_tree::Position;
 use gn_values::{Items, Value};
-use std::alloc::Global;
+use std::alloc::{AllocError, Global};
 
 /// One more item of a list whose bracket stands at the position.
 #[tactic(auto, unfolding(gn_meaning::specs::Words::item_added_runs))]
@@ -46,4 +46,12 @@ pub(crate) fn end_scope(
         Ok(entries) => Ok(Value::Scope(entries)),
         Err(error) => Err(refused(alloc, env, error, position)),
     }
+}
+
+/// One more value behind others.
+pub(crate) fn add_value(values: &mut Vec<Value>, value: Value) -> Result<(), AllocError>
+    ensures { OnOk result (map val_of values.new.items ≡ map val_of values.old.items ++ val_of value ∷ []) }
+{
+    values.push(value)?;
+    Ok(())
 }

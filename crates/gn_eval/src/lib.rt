@@ -6,11 +6,14 @@ mod calls;
 mod collections;
 mod definer;
 mod ending;
+mod expressions;
 mod faults;
+mod functions;
 mod items;
 mod names;
 mod operations;
 mod operators;
+mod statements;
 mod strings;
 
 pub use definer::{DefineError, Definer};
