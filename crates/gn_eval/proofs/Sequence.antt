@@ -3,6 +3,9 @@ use Rattle.std.proofs.Common.{◌≡◌, List, [], ◌++◌, append_assoc, appen
 use Rattle.gn_items.specs.Effects.{Effects}
 use Rattle.gn_scopes.specs.Environment.{Environment}
 use Rattle.gn_meaning.specs.Runs.{Question, End, ended, wrong, spoiled, needs, Run, after, then_do, ends}
+use Rattle.gn_eval.specs.declared.ending.EvalEnd.{EvalEnd}
+use Rattle.gn_eval.specs.declared.ending.EvalEnd.TheVariants.{Wrong, Memory}
+use Rattle.gn_eval.specs.Ends.{IsFailure}
 
 -- what comes behind two evaluations comes behind the second of them
 after_assoc : {B C : Type 0} (e : End B) (before asked : List Question) (g : B → Environment → Effects → Run C) → after e (before ++ asked) g ≡ record { end = (after e asked g).end; asked = before ++ (after e asked g).asked }
@@ -29,3 +32,8 @@ after_ends (needs q p) asked = refl
 
 pub then_ends : {A : Type 0} (run : Run A) → then_do run (λ x env out. ends x env out) ≡ run
 then_ends run = after_ends run.end run.asked
+
+-- what fails, fails whatever comes behind it
+pub then_failed : {A B : Type 0} (e : EvalEnd) (run : Run A) (go : A → Environment → Effects → Run B) → IsFailure e run → IsFailure e (then_do run go)
+then_failed {A = A} (Wrong fault) run go h = ap (λ (r : Run A). then_do r go) h
+then_failed Memory run go h = tt
