@@ -5,9 +5,10 @@ ghost use Rattle.gn_tree.specs.Views.{expr_of, exprs_of, call_of, body_of};
 ghost use Rattle.gn_values.specs.View.{val_of};
 ghost use Rattle.gn_scopes.specs.Environment.{levels};
 ghost use Rattle.gn_scopes.specs.Faults.{fault_in};
-ghost use Rattle.gn_meaning.specs.Runs.{Answers};
-ghost use Rattle.gn_meaning.specs.Calls.{turns_run, loop_runs, item_block_runs};
-ghost use Rattle.gn_meaning.specs.Meaning.{call_runs, body_steps, assert_runs, defined_runs, foreach_runs, print_runs, item_call_runs, allowed_runs, block_runs};
+ghost use Rattle.gn_meaning.specs.Runs.{Answers, then_do};
+ghost use Rattle.gn_meaning.specs.Words.{base_runs};
+ghost use Rattle.gn_meaning.specs.Calls.{has_entry_runs, turns_run, loop_runs, item_block_runs};
+ghost use Rattle.gn_meaning.specs.Meaning.{expr_runs, call_runs, body_steps, assert_runs, defined_runs, foreach_runs, print_runs, item_call_runs, allowed_runs, block_runs};
 ghost use Rattle.gn_eval.specs.Ends.{IsFault, IsRun};
 
 use crate::calls::{assert_true, assert_with_message, print_line};
@@ -22,7 +23,7 @@ use gn_items::{Code, ItemKind, Outcome};
 use gn_meaning::Function;
 use gn_paths::Text;
 use gn_scopes::Env;
-use gn_tree::{Block, Call, Expr, Position};
+use gn_tree::{Block, Call, Expr, Position, SubExpr};
 use gn_values::Value;
 use std::alloc::Global;
 
@@ -135,13 +136,28 @@ fn run_defined<D: Definer>(
             base,
             index,
             ..
-        } => {
-            read_base(alloc, base, *position, env)?;
-            let at = eval_expr(alloc, index.get(), env, out, definer)?;
-            has_entry(alloc, base, &at, *position, env)
-        }
+        } => has_item(alloc, base, *position, index, env, out, definer),
         _ => Err(refuse(alloc, call, env)),
     }
+}
+
+// `defined(base[index])`, whose base stands at the position.
+#[cycle(eval)]
+fn has_item<D: Definer>(
+    alloc: Global,
+    base: &Text,
+    position: Position,
+    index: &SubExpr,
+    env: &mut Env,
+    out: &mut Outcome,
+    definer: &mut D,
+) -> Result<Option<Value>, EvalEnd>
+    ensures runs { (a : Answers) → IsRun (option_map val_of) result env.new out.new (then_do (base_runs base.now position env.old out.old) (λ _ env1 out1. then_do (expr_runs a index.now env1 out1) (λ at env2 out2. has_entry_runs base.now at position env2 out2))) }
+    ensures levels { OnOk result (levels env.new ≡ levels env.old) }
+{
+    read_base(alloc, base, position, env)?;
+    let at = eval_expr(alloc, index.get(), env, out, definer)?;
+    has_entry(alloc, base, &at, position, env)
 }
 
 // `foreach(name, list) { .. }`
@@ -160,7 +176,10 @@ fn run_foreach<D: Definer>(
     let Some(block) = &call.block else {
         return Err(refuse(alloc, call, env));
     };
-    let [Expr::Name { name, .. }, list] = call.arguments.as_slice() else {
+    let [variable, list] = call.arguments.as_slice() else {
+        return Err(refuse(alloc, call, env));
+    };
+    let Expr::Name { name, .. } = variable else {
         return Err(refuse(alloc, call, env));
     };
     let value = eval_expr(alloc, list, env, out, definer)?;

@@ -39,6 +39,9 @@ decreases-functions::run_assert g l = 10 * call_depth (call_of l.call.now) + 2
 abbrev pub decreases-functions::run_defined : goal.decreases-functions::run_defined
 decreases-functions::run_defined g l = 10 * call_depth (call_of l.call.now) + 2
 
+abbrev pub decreases-functions::has_item : goal.decreases-functions::has_item
+decreases-functions::has_item g l = 10 * expr_depth l.index.now + 6
+
 abbrev pub decreases-functions::run_foreach : goal.decreases-functions::run_foreach
 decreases-functions::run_foreach g l = 10 * call_depth (call_of l.call.now) + 2
 
