@@ -2,6 +2,7 @@
 #![tactic(auto)]
 
 mod assignments;
+mod blocks;
 mod calls;
 mod collections;
 mod definer;
@@ -16,5 +17,6 @@ mod operators;
 mod statements;
 mod strings;
 
+pub use blocks::{run_block, run_file};
 pub use definer::{DefineError, Definer};
 pub use ending::EvalEnd;
