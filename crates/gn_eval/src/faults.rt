@@ -8,37 +8,13 @@ ghost use Rattle.gn_eval.specs.Ends.{IsFault, IsRefusal};
 
 use crate::ending::EvalEnd;
 use gn_items::{Code, Fault};
-use gn_paths::{Place, Text, Texts};
+use gn_paths::{Text, Texts};
 use gn_scopes::Env;
 use gn_tree::Position;
 use gn_values::{Value, ValueError, print_text};
 use std::alloc::{AllocError, Global};
 
-// The fault with this code and these details at a position of the file in which the evaluation takes place.
-fn fault(
-    alloc: Global,
-    env: &Env,
-    code: Code,
-    position: Position,
-    detail: Texts,
-) -> Result<Fault, AllocError>
-    ensures { IfOk result (λ f. f ≡ fault_in env.now.setting position code detail) }
-{
-    let file = env.file().copy(alloc)?;
-    Ok(Fault {
-        stage: env.stage(),
-        place: Some(Place {
-            file,
-            line: position.line,
-            column: position.column,
-        }),
-        toolchain: env.toolchain().copy(alloc)?,
-        code,
-        detail,
-    })
-}
-
-// The same with one detail.
+// The fault with this code and one detail at a position of the file that is evaluated.
 fn fault_with(
     alloc: Global,
     env: &Env,
@@ -50,14 +26,14 @@ fn fault_with(
 {
     let mut details = Texts::new(alloc);
     details.push(detail.copy(alloc)?)?;
-    fault(alloc, env, code, position, details)
+    env.fault(alloc, code, position, details)
 }
 
 /// The end of an evaluation with a fault without details.
 pub(crate) fn wrong(alloc: Global, env: &Env, code: Code, position: Position) -> EvalEnd
     ensures { IsFault result (fault_in env.now.setting position code []) }
 {
-    match fault(alloc, env, code, position, Texts::new(alloc)) {
+    match env.fault(alloc, code, position, Texts::new(alloc)) {
         Ok(fault) => EvalEnd::Wrong(fault),
         Err(_) => EvalEnd::Memory,
     }

@@ -1,9 +1,7 @@
 -- Reading through layers, outwards.
-use Rattle.std.specs.Prelude.{ℕ, Bool, List, [], ◌∷◌, Option, Some, None, option_map}
+use Rattle.std.specs.Prelude.{◌≡◌, ℕ, zero, suc, IsSome, Bool, List, [], ◌∷◌, Option, Some, None, option_map}
 use Rattle.gn_values.specs.Val.{Val}
 use Rattle.gn_scopes.specs.Layers.{VariableState, at_name, with_name, without_name, LayerState, ChainState, empty_layer}
-
--- Reading
 
 -- what the layer has at the name
 abbrev pub variable_in : List ℕ → LayerState → Option VariableState
@@ -14,47 +12,61 @@ abbrev pub set_in : List ℕ → Option VariableState → LayerState → LayerSt
 set_in name (Some v) layer = record layer { variables = with_name name v layer.variables }
 set_in name None layer = record layer { variables = without_name name layer.variables }
 
+-- the first of two that there is
+abbrev pub nearest : {A : Type 0} → Option A → Option A → Option A
+nearest (Some a) further = Some a
+nearest None further = further
+
 -- what the first of the layers that has the name has at it
 abbrev pub variable_of : List ℕ → List LayerState → Option VariableState
 variable_of name [] = None
 variable_of name (l ∷ ls) = nearest (variable_in name l) (variable_of name ls)
-  where
-    nearest : Option VariableState → Option VariableState → Option VariableState
-    nearest (Some v) further = Some v
-    nearest None further = further
+
+-- what the first of the layers that has the name has at it, or else what stands beneath them
+abbrev pub further_value : List ℕ → List LayerState → Option Val → Option Val
+further_value name layers beneath = nearest (option_map (λ v. v.value) (variable_of name layers)) beneath
 
 -- a variable that something has read
 abbrev pub read_variable : VariableState → VariableState
 read_variable v = record v { unread = None }
 
+-- the layer after a read of a name at which it has this
+abbrev pub read_of : List ℕ → LayerState → Option VariableState → LayerState
+read_of name layer (Some v) = set_in name (Some (read_variable v)) layer
+read_of name layer None = layer
+
 -- the layer after a read of a name that it may have
 abbrev pub read_in : List ℕ → LayerState → LayerState
-read_in name layer = reading (variable_in name layer)
-  where
-    reading : Option VariableState → LayerState
-    reading (Some v) = set_in name (Some (read_variable v)) layer
-    reading None = layer
+read_in name layer = read_of name layer (variable_in name layer)
+
+-- the layers after a read of a name at which the first has this, where the others would become those
+abbrev pub read_through : List ℕ → LayerState → List LayerState → Option VariableState → List LayerState → List LayerState
+read_through name l ls (Some v) further = set_in name (Some (read_variable v)) l ∷ ls
+read_through name l ls None further = l ∷ further
 
 -- a read marks the name in the first of the layers that has it
 abbrev pub marked : List ℕ → List LayerState → List LayerState
 marked name [] = []
-marked name (l ∷ ls) = marked_here (variable_in name l) (marked name ls)
-  where
-    marked_here : Option VariableState → List LayerState → List LayerState
-    marked_here (Some v) further = set_in name (Some (read_variable v)) l ∷ ls
-    marked_here None further = l ∷ further
+marked name (l ∷ ls) = read_through name l ls (variable_in name l) (marked name ls)
+
+-- the layer of this number is the first that has the name
+abbrev pub IsFirstAt : List ℕ → List LayerState → ℕ → Type 0
+IsFirstAt name [] i = ⊥
+IsFirstAt name (l ∷ ls) zero = IsSome (variable_in name l)
+IsFirstAt name (l ∷ ls) (suc i) = (variable_in name l ≡ None) × IsFirstAt name ls i
 
 -- what the layers have at a name
 unfoldable pub chain_value : List ℕ → ChainState → Option Val
 chain_value name chain = option_map (λ v. v.value) (variable_of name (chain.inner ∷ chain.outer))
 
+-- the layers after a read of a name at which the innermost one has this
+abbrev pub chain_read_of : List ℕ → ChainState → Option VariableState → ChainState
+chain_read_of name chain (Some v) = record chain { inner = set_in name (Some (read_variable v)) chain.inner }
+chain_read_of name chain None = record chain { outer = marked name chain.outer }
+
 -- the layers after a read of the name
 unfoldable pub chain_read : List ℕ → ChainState → ChainState
-chain_read name chain = here (variable_in name chain.inner)
-  where
-    here : Option VariableState → ChainState
-    here (Some v) = record chain { inner = set_in name (Some (read_variable v)) chain.inner }
-    here None = record chain { outer = marked name chain.outer }
+chain_read name chain = chain_read_of name chain (variable_in name chain.inner)
 
 -- a scope opens
 abbrev pub chain_entered : Bool → ChainState → ChainState

@@ -6,7 +6,7 @@ use Rattle.gn_tree.specs.declared.operator.AssignOp.{AssignOp}
 use Rattle.gn_items.specs.declared.stage.Stage.{Stage}
 use Rattle.gn_values.specs.Val.{Val}
 use Rattle.gn_scopes.specs.Layers.{VariableState, Table, at_name, LayerState, FixedState, ChainState, empty_layer, values_in}
-use Rattle.gn_scopes.specs.Chains.{variable_in, set_in, chain_value, chain_read, chain_entered, chain_left}
+use Rattle.gn_scopes.specs.Chains.{variable_in, set_in, nearest, chain_value, chain_read, chain_entered, chain_left}
 use Rattle.gn_scopes.specs.Assigning.{Refusal, assigned, ElementRefusal, element_changed}
 use Rattle.gn_scopes.specs.Unread.{reported}
 
@@ -40,18 +40,10 @@ new_environment stage toolchain file directory checked beneath = record {
 abbrev pub fixed_value : List ℕ → List FixedState → Option Val
 fixed_value name [] = None
 fixed_value name (f ∷ fs) = nearest (at_name name f.values) (fixed_value name fs)
-  where
-    nearest : Option Val → Option Val → Option Val
-    nearest (Some v) further = Some v
-    nearest None further = further
 
 -- what a read of the name finds: it searches the layers outwards, then what stands beneath them
 unfoldable pub value_of : List ℕ → Environment → Option Val
-value_of name env = found (chain_value name env.chain)
-  where
-    found : Option Val → Option Val
-    found (Some v) = Some v
-    found None = fixed_value name env.beneath
+value_of name env = nearest (chain_value name env.chain) (fixed_value name env.beneath)
 
 -- the environment after a read of the name
 unfoldable pub after_read : List ℕ → Environment → Environment

@@ -8,3 +8,4 @@ pub mod View
 pub mod Lending
 pub mod Errors
 pub mod Faults
+pub mod Found

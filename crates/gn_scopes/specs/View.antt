@@ -1,7 +1,7 @@
 -- What the variables of a layer stand for.
 use Rattle.std.specs.Prelude.{ℕ, List, map}
 use Rattle.gn_values.specs.View.{val_of}
-use Rattle.gn_scopes.specs.declared.layer.Variable.{Variable}
+use Rattle.gn_scopes.specs.declared.variable.Variable.{Variable}
 use Rattle.gn_scopes.specs.Layers.{VariableState, Table}
 
 abbrev pub variable_state : Variable → VariableState

@@ -4,22 +4,23 @@ ghost use types.Logic.{sem};
 ghost use Rattle.std.specs.Prelude.{◌≡◌, ◌≢◌, ◌+◌, OnOk, OnErr, IfOk, IfErr, IfSome, true, false, map, option_map};
 ghost use Rattle.gn_values.specs.Limits.{scope_fits};
 ghost use Rattle.gn_values.specs.View.{val_of};
-ghost use Rattle.gn_scopes.specs.Environment.{new_environment, value_of, after_read, after_assignment, after_element_assignment, entered, left, levels, IsEntered, entries_here, reported_here, variable_here, restored, given, in_item};
+ghost use Rattle.gn_scopes.specs.Environment.{new_environment, fixed_value, value_of, after_read, after_assignment, after_element_assignment, entered, left, levels, IsEntered, entries_here, reported_here, variable_here, restored, given, in_item};
+ghost use Rattle.gn_scopes.specs.Faults.{fault_in};
 ghost use Rattle.gn_scopes.specs.Errors.{refusal_of, element_refusal_of};
+ghost use Rattle.gn_scopes.specs.Found.{IsFound};
 ghost use Rattle.gn_scopes.specs.Lending.{Ends};
 ghost use Rattle.gn_scopes.specs.View.{variable_state};
 ghost use Rattle.gn_scopes.specs.contracts.env.Env.{the_row};
 
 use crate::error::{AssignError, ElementAssignError};
 use crate::fixed::Fixed;
-use crate::layer::Variable;
-use crate::scopes::Scopes;
-use gn_items::Stage;
-use gn_paths::{Path, Text};
+use crate::scopes::{Found, Scopes};
+use crate::variable::Variable;
+use gn_items::{Code, Fault, Stage};
+use gn_paths::{Path, Place, Text, Texts};
 use gn_tree::{AssignOp, Position};
 use gn_values::{Entries, Value, ValueError};
 use std::alloc::{AllocError, Global};
-use std::convert::Infallible;
 use std::marker::Model;
 use std::sync::Arc;
 
@@ -38,7 +39,6 @@ pub struct Env {
     scopes: Scopes,
     beneath: Vec<Arc<Fixed>>,
     depth: usize,
-    never: Infallible,
 }
 
 impl Model for Env {
@@ -54,10 +54,34 @@ impl Model for Env {
 }
 
 impl Env {
-    // `new` has the contract below and no body yet:
-    // pub fn new(alloc: Global, stage: Stage, toolchain: Text, file: Text, directory: Path, checked: bool,
-    //     beneath: Vec<Arc<Fixed>>) -> Env
-    //     ensures { result ≡ new_environment stage toolchain file directory checked (map (λ f. f.value) beneath.items) }
+    /// An environment of one scope, in which nothing is set and no block of an item is open. `file` is the file that
+    /// its places name, `directory` the current directory, `checked` says whether the scope's end reports a name that
+    /// nothing reads, and `beneath` is what a read searches behind the scopes. It takes no memory.
+    #[tactic(auto, unfolding(crate::specs::Environment::new_environment))]
+    pub fn new(
+        alloc: Global,
+        stage: Stage,
+        toolchain: Text,
+        file: Text,
+        directory: Path,
+        checked: bool,
+        beneath: Vec<Arc<Fixed>>,
+    ) -> Env
+        ensures { result
+            ≡ new_environment stage toolchain file directory checked
+            (map (λ f. f.value) beneath.items) }
+    {
+        Env {
+            stage,
+            toolchain,
+            file,
+            directory,
+            in_item: false,
+            scopes: Scopes::new(alloc, checked),
+            beneath,
+            depth: 0,
+        }
+    }
 
     /// The stage that the faults of the evaluation have.
     pub fn stage(&self) -> Stage
@@ -116,7 +140,8 @@ impl Env {
             (λ env. (env ≡ after_read name.now self.old) × (levels env ≡ levels self.old))) }
         ensures value { option_map (λ v. val_of v.now) result ≡ value_of name.now self.old }
     {
-        match self.never {}
+        let found = self.mark(name);
+        self.value_at(name, found)
     }
 
     /// `name = value`, `name += value` or `name -= value`, whose operator stands at the position. `Overwrite` comes
@@ -124,6 +149,7 @@ impl Env {
     /// `Undefined` where `+=` or `-=` find no value, and `Value` where the operator refuses the two values. After a
     /// refusal nothing is changed, and the value is dropped. `+=` on a name of the innermost scope copies nothing of
     /// what it has.
+    #[tactic(auto, unfolding(crate::specs::Environment::after_assignment))]
     pub fn assign(
         &mut self,
         alloc: Global,
@@ -140,13 +166,16 @@ impl Env {
         ensures err { OnErr result (self.new ≡ self.old) }
         ensures levels { levels self.new ≡ levels self.old }
     {
-        match self.never {}
+        let beneath = fixed_value(&self.beneath, name);
+        self.scopes
+            .assign(alloc, name, op, value, position, beneath)
     }
 
     /// `name[at] op= value` or `name.at op= value`, whose operator stands at the position: an assignment of `name`.
     /// `Undefined` comes exactly where the name has no value, `Subscript` where its value has no such element, and
     /// `Operator` where the operator refuses or the value would be above a limit. After a refusal nothing is changed,
     /// and the value is dropped.
+    #[tactic(auto, unfolding(crate::specs::Environment::after_element_assignment))]
     pub fn assign_element(
         &mut self,
         alloc: Global,
@@ -166,30 +195,35 @@ impl Env {
         ensures err { OnErr result (self.new ≡ self.old) }
         ensures levels { levels self.new ≡ levels self.old }
     {
-        match self.never {}
+        let beneath = fixed_value(&self.beneath, name);
+        self.scopes
+            .assign_element(alloc, name, at, op, value, position, beneath)
     }
 
     /// Opens a scope, in which nothing is set. After want of memory nothing is changed.
+    #[tactic(auto, unfolding(crate::specs::Environment::entered))]
     pub fn enter(&mut self, checked: bool) -> Result<(), AllocError>
         ensures ok { OnOk result (self.new ≡ entered checked self.old) }
         ensures err { OnErr result (self.new ≡ self.old) }
         ensures levels { OnOk result (levels self.new ≡ levels self.old + 1) }
         ensures entered { OnOk result (IsEntered self.new) }
     {
-        match self.never {}
+        self.scopes.enter(checked)
     }
 
     /// Ends the innermost scope, and lets go of what it has. It takes no memory.
+    #[tactic(auto, unfolding(crate::specs::Environment::left))]
     pub fn leave(&mut self)
         requires { IsEntered self.old }
         ensures new { self.new ≡ left self.old }
         ensures levels { levels self.new + 1 ≡ levels self.old }
     {
-        match self.never {}
+        let _layer = self.scopes.end();
     }
 
     /// Ends the innermost scope, and answers the names that were set in it with their values, which aren't copied.
     /// `TooLong` comes exactly where they would nest too deep for a scope's value. The scope ends whatever the answer.
+    #[tactic(auto, unfolding(crate::specs::Environment::left, crate::specs::Environment::entries_here))]
     pub fn leave_with_entries(&mut self, alloc: Global) -> Result<Entries, ValueError>
         requires { IsEntered self.old }
         ensures ok { IfOk result (λ entries. entries ≡ entries_here self.old) }
@@ -200,29 +234,33 @@ impl Env {
         ensures new { self.new ≡ left self.old }
         ensures levels { levels self.new + 1 ≡ levels self.old }
     {
-        match self.never {}
+        let layer = self.scopes.end();
+        layer.into_entries(alloc)
     }
 
     /// What the end of the innermost scope reports: the name that nothing read and whose last assignment stands first,
     /// and where that stands. None comes exactly where the scope isn't checked or every name was read. It takes no
     /// memory.
+    #[tactic(auto, unfolding(crate::specs::Environment::reported_here))]
     pub fn unread(&self) -> Option<(&Text, Position)>
         ensures { option_map (λ p. (p.0.now, p.1)) result ≡ reported_here self.now }
     {
-        match self.never {}
+        self.scopes.innermost().unread()
     }
 
     /// Takes a name out of the innermost scope, and answers what it stood for there. It takes no memory.
+    #[tactic(auto, unfolding(crate::specs::Environment::variable_here, crate::specs::Environment::restored))]
     pub fn put_aside(&mut self, name: &Text) -> Option<Variable>
         ensures value { option_map variable_state result ≡ variable_here name.now self.old }
         ensures new { self.new ≡ restored name.now None self.old }
         ensures levels { levels self.new ≡ levels self.old }
     {
-        match self.never {}
+        self.scopes.take(name)
     }
 
     /// Lets a name of the innermost scope stand for what it stood for before, or for nothing. After want of memory
     /// nothing is changed, and the variable is dropped.
+    #[tactic(auto, unfolding(crate::specs::Environment::restored))]
     pub fn restore(
         &mut self,
         alloc: Global,
@@ -234,16 +272,86 @@ impl Env {
         ensures err { OnErr result (self.new ≡ self.old) }
         ensures levels { levels self.new ≡ levels self.old }
     {
-        match self.never {}
+        match variable {
+            Some(variable) => self.scopes.put(name.copy(alloc)?, variable),
+            None => {
+                let _gone = self.scopes.take(name);
+                Ok(())
+            }
+        }
     }
 
     /// Gives a name a value in the innermost scope without an assignment: it counts as read. After want of memory
     /// nothing is changed, and the value is dropped.
+    #[tactic(auto, unfolding(crate::specs::Environment::given))]
     pub fn give(&mut self, alloc: Global, name: &Text, value: Value) -> Result<(), AllocError>
         ensures ok { OnOk result (self.new ≡ given name.now (val_of value) self.old) }
         ensures err { OnErr result (self.new ≡ self.old) }
         ensures levels { levels self.new ≡ levels self.old }
     {
-        match self.never {}
+        let variable = Variable {
+            value,
+            unread: None,
+        };
+        self.restore(alloc, name, Some(variable))
     }
+
+    /// The fault with this code and these details at a position of the file that is evaluated.
+    pub fn fault(
+        &self,
+        alloc: Global,
+        code: Code,
+        position: Position,
+        detail: Texts,
+    ) -> Result<Fault, AllocError>
+        ensures { IfOk result (λ f. f ≡ fault_in self.now.setting position code detail) }
+    {
+        let place = Place {
+            file: self.file.copy(alloc)?,
+            line: position.line,
+            column: position.column,
+        };
+        Ok(Fault {
+            stage: self.stage,
+            place: Some(place),
+            toolchain: self.toolchain.copy(alloc)?,
+            code,
+            detail,
+        })
+    }
+
+    // A read of a name that it may have, and where in the scopes it is.
+    #[tactic(auto, unfolding(crate::specs::Environment::after_read))]
+    fn mark(&mut self, name: &Text) -> Found
+        ensures new { self.new ≡ after_read name.now self.old }
+        ensures levels { levels self.new ≡ levels self.old }
+        ensures found { IsFound name.now self.new.chain result }
+    {
+        self.scopes.mark(name)
+    }
+
+    // The value of a name that is there in the scopes, or else beneath them.
+    #[tactic(auto, unfolding(crate::specs::Environment::value_of))]
+    fn value_at(&self, name: &Text, found: Found) -> Option<&Value>
+        requires { IsFound name.now self.now.chain found }
+        ensures { option_map (λ v. val_of v.now) result ≡ value_of name.now self.now }
+    {
+        match self.scopes.value_at(name, found) {
+            Some(value) => Some(value),
+            None => fixed_value(&self.beneath, name),
+        }
+    }
+}
+
+// The value that the first of the layers that has the name has at it.
+fn fixed_value<'a>(layers: &'a [Arc<Fixed>], name: &Text) -> Option<&'a Value>
+    ensures { option_map (λ v. val_of v.now) result
+        ≡ fixed_value name.now (map (λ f. f.value) layers.now) }
+{
+    for layer in layers {
+        if let Some(value) = layer.get(name) {
+            return Some(value);
+        }
+    }
+    None
 }

@@ -1,8 +1,12 @@
 // Why an assignment is refused, and what the end of a scope reports.
 
+ghost use Rattle.std.specs.Prelude.{◌≡◌, ◌≢◌, ℕ, List, Err};
+ghost use Rattle.gn_tree.specs.declared.position.Position.{Position};
+ghost use Rattle.gn_scopes.specs.Errors.{refusal_of, scope_refusal_of, IsRefusalOf, IsElementRefusalOf};
+
 use gn_paths::Text;
 use gn_tree::Position;
-use gn_values::ValueError;
+use gn_values::{ElementError, ValueError};
 use std::alloc::AllocError;
 
 /// Why an assignment to a name isn't made.
@@ -26,6 +30,19 @@ impl From<AllocError> for AssignError {
 
     fn from(_error: AllocError) -> AssignError {
         AssignError::Memory
+    }
+}
+
+impl AssignError {
+    /// The error for what an operator refuses.
+    pub(crate) fn of_operator(error: ValueError) -> AssignError
+        ensures refused { error ≢ ValueError.Memory → IsRefusalOf result (Err error) }
+        ensures memory { error ≡ ValueError.Memory → result ≡ AssignError.Memory }
+    {
+        match error {
+            ValueError::Memory => AssignError::Memory,
+            _ => AssignError::Value(error),
+        }
     }
 }
 
@@ -53,6 +70,20 @@ impl From<AllocError> for ElementAssignError {
     }
 }
 
+impl ElementAssignError {
+    /// The error for what the assignment to an element refuses.
+    pub(crate) fn of_element(error: ElementError) -> ElementAssignError
+        ensures refused { error ≢ ElementError.Memory → IsElementRefusalOf result (Err error) }
+        ensures memory { error ≡ ElementError.Memory → result ≡ ElementAssignError.Memory }
+    {
+        match error {
+            ElementError::Subscript(error) => ElementAssignError::Subscript(error),
+            ElementError::Operator(error) => ElementAssignError::Operator(error),
+            ElementError::Memory => ElementAssignError::Memory,
+        }
+    }
+}
+
 /// What the layers of scopes refuse.
 #[derive(Debug, Drop)]
 pub enum ScopeError {
@@ -76,5 +107,20 @@ impl From<AllocError> for ScopeError {
 
     fn from(_error: AllocError) -> ScopeError {
         ScopeError::Memory
+    }
+}
+
+impl ScopeError {
+    /// The error for what an assignment refuses.
+    pub(crate) fn of_assignment(error: AssignError) -> ScopeError
+        ensures refusal { scope_refusal_of result ≡ refusal_of error }
+        ensures kind { (n : List ℕ) (p : Position) → result ≢ ScopeError.NoEffect n p }
+    {
+        match error {
+            AssignError::Overwrite => ScopeError::Overwrite,
+            AssignError::Undefined => ScopeError::Undefined,
+            AssignError::Value(error) => ScopeError::Value(error),
+            AssignError::Memory => ScopeError::Memory,
+        }
     }
 }

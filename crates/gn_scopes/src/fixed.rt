@@ -1,13 +1,11 @@
 // A layer that nothing writes to.
 
-ghost use Rattle.std.specs.Prelude.{◌≡◌, [], option_map};
+ghost use Rattle.std.specs.Prelude.{◌≡◌, option_map};
 ghost use Rattle.gn_values.specs.View.{val_of};
 ghost use Rattle.gn_scopes.specs.Layers.{at_name};
 
 use gn_paths::Text;
-use gn_values::{Overrides, Value};
-use std::alloc::Global;
-use std::collections::BTreeMap;
+use gn_values::{KeptScope, Value};
 use std::marker::Model;
 
 /// A layer that nothing writes to: what a template kept, the build configuration that is finished, or the built-in
@@ -15,9 +13,7 @@ use std::marker::Model;
 /// call.
 #[derive(Debug, Drop)]
 pub struct Fixed {
-    values: Overrides,
-    templates: BTreeMap<Text, usize>,
-    defaults: BTreeMap<Text, Overrides>,
+    scope: KeptScope,
 }
 
 impl Model for Fixed {
@@ -28,25 +24,22 @@ impl Model for Fixed {
 
     ghost coded = { fixed_code };
 
-    ghost view = { λ a. record { values = a.values; templates = a.templates.entries; defaults = a.defaults.entries } };
+    ghost view = { λ a. record { values = a.scope.variables; templates = a.scope.templates; defaults = a.scope.defaults } };
 }
 
 impl Fixed {
-    /// A layer of these values, without templates and defaults. It takes no memory.
-    pub fn new(alloc: Global, values: Overrides) -> Fixed
-        ensures { result ≡ record { values = values; templates = []; defaults = [] } }
+    /// A layer of what a scope has. It takes no memory.
+    pub fn new(scope: KeptScope) -> Fixed
+        ensures { result
+            ≡ record { values = scope.variables; templates = scope.templates; defaults = scope.defaults } }
     {
-        Fixed {
-            values,
-            templates: BTreeMap::new(alloc),
-            defaults: BTreeMap::new(alloc),
-        }
+        Fixed { scope }
     }
 
     /// The value of a name. None comes exactly where the layer has none. It takes no memory.
     pub fn get(&self, name: &Text) -> Option<&Value>
         ensures { option_map (λ v. val_of v.now) result ≡ at_name name.now self.now.values }
     {
-        self.values.get(name.as_bytes())
+        self.scope.variables().get(name.as_bytes())
     }
 }

@@ -1,28 +1,24 @@
 // A layer: the names that one scope has.
 
-ghost use Rattle.std.specs.Prelude.{◌≡◌, [], IfOk, OnOk, OnErr, IfErr, Some, None, false, is_some, option_map, map};
+ghost use Rattle.std.specs.Prelude.{◌≡◌, ◌≢◌, [], IfOk, OnOk, OnErr, IfErr, IfSome, Some, None, true, false, is_some, option_map, map};
 ghost use Rattle.gn_values.specs.View.{val_of};
 ghost use Rattle.gn_values.specs.Limits.{scope_fits};
 ghost use Rattle.gn_scopes.specs.Layers.{empty_layer, values_in};
 ghost use Rattle.gn_scopes.specs.Chains.{variable_in, set_in, read_in};
-ghost use Rattle.gn_scopes.specs.Unread.{reported};
-ghost use Rattle.gn_scopes.specs.View.{variable_state};
+ghost use Rattle.gn_scopes.specs.Assigning.{put, overwritten, changed_in, has_no_value, operator_refuses, base_has_no_value, element_refuses};
+ghost use Rattle.gn_values.specs.Assigning.{combined, element_assigned};
+ghost use Rattle.gn_scopes.specs.Errors.{refusal_of, element_refusal_of};
+ghost use Rattle.gn_scopes.specs.Unread.{reported, first_unread_of, earlier, unread_at, stands_before};
+ghost use Rattle.gn_scopes.specs.View.{variable_state, variables_in};
 
+use crate::error::{AssignError, ElementAssignError};
+use crate::variable::Variable;
 use gn_paths::Text;
-use gn_tree::Position;
-use gn_values::{Entries, Overrides, Value, ValueError};
+use gn_tree::{AssignOp, Position};
+use gn_values::{Bindings, Entries, Value, ValueError};
 use std::alloc::{AllocError, Global};
 use std::collections::BTreeMap;
 use std::marker::Model;
-
-/// What a name stands for in a layer.
-#[derive(Debug, Drop)]
-pub struct Variable {
-    /// The value of the name.
-    pub value: Value,
-    /// Where the operator of the last assignment stands, while nothing has read the name since its first.
-    pub unread: Option<Position>,
-}
 
 /// The names that one scope has: its variables, its templates by the number of their definition, and the defaults of
 /// each kind of call. Where it is checked, its end reports a name that nothing reads.
@@ -30,7 +26,7 @@ pub struct Variable {
 pub struct Layer {
     variables: BTreeMap<Text, Variable>,
     templates: BTreeMap<Text, usize>,
-    defaults: BTreeMap<Text, Overrides>,
+    defaults: BTreeMap<Text, Bindings>,
     checked: bool,
 }
 
@@ -59,4 +55,265 @@ impl Layer {
             checked,
         }
     }
+
+    /// What a name stands for. None comes exactly where the layer has nothing at it.
+    pub(crate) fn get(&self, name: &Text) -> Option<&Variable>
+        ensures { option_map (λ v. variable_state v.now) result ≡ variable_in name.now self.now }
+    {
+        self.variables.get(name)
+    }
+
+    /// The value of a name. None comes exactly where the layer has nothing at it.
+    pub(crate) fn value(&self, name: &Text) -> Option<&Value>
+        ensures { option_map (λ v. val_of v.now) result
+            ≡ option_map (λ v. v.value) (variable_in name.now self.now) }
+    {
+        let variable = self.get(name)?;
+        Some(&variable.value)
+    }
+
+    /// A read of a name that the layer may have, and whether it has it. It takes no memory.
+    pub(crate) fn mark(&mut self, name: &Text) -> bool
+        ensures found { result ≡ is_some (variable_in name.now self.old) }
+        ensures read { self.new ≡ read_in name.now self.old }
+        ensures stays { result ≡ is_some (variable_in name.now self.new) }
+    {
+        let Some(variable) = self.variables.get_mut(name) else {
+            return false;
+        };
+        variable.unread = None;
+        true
+    }
+
+    /// Sets what a name stands for. After want of memory the layer is as before.
+    pub(crate) fn put(&mut self, name: Text, variable: Variable) -> Result<(), AllocError>
+        ensures ok { OnOk result
+            (self.new ≡ set_in name (Some (variable_state variable)) self.old) }
+        ensures err { OnErr result (self.new ≡ self.old) }
+    {
+        self.variables.insert(name, variable)?;
+        Ok(())
+    }
+
+    /// Takes a name away, and answers what it stood for. It takes no memory.
+    pub(crate) fn take(&mut self, name: &Text) -> Option<Variable>
+        ensures value { option_map variable_state result ≡ variable_in name.now self.old }
+        ensures new { self.new ≡ set_in name.now None self.old }
+    {
+        self.variables.remove(name)
+    }
+
+    /// Whether the layer has a name.
+    pub(crate) fn has(&self, name: &Text) -> bool
+        ensures { result ≡ is_some (variable_in name.now self.now) }
+    {
+        self.variables.contains_key(name)
+    }
+
+    /// The first assignment of a name that the layer has nothing at. After want of memory the layer is as before, and
+    /// the value is dropped.
+    pub(crate) fn put_assigned(
+        &mut self,
+        alloc: Global,
+        name: &Text,
+        value: Value,
+        position: Position,
+    ) -> Result<(), AllocError>
+        requires { variable_in name.now self.old ≡ None }
+        ensures ok { OnOk result
+            (self.new ≡ put name.now (val_of value) position self.old) }
+        ensures err { OnErr result (self.new ≡ self.old) }
+    {
+        let name = name.copy(alloc)?;
+        let variable = Variable {
+            value,
+            unread: Some(position),
+        };
+        self.put(name, variable)
+    }
+
+    /// `name = value`. After a refusal the layer is as before, and the value is dropped.
+    pub(crate) fn overwrite(
+        &mut self,
+        alloc: Global,
+        name: &Text,
+        value: Value,
+        position: Position,
+    ) -> Result<(), AssignError>
+        ensures ok { OnOk result
+            (overwritten name.now (val_of value) position self.old ≡ Ok self.new) }
+        ensures refused { IfErr result
+            (λ e. IfSome (refusal_of e)
+            (λ r. overwritten name.now (val_of value) position self.old ≡ Err r)) }
+        ensures err { OnErr result (self.new ≡ self.old) }
+    {
+        let Some(variable) = self.variables.get_mut(name) else {
+            self.put_assigned(alloc, name, value, position)?;
+            return Ok(());
+        };
+        variable.overwrite(value, position)
+    }
+
+    /// `name += value` or `name -= value` on a name that the layer has.
+    pub(crate) fn combine(
+        &mut self,
+        alloc: Global,
+        name: &Text,
+        op: AssignOp,
+        value: Value,
+        position: Position,
+    ) -> Result<(), AssignError>
+        ensures ok { OnOk result
+            (changed_in has_no_value operator_refuses (λ old. combined op old (val_of value))
+            name.now position self.old ≡ Ok self.new) }
+        ensures refused { IfErr result
+            (λ e. IfSome (refusal_of e)
+            (λ r. changed_in has_no_value operator_refuses (λ old. combined op old (val_of value))
+            name.now position self.old ≡ Err r)) }
+        ensures err { OnErr result (self.new ≡ self.old) }
+    {
+        let Some(variable) = self.variables.get_mut(name) else {
+            return Err(AssignError::Undefined);
+        };
+        variable.combine(alloc, op, value, position)
+    }
+
+    /// `name[at] op= value` or `name.at op= value` on a name that the layer has.
+    pub(crate) fn assign_element(
+        &mut self,
+        alloc: Global,
+        name: &Text,
+        at: &Value,
+        op: AssignOp,
+        value: Value,
+        position: Position,
+    ) -> Result<(), ElementAssignError>
+        ensures ok { OnOk result
+            (changed_in base_has_no_value element_refuses
+            (λ old. element_assigned old (val_of at.now) op (val_of value)) name.now position self.old
+            ≡ Ok self.new) }
+        ensures refused { IfErr result
+            (λ e. IfSome (element_refusal_of e)
+            (λ r. changed_in base_has_no_value element_refuses
+            (λ old. element_assigned old (val_of at.now) op (val_of value)) name.now position self.old
+            ≡ Err r)) }
+        ensures err { OnErr result (self.new ≡ self.old) }
+    {
+        let Some(variable) = self.variables.get_mut(name) else {
+            return Err(ElementAssignError::Undefined);
+        };
+        variable.assign_element(alloc, at, op, value, position)
+    }
+
+    /// The names with their values, which aren't copied. `TooLong` comes exactly where they would nest too deep for a
+    /// scope's value.
+    pub(crate) fn into_entries(self, alloc: Global) -> Result<Entries, ValueError>
+        ensures ok { IfOk result (λ entries. entries ≡ values_in self) }
+        ensures fits { OnOk result (scope_fits (values_in self) ≡ true) }
+        ensures refused { IfErr result
+            (λ e. e ≢ ValueError.Memory
+            → (e ≡ ValueError.TooLong) × (scope_fits (values_in self) ≡ false)) }
+    {
+        let mut bindings = Bindings::new(alloc);
+        for (name, variable) in self.variables {
+            bindings.push_last(name, variable.value)?;
+        }
+        Entries::from_bindings(bindings)
+    }
+
+    /// What the end of the layer reports: the unread name whose last assignment stands first, and where that stands.
+    /// None comes exactly where the layer isn't checked or every name was read. It takes no memory.
+    #[tactic(auto, unfolding(crate::specs::Unread::reported))]
+    pub fn unread(&self) -> Option<(&Text, Position)>
+        ensures { option_map (λ p. (p.0.now, p.1)) result ≡ reported self.now }
+    {
+        if !self.checked {
+            return None;
+        }
+        first_unread(&self.variables)
+    }
+
+    /// What `unread` answers, of a layer that is spent. It takes no memory.
+    #[tactic(auto, unfolding(crate::specs::Unread::reported))]
+    pub(crate) fn into_unread(self) -> Option<(Text, Position)>
+        ensures { result ≡ reported self }
+    {
+        if !self.checked {
+            return None;
+        }
+        into_first_unread(self.variables)
+    }
+}
+
+// The same, of variables that are spent.
+fn into_first_unread(variables: BTreeMap<Text, Variable>) -> Option<(Text, Position)>
+    ensures { result ≡ first_unread_of (variables_in variables.entries) }
+{
+    let mut first = None;
+    for (name, variable) in variables {
+        first = into_earlier(first, name, variable.unread);
+    }
+    first
+}
+
+fn into_earlier(
+    first: Option<(Text, Position)>,
+    name: Text,
+    unread: Option<Position>,
+) -> Option<(Text, Position)>
+    ensures { result ≡ earlier first (unread_at name unread) }
+{
+    match (first, unread) {
+        (None, None) => None,
+        (None, Some(position)) => Some((name, position)),
+        (Some(first), None) => Some(first),
+        (Some(first), Some(position)) => {
+            if stands_before(position, first.1) {
+                Some((name, position))
+            } else {
+                Some(first)
+            }
+        }
+    }
+}
+
+// The unread name whose last assignment stands first.
+fn first_unread(variables: &BTreeMap<Text, Variable>) -> Option<(&Text, Position)>
+    ensures { option_map (λ p. (p.0.now, p.1)) result
+        ≡ first_unread_of (variables_in variables.now.entries) }
+{
+    let mut first = None;
+    for (name, variable) in variables {
+        first = earlier(first, name, variable.unread);
+    }
+    first
+}
+
+// Of a name at a position and a name that may be unread the one whose position stands first.
+fn earlier<'a>(
+    first: Option<(&'a Text, Position)>,
+    name: &'a Text,
+    unread: Option<Position>,
+) -> Option<(&'a Text, Position)>
+    ensures { option_map (λ p. (p.0.now, p.1)) result
+        ≡ earlier (option_map (λ p. (p.0.now, p.1)) first.entry) (unread_at name.now unread) }
+{
+    match (first, unread) {
+        (None, None) => None,
+        (None, Some(position)) => Some((name, position)),
+        (Some(first), None) => Some(first),
+        (Some(first), Some(position)) => {
+            if stands_before(position, first.1) {
+                Some((name, position))
+            } else {
+                Some(first)
+            }
+        }
+    }
+}
+
+fn stands_before(position: Position, other: Position) -> bool
+    ensures { result ≡ stands_before position other }
+{
+    position.line < other.line || (position.line == other.line && position.column < other.column)
 }

@@ -1,24 +1,38 @@
 // The layers of the scopes that are open.
 
 ghost use types.Logic.{sem};
-ghost use Rattle.std.specs.Prelude.{◌≡◌, ◌<◌, [], OnOk, OnErr, IfOk, IfErr, IfSome, None, length, option_map};
+ghost use Rattle.std.specs.Prelude.{◌≡◌, ◌+◌, ◌≢◌, ℕ, List, ◌<◌, [], OnOk, OnErr, IfOk, IfErr, IfSome, IfNone, Some, None, length, option_map};
 ghost use Rattle.gn_values.specs.View.{val_of};
 ghost use Rattle.gn_scopes.specs.Layers.{empty_layer};
-ghost use Rattle.gn_scopes.specs.Chains.{chain_value, chain_read, chain_entered, chain_left};
-ghost use Rattle.gn_scopes.specs.Assigning.{assigned};
+ghost use Rattle.gn_scopes.specs.Chains.{variable_in, set_in, variable_of, further_value, marked, IsFirstAt, chain_value, chain_read, chain_entered, chain_left};
+ghost use Rattle.gn_values.specs.Assigning.{combined, element_assigned};
+ghost use Rattle.gn_scopes.specs.Assigning.{assigned, element_changed, changed_by, put_and_read, has_no_value, operator_refuses, base_has_no_value, element_refuses};
+ghost use Rattle.gn_tree.specs.declared.position.Position.{Position};
 ghost use Rattle.gn_scopes.specs.Unread.{reported};
-ghost use Rattle.gn_scopes.specs.Errors.{scope_refusal_of, IsReport};
+ghost use Rattle.gn_scopes.specs.Errors.{refusal_of, element_refusal_of, scope_refusal_of, IsReport};
+ghost use Rattle.gn_scopes.specs.Found.{IsFound};
 ghost use Rattle.gn_scopes.specs.Lending.{Ends};
+ghost use Rattle.gn_scopes.specs.View.{variable_state};
 ghost use Rattle.gn_scopes.specs.contracts.scopes.Scopes.{the_row};
 
-use crate::error::ScopeError;
+use crate::error::{AssignError, ElementAssignError, ScopeError};
 use crate::layer::Layer;
+use crate::variable::Variable;
 use gn_paths::Text;
 use gn_tree::{AssignOp, Position};
 use gn_values::Value;
 use std::alloc::{AllocError, Global};
 use std::collections::VecDeque;
 use std::marker::Model;
+use std::mem;
+
+/// Where a name is found: in the innermost layer, in the outer one of this number, or in none.
+#[derive(Clone, Copy, Debug)]
+pub(crate) enum Found {
+    Inner,
+    Outer(usize),
+    Nowhere,
+}
 
 /// The layers of the scopes that are open, the innermost first.
 #[derive(Debug, Drop)]
@@ -50,4 +64,321 @@ impl Scopes {
             outer: VecDeque::new(alloc),
         }
     }
+
+    /// Opens a scope, in which nothing is set. After want of memory nothing is changed.
+    pub fn enter(&mut self, checked: bool) -> Result<(), AllocError>
+        ensures ok { OnOk result (self.new ≡ chain_entered checked self.old) }
+        ensures err { OnErr result (self.new ≡ self.old) }
+        ensures outer { OnOk result (length self.new.outer ≡ length self.old.outer + 1) }
+    {
+        self.outer.reserve(1)?;
+        let inner = mem::replace(&mut self.inner, Layer::new(self.alloc, checked));
+        self.outer.push_front_reserved(inner);
+        Ok(())
+    }
+
+    /// Ends the innermost scope, and gives its layer. It takes no memory.
+    pub(crate) fn end(&mut self) -> Layer
+        requires { 0 < length self.old.outer }
+        ensures layer { result ≡ self.old.inner }
+        ensures new { self.new ≡ chain_left self.old }
+    {
+        match self.outer.pop_front() {
+            Some(next) => mem::replace(&mut self.inner, next),
+            None => unreachable!(),
+        }
+    }
+
+    /// Ends the innermost scope, and gives its layer. `NoEffect` comes exactly where the scope is checked and has a
+    /// name that nothing read, and names the one whose last assignment stands first. The scope ends whatever the
+    /// answer. It takes no memory.
+    pub fn leave(&mut self) -> Result<Layer, ScopeError>
+        requires { 0 < length self.old.outer }
+        ensures ok { IfOk result (λ layer. layer ≡ self.old.inner) }
+        ensures read { OnOk result (reported self.old.inner ≡ None) }
+        ensures unread { IfErr result (λ e. IsReport e (reported self.old.inner)) }
+        ensures new { self.new ≡ chain_left self.old }
+        ensures outer { length self.new.outer + 1 ≡ length self.old.outer }
+    {
+        let layer = self.end();
+        if layer.unread().is_none() {
+            return Ok(layer);
+        }
+        match layer.into_unread() {
+            Some((name, position)) => Err(ScopeError::NoEffect(name, position)),
+            None => unreachable!(),
+        }
+    }
+
+    /// The innermost layer.
+    pub(crate) fn innermost(&self) -> &Layer
+        ensures { result.now ≡ self.now.inner }
+    {
+        &self.inner
+    }
+
+    /// Takes a name out of the innermost layer, and answers what it stood for there. It takes no memory.
+    pub(crate) fn take(&mut self, name: &Text) -> Option<Variable>
+        ensures value { option_map variable_state result ≡ variable_in name.now self.old.inner }
+        ensures new { self.new ≡ record self.old { inner = set_in name.now None self.old.inner } }
+    {
+        self.inner.take(name)
+    }
+
+    /// Sets what a name of the innermost layer stands for. After want of memory nothing is changed.
+    pub(crate) fn put(&mut self, name: Text, variable: Variable) -> Result<(), AllocError>
+        ensures ok { OnOk result
+            (self.new
+            ≡ record self.old { inner = set_in name (Some (variable_state variable)) self.old.inner }) }
+        ensures err { OnErr result (self.new ≡ self.old) }
+    {
+        self.inner.put(name, variable)
+    }
+
+    /// A read of a name that the layers may have, and where it is. It takes no memory.
+    #[tactic(auto, unfolding(crate::specs::Chains::chain_read))]
+    pub(crate) fn mark(&mut self, name: &Text) -> Found
+        ensures new { self.new ≡ chain_read name.now self.old }
+        ensures outer { length self.new.outer ≡ length self.old.outer }
+        ensures found { IsFound name.now self.new result }
+    {
+        if self.inner.mark(name) {
+            return Found::Inner;
+        }
+        match mark_first(&mut self.outer, name) {
+            Some(i) => Found::Outer(i),
+            None => Found::Nowhere,
+        }
+    }
+
+    /// The value of a name that is there.
+    #[tactic(auto, unfolding(crate::specs::Chains::chain_value))]
+    pub(crate) fn value_at(&self, name: &Text, found: Found) -> Option<&Value>
+        requires { IsFound name.now self.now found }
+        ensures { option_map (λ v. val_of v.now) result ≡ chain_value name.now self.now }
+    {
+        match found {
+            Found::Inner => self.inner.value(name),
+            Found::Outer(i) => self.outer[i].value(name),
+            Found::Nowhere => None,
+        }
+    }
+
+    /// The value of a name, which counts as read from then on. None comes exactly where no layer has it. It takes no
+    /// memory.
+    pub fn get(&mut self, name: &Text) -> Option<&Value>
+        ensures* read { sem 𝓛 (Ends the_row self.entry
+            (λ chain. (chain ≡ chain_read name.now self.old)
+            × (length chain.outer ≡ length self.old.outer))) }
+        ensures value { option_map (λ v. val_of v.now) result ≡ chain_value name.now self.old }
+    {
+        let found = self.mark(name);
+        self.value_at(name, found)
+    }
+
+    // A copy of the value that a name has further out than in the innermost scope, where `beneath` is what it has
+    // beneath all layers.
+    fn copy_of_outer(
+        &self,
+        alloc: Global,
+        name: &Text,
+        beneath: Option<&Value>,
+    ) -> Result<Option<Value>, AllocError>
+        ensures { IfOk result (λ copy. option_map val_of copy
+            ≡ further_value name.now self.now.outer (option_map (λ v. val_of v.now) beneath.entry)) }
+    {
+        match outer_value(&self.outer, name) {
+            Some(value) => Ok(Some(value.copy(alloc)?)),
+            None => match beneath {
+                Some(value) => Ok(Some(value.copy(alloc)?)),
+                None => Ok(None),
+            },
+        }
+    }
+
+    // Assigns a name at which the innermost layer has nothing: it is read further out.
+    fn put_inwards(
+        &mut self,
+        alloc: Global,
+        name: &Text,
+        value: Value,
+        position: Position,
+    ) -> Result<(), AllocError>
+        requires { variable_in name.now self.old.inner ≡ None }
+        ensures ok { OnOk result
+            (self.new ≡ put_and_read name.now (val_of value) position self.old) }
+        ensures err { OnErr result (self.new ≡ self.old) }
+        ensures outer { length self.new.outer ≡ length self.old.outer }
+    {
+        self.inner.put_assigned(alloc, name, value, position)?;
+        let _found = mark_first(&mut self.outer, name);
+        Ok(())
+    }
+
+    // `+=` and `-=`.
+    fn combine(
+        &mut self,
+        alloc: Global,
+        name: &Text,
+        op: AssignOp,
+        value: Value,
+        position: Position,
+        beneath: Option<&Value>,
+    ) -> Result<(), AssignError>
+        ensures ok { OnOk result
+            (changed_by has_no_value operator_refuses (λ old. combined op old (val_of value))
+            name.now position (option_map (λ v. val_of v.now) beneath.entry) self.old
+            ≡ Ok self.new) }
+        ensures refused { IfErr result
+            (λ e. IfSome (refusal_of e)
+            (λ r. changed_by has_no_value operator_refuses (λ old. combined op old (val_of value))
+            name.now position (option_map (λ v. val_of v.now) beneath.entry) self.old
+            ≡ Err r)) }
+        ensures err { OnErr result (self.new ≡ self.old) }
+        ensures outer { length self.new.outer ≡ length self.old.outer }
+    {
+        if self.inner.has(name) {
+            return self.inner.combine(alloc, name, op, value, position);
+        }
+        let Some(mut copy) = self.copy_of_outer(alloc, name, beneath)? else {
+            return Err(AssignError::Undefined);
+        };
+        if let Err(error) = copy.combine(alloc, op, value) {
+            return Err(AssignError::of_operator(error));
+        }
+        self.put_inwards(alloc, name, copy, position)?;
+        Ok(())
+    }
+
+    /// `name = value`, `name += value` or `name -= value`, whose operator stands at the position, where `beneath` is
+    /// what the name has beneath all layers. After a refusal nothing is changed, and the value is dropped.
+    #[tactic(auto, unfolding(crate::specs::Assigning::assigned))]
+    pub(crate) fn assign(
+        &mut self,
+        alloc: Global,
+        name: &Text,
+        op: AssignOp,
+        value: Value,
+        position: Position,
+        beneath: Option<&Value>,
+    ) -> Result<(), AssignError>
+        ensures ok { OnOk result
+            (assigned name.now op (val_of value) position
+            (option_map (λ v. val_of v.now) beneath.entry) self.old ≡ Ok self.new) }
+        ensures refused { IfErr result
+            (λ e. IfSome (refusal_of e)
+            (λ r. assigned name.now op (val_of value) position
+            (option_map (λ v. val_of v.now) beneath.entry) self.old ≡ Err r)) }
+        ensures err { OnErr result (self.new ≡ self.old) }
+        ensures outer { length self.new.outer ≡ length self.old.outer }
+    {
+        match op {
+            AssignOp::Set => self.inner.overwrite(alloc, name, value, position),
+            AssignOp::Add => { self.combine(alloc, name, AssignOp::Add, value, position, beneath) }
+            AssignOp::Subtract => {
+                self.combine(alloc, name, AssignOp::Subtract, value, position, beneath)
+            }
+        }
+    }
+
+    /// `name[at] op= value` or `name.at op= value`, whose operator stands at the position, where `beneath` is what the
+    /// name has beneath all layers. After a refusal nothing is changed, and the value is dropped.
+    #[tactic(auto, unfolding(crate::specs::Assigning::element_changed))]
+    pub(crate) fn assign_element(
+        &mut self,
+        alloc: Global,
+        name: &Text,
+        at: &Value,
+        op: AssignOp,
+        value: Value,
+        position: Position,
+        beneath: Option<&Value>,
+    ) -> Result<(), ElementAssignError>
+        ensures ok { OnOk result
+            (element_changed name.now (val_of at.now) op (val_of value) position
+            (option_map (λ v. val_of v.now) beneath.entry) self.old ≡ Ok self.new) }
+        ensures refused { IfErr result
+            (λ e. IfSome (element_refusal_of e)
+            (λ r. element_changed name.now (val_of at.now) op (val_of value) position
+            (option_map (λ v. val_of v.now) beneath.entry) self.old ≡ Err r)) }
+        ensures err { OnErr result (self.new ≡ self.old) }
+        ensures outer { length self.new.outer ≡ length self.old.outer }
+    {
+        if self.inner.has(name) {
+            return self
+                .inner
+                .assign_element(alloc, name, at, op, value, position);
+        }
+        let Some(mut copy) = self.copy_of_outer(alloc, name, beneath)? else {
+            return Err(ElementAssignError::Undefined);
+        };
+        if let Err(error) = copy.assign_element(alloc, at, op, value) {
+            return Err(ElementAssignError::of_element(error));
+        }
+        self.put_inwards(alloc, name, copy, position)?;
+        Ok(())
+    }
+
+    /// `name = value`, `name += value` or `name -= value`, whose operator stands at the position. `Overwrite` comes
+    /// exactly where `=` would put a nonempty list or scope over a nonempty one of its kind in the innermost scope,
+    /// `Undefined` where `+=` or `-=` find no value, and `Value` where the operator refuses the two values. After a
+    /// refusal nothing is changed, and the value is dropped.
+    pub fn set(
+        &mut self,
+        alloc: Global,
+        name: &Text,
+        op: AssignOp,
+        value: Value,
+        position: Position,
+    ) -> Result<(), ScopeError>
+        ensures ok { OnOk result
+            (assigned name.now op (val_of value) position None self.old ≡ Ok self.new) }
+        ensures refused { IfErr result
+            (λ e. IfSome (scope_refusal_of e)
+            (λ r. assigned name.now op (val_of value) position None self.old ≡ Err r)) }
+        ensures assigning { IfErr result (λ e. (n : List ℕ) (p : Position) → e ≢ ScopeError.NoEffect n p) }
+        ensures err { OnErr result (self.new ≡ self.old) }
+        ensures outer { length self.new.outer ≡ length self.old.outer }
+    {
+        match self.assign(alloc, name, op, value, position, None) {
+            Ok(()) => Ok(()),
+            Err(error) => Err(ScopeError::of_assignment(error)),
+        }
+    }
+}
+
+// The first layer that has a name.
+fn find(layers: &VecDeque<Layer>, name: &Text) -> Option<usize>
+    ensures some { IfSome result (λ i. IsFirstAt name.now layers.now.items i) }
+    ensures none { IfNone result (variable_of name.now layers.now.items ≡ None) }
+{
+    for i in 0..layers.len() {
+        if layers[i].has(name) {
+            return Some(i);
+        }
+    }
+    None
+}
+
+// A read of a name that the layers may have, and the first that has it.
+#[tactic(auto, using(crate::proofs::Levels::marked_length))]
+fn mark_first(layers: &mut VecDeque<Layer>, name: &Text) -> Option<usize>
+    ensures marked { layers.new.items ≡ marked name.now layers.old.items }
+    ensures len { length layers.new.items ≡ length layers.old.items }
+    ensures some { IfSome result (λ i. IsFirstAt name.now layers.new.items i) }
+    ensures none { IfNone result (variable_of name.now layers.new.items ≡ None) }
+{
+    let Some(i) = find(layers, name) else {
+        return None;
+    };
+    layers[i].mark(name);
+    Some(i)
+}
+
+fn outer_value<'a>(layers: &'a VecDeque<Layer>, name: &Text) -> Option<&'a Value>
+    ensures { option_map (λ v. val_of v.now) result
+        ≡ option_map (λ v. v.value) (variable_of name.now layers.now.items) }
+{
+    let i = find(layers, name)?;
+    layers[i].value(name)
 }

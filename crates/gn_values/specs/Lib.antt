@@ -9,3 +9,5 @@ pub mod Text
 pub mod Falls
 pub mod Members
 pub mod Assigning
+pub mod Imported
+pub mod ImportedCode

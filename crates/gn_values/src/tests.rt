@@ -1,11 +1,15 @@
 // Each call once, with ample memory, and the answers that the language names.
 
+ghost use Rattle.std.specs.Prelude.{◌≤◌};
+
 use crate::{
-    Compare, Entries, Items, Overrides, Value, ValueError, add, append_text, compare, index,
-    print_text, subtract,
+    Bindings, Compare, Definition, ElementError, Entries, ImportValue, Items, Kept, KeptScope,
+    Overrides, Value, ValueError, add, append_text, compare, index, print_text, subtract,
 };
 use gn_paths::Text;
+use gn_tree::{AssignOp, Block, Position};
 use std::alloc::{AllocError, Global};
+use std::collections::BTreeMap;
 use std::test::Fail;
 
 fn string(alloc: Global, bytes: &[u8]) -> Result<Value, AllocError> {
@@ -95,6 +99,29 @@ fn long_lists(rt: HostRuntime) -> Result<(), Fail> {
     Ok(())
 }
 
+/// The strings `a`, `b` and so on, so many of them.
+fn strings(alloc: Global, count: u8) -> Result<Value, ValueError>
+    requires { count ≤ 26 }
+{
+    let mut items = Items::new(alloc);
+    for letter in 0..count {
+        items.push(string(alloc, &[b'a' + letter])?)?;
+    }
+    Ok(Value::List(items))
+}
+
+#[test]
+fn long_lists_of_strings(rt: HostRuntime) -> Result<(), Fail> {
+    let alloc = rt.alloc();
+    let ten = strings(alloc, 10)?;
+    let more = strings(alloc, 12)?;
+    let kept = subtract(alloc, &more, &ten)?;
+    assert_eq!(rt; printed(alloc, &kept)?.as_slice(), &b"[\"k\", \"l\"]"[..]);
+    let lacking = subtract(alloc, &ten, &more);
+    assert!(rt; matches!(lacking, Err(ValueError::NotInList)));
+    Ok(())
+}
+
 #[test]
 fn scopes_and_their_text(rt: HostRuntime) -> Result<(), Fail> {
     let alloc = rt.alloc();
@@ -151,5 +178,150 @@ fn the_last_override_counts(rt: HostRuntime) -> Result<(), Fail> {
     let copy = overrides.copy(alloc)?;
     assert!(rt; copy.get(b"x").ok_or("x")?.same(&Value::Int(2)));
     assert!(rt; copy.get(b"y").is_none());
+    Ok(())
+}
+
+#[test]
+fn assignments_in_place(rt: HostRuntime) -> Result<(), Fail> {
+    let alloc = rt.alloc();
+    for (op, text) in [
+        (AssignOp::Set, &b"[1, 2]"[..]),
+        (AssignOp::Add, &b"[1, 3, 1, 2]"[..]),
+    ] {
+        let mut value = list(alloc, &[1, 3])?;
+        value.combine(alloc, op, list(alloc, &[1, 2])?)?;
+        assert_eq!(rt; printed(alloc, &value)?.as_slice(), text);
+    }
+    let mut value = list(alloc, &[1, 3])?;
+    let lacking = value.combine(alloc, AssignOp::Subtract, list(alloc, &[2])?);
+    assert_eq!(rt; lacking, Err(ValueError::NotInList));
+    value.combine(alloc, AssignOp::Subtract, list(alloc, &[1])?)?;
+    assert_eq!(rt; printed(alloc, &value)?.as_slice(), &b"[3]"[..]);
+    Ok(())
+}
+
+#[test]
+fn items_are_assigned(rt: HostRuntime) -> Result<(), Fail> {
+    let alloc = rt.alloc();
+    let mut value = list(alloc, &[1, 2])?;
+    for (at, op, right, answer, text) in [
+        (1, AssignOp::Set, 5, Ok(()), &b"[1, 5]"[..]),
+        (0, AssignOp::Add, 1, Ok(()), &b"[2, 5]"[..]),
+        (0, AssignOp::Subtract, 3, Ok(()), &b"[-1, 5]"[..]),
+        (
+            2,
+            AssignOp::Set,
+            1,
+            Err(ElementError::Subscript(ValueError::BadIndex)),
+            &b"[-1, 5]"[..],
+        ),
+        (
+            1,
+            AssignOp::Add,
+            i64::MAX,
+            Err(ElementError::Operator(ValueError::Overflow)),
+            &b"[-1, 5]"[..],
+        ),
+    ] {
+        let given = value.assign_element(alloc, &Value::Int(at), op, Value::Int(right));
+        assert_eq!(rt; given, answer);
+        assert_eq!(rt; printed(alloc, &value)?.as_slice(), text);
+    }
+    let mut items = Items::new(alloc);
+    items.push(Value::Int(1))?;
+    items.set(0, value)?;
+    assert_eq!(rt; items.depth(), 2);
+    Ok(())
+}
+
+#[test]
+fn entries_are_assigned(rt: HostRuntime) -> Result<(), Fail> {
+    let alloc = rt.alloc();
+    let mut scope = Value::Scope(Entries::new(alloc));
+    let undefined = Err(ElementError::Subscript(ValueError::Undefined));
+    for (name, op, right, answer, text) in [
+        (&b"b"[..], AssignOp::Add, 1, undefined, &b"{\n}"[..]),
+        (&b"b"[..], AssignOp::Set, 1, Ok(()), &b"{\n  b = 1\n}"[..]),
+        (&b"b"[..], AssignOp::Add, 2, Ok(()), &b"{\n  b = 3\n}"[..]),
+        (&b"b"[..], AssignOp::Set, 4, Ok(()), &b"{\n  b = 4\n}"[..]),
+    ] {
+        let given = scope.assign_element(alloc, &string(alloc, name)?, op, Value::Int(right));
+        assert_eq!(rt; given, answer);
+        assert_eq!(rt; printed(alloc, &scope)?.as_slice(), text);
+    }
+    let types = scope.assign_element(alloc, &Value::Int(0), AssignOp::Set, Value::Int(1));
+    assert_eq!(rt; types, Err(ElementError::Subscript(ValueError::BadTypes)));
+    Ok(())
+}
+
+#[test]
+fn elements_nest_199_deep(rt: HostRuntime) -> Result<(), Fail> {
+    let alloc = rt.alloc();
+    let mut value = Value::List(Items::new(alloc));
+    for _ in 1..200 {
+        let mut outer = Items::new(alloc);
+        outer.push(value)?;
+        value = Value::List(outer);
+    }
+    let mut outer = Items::new(alloc);
+    outer.push(Value::List(Items::new(alloc)))?;
+    let mut outer = Value::List(outer);
+    let given = outer.assign_element(alloc, &Value::Int(0), AssignOp::Add, value);
+    assert_eq!(rt; given, Err(ElementError::Operator(ValueError::TooLong)));
+    assert_eq!(rt; printed(alloc, &outer)?.as_slice(), &b"[[]]"[..]);
+    Ok(())
+}
+
+#[test]
+fn bindings_become_scopes(rt: HostRuntime) -> Result<(), Fail> {
+    let alloc = rt.alloc();
+    let mut bindings = Bindings::new(alloc);
+    bindings.push_last(Text::from_bytes(alloc, b"a")?, Value::Int(1))?;
+    let entries = Entries::from_bindings(bindings)?;
+    assert_eq!(rt; entries.depth(), 1);
+    let bindings = Bindings::from_entries(entries);
+    assert_eq!(rt; bindings.len(), 1);
+    Ok(())
+}
+
+/// The definition of a template in a column of a file.
+fn definition(alloc: Global, column: u32) -> Result<Definition, AllocError> {
+    let scope = KeptScope::new(
+        Bindings::new(alloc),
+        BTreeMap::new(alloc),
+        BTreeMap::new(alloc),
+    );
+    let block = Block::new(alloc, Vec::new(alloc))?;
+    let file = Text::from_bytes(alloc, b"//d.gni")?;
+    Ok(Definition::new(file, Position { line: 1, column }, block, scope))
+}
+
+fn is_sent<T: Send + Sync>(_value: &T) -> bool {
+    true
+}
+
+#[test]
+fn imports_leave_definitions(rt: HostRuntime) -> Result<(), Fail> {
+    let alloc = rt.alloc();
+    let mut table = Kept::new(alloc);
+    table.push(alloc, definition(alloc, 1)?)?;
+    let mut outer = Kept::new(alloc);
+    outer.push(alloc, definition(alloc, 2)?)?;
+    outer.append(alloc, &table)?;
+    assert_eq!(rt; outer.len(), 2);
+    let scope = KeptScope::new(
+        Bindings::new(alloc),
+        BTreeMap::new(alloc),
+        BTreeMap::new(alloc),
+    );
+    let value = ImportValue::new(alloc, scope, table)?.copy(alloc)?;
+    assert!(rt; is_sent(&value));
+    assert!(rt; value.scope().templates().is_empty());
+    let first = value.table().get(0).ok_or("a definition")?;
+    let shared = outer.share(1)?;
+    assert!(rt; first.is_same(&shared));
+    let other = outer.get(0).ok_or("a definition")?;
+    assert!(rt; !first.is_same(other));
+    assert_eq!(rt; first.position().column, 1);
     Ok(())
 }

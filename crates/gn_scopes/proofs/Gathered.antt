@@ -1,0 +1,42 @@
+-- Names with values, gathered in order.
+use Rattle.std.proofs.Common.{◌≡◌, ℕ, List, [], ◌∷◌, ◌++◌, map, append_assoc, refl, sym, ap, ◌∙◌, subst}
+use Rattle.std.specs.declared.cmp.Ordering.TheVariants.{Less}
+use Rattle.std.specs.List.{AllByRecursion}
+use Rattle.std.specs.Map.{keys_of}
+use Rattle.std.specs.List.Sorted.{IsStrictlySortedBy}
+use Rattle.gn_values.specs.Val.{Val, IsSortedByName, names_of}
+use Rattle.gn_values.specs.View.{val_of}
+use Rattle.gn_values.proofs.Sorted.{order}
+use Rattle.gn_scopes.specs.Layers.{VariableState, Table, LayerState, values_in}
+use Rattle.gn_scopes.specs.View.{variable_state, variables_in}
+use Rattle.gn_scopes.specs.declared.variable.Variable.{Variable}
+
+abbrev pub pair_value : List ℕ × Variable → List ℕ × Val
+pair_value e = (e.0, val_of e.1.value)
+
+pub values_seen : (es : List (List ℕ × Variable)) → map (λ (v : List ℕ × VariableState). (v.0, v.1.value)) (variables_in es) ≡ map pair_value es
+values_seen [] = refl
+values_seen (e ∷ es) = ap (λ vs. pair_value e ∷ vs) (values_seen es)
+
+pub names_seen : (es : List (List ℕ × Variable)) → names_of (map pair_value es) ≡ keys_of es
+names_seen [] = refl
+names_seen (e ∷ es) = ap (λ ns. e.0 ∷ ns) (names_seen es)
+
+front_names : (P : List ℕ → Type 0) (bs cs : List (List ℕ × Val)) (b : List ℕ × Val) → AllByRecursion P (names_of (bs ++ b ∷ cs)) → AllByRecursion P (names_of (bs ++ b ∷ []))
+front_names P [] cs b a = (a.0, tt)
+front_names P (x ∷ bs) cs b a = (a.0, front_names P bs cs b a.1)
+
+sorted_front : (bs cs : List (List ℕ × Val)) (b : List ℕ × Val) → IsSortedByName (bs ++ b ∷ cs) → IsSortedByName (bs ++ b ∷ [])
+unfolding IsStrictlySortedBy
+sorted_front [] cs b s = (tt, tt)
+sorted_front (x ∷ bs) cs b s = (front_names (λ y. order x.0 y ≡ Less) bs cs b s.0, sorted_front bs cs b s.1)
+
+-- one more name
+module _ (bs whole : List (List ℕ × Val)) (e : List ℕ × Variable) (es : List (List ℕ × Variable)) (so_far : bs ++ map pair_value (e ∷ es) ≡ whole) where
+  pub stays_sorted : IsSortedByName whole → IsSortedByName (bs ++ pair_value e ∷ [])
+  stays_sorted sorted =
+      sorted_front bs (map pair_value es) (pair_value e) (subst (λ (l : List (List ℕ × Val)). IsSortedByName l) (sym so_far) sorted)
+
+  pub moved_on : (after : List (List ℕ × Val)) → after ≡ bs ++ pair_value e ∷ [] → after ++ map pair_value es ≡ whole
+  moved_on after is =
+      ap (λ ds. ds ++ map pair_value es) is ∙ append_assoc bs (pair_value e ∷ []) (map pair_value es) ∙ so_far

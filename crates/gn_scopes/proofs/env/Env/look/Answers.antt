@@ -1,0 +1,8 @@
+use Rattle.std.proofs.Common.{refl, ap, ◌∙◌}
+use Rattle.gn_scopes.specs.Environment.{value_of}
+use Rattle.gn_scopes.proofs.Outwards.{value_of-after_read}
+use Rattle.gn_scopes.proofs.env.Env.look.Goals as goal
+
+pub returns : goal.returns
+returns c =
+    ((refl, (λ _. tt), (c.mark-found.ensures.new, c.mark-found.ensures.levels)), record { read = tt; value = c.value_at.ensures ∙ ap (value_of c.args.name.now) c.mark-found.ensures.new ∙ value_of-after_read c.args.name.now c.args.self.now })
