@@ -1,2 +1,11 @@
-pub mod Groups
-pub mod Words
+pub mod Position
+pub mod Lexemes
+pub mod Pieces
+pub mod Grammar
+pub mod Machine
+pub mod Errors
+pub mod Nesting
+pub mod Laws
+pub mod Counting
+pub mod Parsing
+pub mod Literals

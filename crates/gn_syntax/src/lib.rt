@@ -1,9 +1,22 @@
-//! The grammar of a build file. For now its first form alone: a list of groups.
+//! The grammar of a build file and its parser: which tree its bytes spell, and the first error where they spell none.
 #![tactic(auto)]
 
-mod first_form;
-mod name;
-mod read;
-mod words;
+mod error;
+mod expansion;
+mod file;
+mod grammar;
+mod law;
+mod lookahead;
+mod operator;
+mod parser;
+mod pieces;
+mod place;
+#[cfg(test)]
+mod tests;
 
-pub use first_form::{GroupForm, groups};
+pub use error::SyntaxError;
+pub use file::{Parsed, parse};
+pub use law::{
+    each_file_has_one_answer, machine_is_right, nestings_are_of_the_tree, pieces_stand_in_the_line,
+};
+pub use place::place_of;
