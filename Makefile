@@ -7,7 +7,7 @@ GN := $(CURDIR)/crates/gn/out/gn
 .PHONY: run test install build toolchain
 
 run: build
-	cd examples/groups && $(GN) ls out
+	cd examples/tools && $(GN) ls out
 
 test: toolchain
 	bash .ci/run

@@ -46,9 +46,12 @@ usage=$'usage: gn gen|ls|desc|refs|path|check|args|sample ...\n'
 cannot_read=$'gn: cannot read //BUILD.gn\n'
 absent=$'ERROR at //BUILD.gn:1:1: No such file "//BUILD.gn".\n'
 
-mkdir -p "$folder/groups" "$folder/empty" "$folder/other" "$folder/folder/BUILD.gn" "$folder/dangling" "$folder/big"
+mkdir -p "$folder/groups" "$folder/empty" "$folder/unread" "$folder/unfinished" "$folder/bytes" "$folder/returns" "$folder/folder/BUILD.gn" "$folder/dangling" "$folder/big"
 printf 'group("b") {\n}\ngroup("a") {\n}\n' >"$folder/groups/BUILD.gn"
-printf 'x = 1\n' >"$folder/other/BUILD.gn"
+printf 'x = 1\n' >"$folder/unread/BUILD.gn"
+printf 'print("before")\nx = [\n' >"$folder/unfinished/BUILD.gn"
+printf 'print("\377$0xFE")\n' >"$folder/bytes/BUILD.gn"
+printf 'print("one")\r\ngroup("g") {\r\n}\r\n' >"$folder/returns/BUILD.gn"
 ln -s nowhere "$folder/dangling/BUILD.gn"
 head -c 16777217 /dev/zero | tr '\0' ' ' >"$folder/big/BUILD.gn"
 
@@ -58,8 +61,14 @@ run "$folder/empty" ls out
 expect "no build file" 1 "$absent"
 run "$folder/dangling" ls out
 expect "a link to nothing" 1 "$absent"
-run "$folder/other" ls out
-expect "another form" 1 $'ERROR at //BUILD.gn:1:1: "//BUILD.gn" is not in this profile.\n'
+run "$folder/unread" ls out
+expect "a name that nothing reads" 1 $'ERROR at //BUILD.gn:1:3: Assignment had no effect: "x".\n'
+run "$folder/unfinished" ls out
+expect "a file that ends too early" 1 $'ERROR at //BUILD.gn:3:1: Unexpected token.\n'
+run "$folder/returns" ls out
+expect "lines that end in a carriage return" 0 $'one\n//:g\n'
+run "$folder/bytes" ls out
+expect "bytes that are no text" 0 $'\xff\xfe\n'
 run "$folder/big" ls out
 expect "a file beyond the limit" 1 $'ERROR at //BUILD.gn:1:1: File "//BUILD.gn" is too big.\n'
 run "$folder/folder" ls out

@@ -58,11 +58,7 @@ pub(crate) fn assert_with_message(
 
 /// The line of a `print`: the texts of the values with a blank between two, and a newline.
 #[tactic(auto, unfolding(gn_meaning::specs::Calls::line_of))]
-pub(crate) fn print_line(
-    alloc: Global,
-    first: &Value,
-    rest: &[Value],
-) -> Result<Text, AllocError>
+pub(crate) fn print_line(alloc: Global, first: &Value, rest: &[Value]) -> Result<Text, AllocError>
     ensures { IfOk result (λ line. line ≡ line_of (val_of first.now ∷ map val_of rest.now)) }
 {
     let mut line = print_text(alloc, first, false)?;

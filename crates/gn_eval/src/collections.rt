@@ -33,11 +33,7 @@ pub(crate) fn add_item(
 
 /// The end of a scope literal whose brace stands at the position: its value is what was set in it.
 #[tactic(auto, unfolding(gn_meaning::specs::Words::scope_runs, gn_scopes::specs::Environment::left))]
-pub(crate) fn end_scope(
-    alloc: Global,
-    position: Position,
-    env: &mut Env,
-) -> Result<Value, EvalEnd>
+pub(crate) fn end_scope(alloc: Global, position: Position, env: &mut Env) -> Result<Value, EvalEnd>
     requires { IsEntered env.old }
     ensures runs { (out : Effects) → IsRun val_of result env.new out (scope_runs position env.old out) }
     ensures levels { levels env.new + 1 ≡ levels env.old }

@@ -70,12 +70,7 @@ fn code_of(error: ValueError) -> Code
 }
 
 /// The end of an evaluation whose operator refuses, at its position.
-pub(crate) fn refused(
-    alloc: Global,
-    env: &Env,
-    error: ValueError,
-    position: Position,
-) -> EvalEnd
+pub(crate) fn refused(alloc: Global, env: &Env, error: ValueError, position: Position) -> EvalEnd
     ensures { IsRefusal error result (fault_in env.now.setting position (code_of error) []) }
 {
     match error {

@@ -81,7 +81,13 @@ fn run_assert<D: Definer>(
     match call.arguments.as_slice() {
         [condition] => {
             let value = eval_expr(alloc, condition, env, out, definer)?;
-            assert_true(alloc, &value, condition.first_position(), call.position, env)
+            assert_true(
+                alloc,
+                &value,
+                condition.first_position(),
+                call.position,
+                env,
+            )
         }
         [condition, message] => {
             let value = eval_expr(alloc, condition, env, out, definer)?;
@@ -183,7 +189,16 @@ fn run_foreach<D: Definer>(
         return Err(refuse(alloc, call, env));
     };
     let value = eval_expr(alloc, list, env, out, definer)?;
-    run_loop(alloc, name, value, list.first_position(), block, env, out, definer)
+    run_loop(
+        alloc,
+        name,
+        value,
+        list.first_position(),
+        block,
+        env,
+        out,
+        definer,
+    )
 }
 
 // The rounds of a `foreach` whose list stands at `at`. What the innermost scope has at the name is put aside, and comes
@@ -275,13 +290,7 @@ fn run_item<D: Definer>(
     ensures levels { OnOk result (levels env.new ≡ levels env.old) }
 {
     if env.in_item() {
-        return Err(wrong_with(
-            alloc,
-            env,
-            Code::NotAllowedHere,
-            call.position,
-            &call.name,
-        ));
+        return Err(wrong_with(alloc, env, Code::NotAllowedHere, call.position, &call.name));
     }
     let Some(block) = &call.block else {
         return Err(refuse(alloc, call, env));
@@ -291,7 +300,17 @@ fn run_item<D: Definer>(
     };
     let name = eval_expr(alloc, argument, env, out, definer)?;
     let at = argument.first_position();
-    run_item_block(alloc, kind, name, at, call.position, block, env, out, definer)
+    run_item_block(
+        alloc,
+        kind,
+        name,
+        at,
+        call.position,
+        block,
+        env,
+        out,
+        definer,
+    )
 }
 
 // The block of an item whose name stands at `at`, in a scope of its own, and then its definition.

@@ -60,7 +60,9 @@ fn run_statement<D: Definer>(
             value,
         } => {
             let value = eval_expr(alloc, value, env, out, definer)?;
-            assign(alloc, target, *operator, *position, value, env, out, definer)
+            assign(
+                alloc, target, *operator, *position, value, env, out, definer,
+            )
         }
         Statement::Call(call) => {
             run_call(alloc, call, env, out, definer)?;
@@ -156,8 +158,6 @@ fn run_otherwise<D: Definer>(
     match otherwise {
         Otherwise::Nothing => Ok(()),
         Otherwise::Else(block) => run_statements(alloc, block, env, out, definer),
-        Otherwise::ElseIf(condition) => {
-            run_condition(alloc, condition.get(), env, out, definer)
-        }
+        Otherwise::ElseIf(condition) => { run_condition(alloc, condition.get(), env, out, definer) }
     }
 }

@@ -4,11 +4,11 @@ ghost use Rattle.std.specs.Prelude.{IfOk};
 ghost use Rattle.gn_scopes.specs.Environment.{levels};
 
 use crate::{DefineError, Definer, EvalEnd, run_block, run_file};
-use gn_grammar::parse;
 use gn_items::{Item, ItemKind, Outcome, Stage};
 use gn_labels::{Label, is_name};
 use gn_paths::{Path, Place, Text};
 use gn_scopes::Env;
+use gn_syntax::parse;
 use gn_tree::Position;
 use std::alloc::{AllocError, Global};
 use std::test::Fail;
@@ -79,9 +79,10 @@ fn answer(alloc: Global, source: &[u8]) -> Result<Text, Fail> {
 #[test]
 fn files_print_or_have_their_first_fault(rt: HostRuntime) -> Result<(), Fail> {
     let alloc = rt.alloc();
-    for (source, expected) in [
-        ("print(1 + 2, \"a\" + 1, [ 1, \"b\" ], true)", "3 a1 [1, \"b\"] true\n"),
-    ] {
+    for (source, expected) in [(
+        "print(1 + 2, \"a\" + 1, [ 1, \"b\" ], true)",
+        "3 a1 [1, \"b\"] true\n",
+    )] {
         let text = answer(alloc, source.as_bytes())?;
         assert_eq!(rt; text.as_bytes(), expected.as_bytes());
     }

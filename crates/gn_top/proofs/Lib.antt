@@ -1,3 +1,5 @@
 pub mod CommandLemmas
-pub mod RunLemmas
+pub mod DefinedLemmas
 pub mod OrderLemmas
+pub mod LoadingLemmas
+pub mod RunLemmas

@@ -1,128 +1,123 @@
--- A list that was sorted is the list of the keys of the map of its elements.
-use Rattle.std.proofs.Common.{◌≡◌, ℕ, ◌+◌, ◌<◌, Bool, true, false, ◌&&◌, ◌||◌, not, List, [], ◌∷◌, length, get_or, map, refl, sym, ap, ◌∙◌, arith, true≢false}
-use Rattle.std.specs.Prelude.{Option, None, Some, is_some, T}
-use Rattle.std.specs.Borrow.{Bor}
+-- The set of labels that an ordered set keeps is the list of labels in label order.
+use Rattle.std.proofs.Common.{◌≡◌, ℕ, Bool, true, false, cond, List, [], ◌∷◌, ◌++◌, map, length, take, get_or, ◌+◌, ◌<◌, arith, refl, sym, ap, ◌∙◌, subst}
+use Rattle.std.proofs.lemmas.List.{take_more}
+use Rattle.std.specs.Prelude.{Option, None, Some}
 use Rattle.std.specs.declared.cmp.Ordering.{Ordering}
 use Rattle.std.specs.declared.cmp.Ordering.TheVariants.{Less, Equal, Greater}
-use Rattle.std.specs.Ordering.{nat_cmp, eq_by_cmp, is_lt, is_eq, ordering_reverse}
-use Rattle.std.specs.Cmp.{eq_by_cmp_equiv}
-use Rattle.std.specs.Cmp.Lexicographic.{slice_cmp, nat_list_cmp_total, texts_ties}
-use Rattle.std.specs.Str.{bytes_eq}
-use Rattle.gn_syntax.specs.Groups.{are_different}
-use Rattle.std.specs.FinMap.{from_entries, from_sorted, keys, entries-from_sorted, get-from_entries, get-from_sorted, same_map, nat_cmp-IsAntisymmetric, slice_cmp-IsAntisymmetric}
-use Rattle.std.specs.FinMap.Entries.{find, below_all, is_sorted, is_some-find}
-use Rattle.std.specs.List.{AllByRecursion, IsDistinct, list_any}
-use Rattle.std.specs.List.Sorted.{IsPermutation, IsSorted, IsStrictlySortedBy}
-use Rattle.std.proofs.lemmas.List.{get_or-map, length-map}
-use Rattle.std.proofs.lemmas.List.Sorted.{IsPermutation-map, list_any-IsPermutation}
-use Rattle.std.proofs.lemmas.Map.Keys.{IsDistinct-IsPermutation, apart_from_distinct, sorted_from_all_adjacent, sorted_head, sorted_tail, IsDistinct-cons}
-use Rattle.gn_top.specs.Labels.{entries_of, in_label_order}
+use Rattle.std.specs.Ordering.{nat_cmp, ordering_then, match_ordering, eq_by_cmp}
+use Rattle.std.specs.Cmp.{IsTotalOrder, nat_cmp_total}
+use Rattle.std.specs.Cmp.Lexicographic.{slice_cmp, lists_total}
+use Rattle.std.specs.BTreeSet.{insert_key}
+use Rattle.std.specs.FinMap.{FinMap, IsAntisymmetric, empty, len-empty, len-entries, insert, keys, entries, entries-insert, from_entries, get-from_entries, get-insert, same_map, slice_cmp-IsAntisymmetric, nat_cmp-IsAntisymmetric}
+use Rattle.std.specs.FinMap.Entries.{find, put, by_order}
+use Rattle.gn_labels.specs.declared.label.Label.{Label}
+use Rattle.gn_labels.specs.Labels.{toolchain_key, order_key}
+use Rattle.gn_labels.specs.contracts.label.LabelOrd.TheImpl.{cmp-value}
+use Rattle.gn_items.specs.declared.item.Item.{Item}
+use Rattle.gn_top.specs.Labels.{label_cmp, entries_of, in_label_order, labels_of}
 
-order : List ℕ → List ℕ → Ordering
-order = slice_cmp nat_cmp
+-- the order of texts, and of lists of texts
+text_cmp : List ℕ → List ℕ → Ordering
+text_cmp = slice_cmp nat_cmp
 
-less_of : (a b : Ordering) → b ≡ ordering_reverse a → is_lt b ≡ false → is_eq a ≡ false → a ≡ Less
-less_of Less b flips up apart = refl
-less_of Equal b flips up apart = absurd (true≢false apart)
-less_of Greater b flips up apart = absurd (true≢false (sym (ap is_lt flips) ∙ up))
+then_equal : (r : Ordering) → r ≡ ordering_then r Equal
+then_equal Less = refl
+then_equal Equal = refl
+then_equal Greater = refl
 
-now_of : List (Bor (List ℕ)) → List (List ℕ)
-now_of names = map (λ name. name.now) names
+-- toolchains compare as what they are ordered by
+toolchains_alike : (s t : List ℕ) → slice_cmp nat_cmp s t ≡ ordering_then (slice_cmp nat_cmp (toolchain_key [] s) (toolchain_key [] t)) Equal
+toolchains_alike [] [] = refl
+toolchains_alike [] (b ∷ t) = refl
+toolchains_alike (a ∷ s) [] = refl
+toolchains_alike (a ∷ s) (b ∷ t) = then_equal (slice_cmp nat_cmp (a ∷ s) (b ∷ t))
 
-neither_left : (a b : Bool) → (a || b) ≡ false → a ≡ false
-neither_left true b none = absurd (true≢false none)
-neither_left false b none = refl
+-- the order of labels by their parts is label order
+pub order_is : cmp-value.it ≡ label_cmp
+order_is i a b = ordering_then (slice_cmp nat_cmp a.dir b.dir) (ordering_then (slice_cmp nat_cmp a.name b.name) (toolchains_alike a.toolchain b.toolchain i))
 
-neither_right : (a b : Bool) → (a || b) ≡ false → b ≡ false
-neither_right true b none = absurd (true≢false none)
-neither_right false b none = none
+keys_total : IsTotalOrder (slice_cmp (slice_cmp nat_cmp))
+keys_total = lists_total (lists_total nat_cmp_total)
 
-both_left : (a b : Bool) → (a && b) ≡ true → a ≡ true
-both_left true b both = refl
-both_left false b both = absurd (true≢false (sym both))
+order_total : IsTotalOrder label_cmp
+order_total = record {
+  antisymm = λ a b. keys_total.antisymm (order_key [] a) (order_key [] b);
+  trans = λ a b c. keys_total.trans (order_key [] a) (order_key [] b) (order_key [] c);
+  congr = λ a b c. keys_total.congr (order_key [] a) (order_key [] b) (order_key [] c);
+}
 
-both_right : (a b : Bool) → (a && b) ≡ true → b ≡ true
-both_right true b both = both
-both_right false b both = absurd (true≢false (sym both))
+same_toolchain : (s t : List ℕ) → toolchain_key [] s ≡ toolchain_key [] t → s ≡ t
+same_toolchain [] [] e = refl
+same_toolchain [] (b ∷ t) e = cc
+same_toolchain (a ∷ s) [] e = cc
+same_toolchain (a ∷ s) (b ∷ t) e = cc
 
-not_true : (a : Bool) → not a ≡ true → a ≡ false
-not_true true is = absurd (true≢false (sym is))
-not_true false is = refl
+order_separates : IsAntisymmetric label_cmp
+order_separates a b tie =
+    let key : order_key [] a ≡ order_key [] b = slice_cmp-IsAntisymmetric (slice_cmp-IsAntisymmetric nat_cmp-IsAntisymmetric) _ _ tie in
+    let dir : a.dir ≡ b.dir = cc in
+    let name : a.name ≡ b.name = cc in
+    let last : toolchain_key [] a.toolchain ≡ toolchain_key [] b.toolchain = cc in
+    let toolchain : a.toolchain ≡ b.toolchain = same_toolchain a.toolchain b.toolchain last in
+    λ i. record { dir = dir i; name = name i; toolchain = toolchain i }
 
--- no element is less than the one before it
-not_below : (names : List (Bor (List ℕ))) → IsSorted (λ x y. order x.now y.now) names → (k : ℕ) → k + 1 < length names
-    → is_lt (order (get_or (now_of names) (k + 1) []) (get_or (now_of names) k [])) ≡ false
-unfolding order now_of
-not_below [] up k within = absurd (omega arith)
-not_below (name ∷ names) up k within =
-    let all : List (Bor (List ℕ)) = name ∷ names in
-    let here : k < length all = omega arith in
-    rw (get_or-map (λ (n : Bor (List ℕ)). n.now) all (k + 1) name [] within, get_or-map (λ (n : Bor (List ℕ)). n.now) all k name [] here) (up k name (omega arith) within)
+-- a key that is put into its place among entries is a key that is put into its place
+put_key : (es : List (Label × Unit {0})) (k : Label) → map (λ (e : Label × Unit {0}). e.0) (put label_cmp k tt es) ≡ insert_key label_cmp (map (λ (e : Label × Unit {0}). e.0) es) k
+put_key [] k = refl
+put_key (e ∷ es) k = by (label_cmp k e.0) (put_key es k)
+  where
+    by : (r : Ordering) → map (λ (e : Label × Unit {0}). e.0) (put label_cmp k tt es) ≡ insert_key label_cmp (map (λ (e : Label × Unit {0}). e.0) es) k → map (λ (e : Label × Unit {0}). e.0) (by_order r ((k, tt) ∷ e ∷ es) ((e.0, tt) ∷ es) (e ∷ put label_cmp k tt es))
+        ≡ match_ordering r (k ∷ e.0 ∷ map (λ (e : Label × Unit {0}). e.0) es) (e.0 ∷ map (λ (e : Label × Unit {0}). e.0) es) (e.0 ∷ insert_key label_cmp (map (λ (e : Label × Unit {0}). e.0) es) k)
+    by Less h = refl
+    by Equal h = refl
+    by Greater h = ap (λ (rest : List Label). e.0 ∷ rest) h
 
--- each element is below the next
-rises : (names : List (Bor (List ℕ))) → IsSorted (λ x y. order x.now y.now) names → IsDistinct (eq_by_cmp order) (now_of names) → IsStrictlySortedBy order (now_of names)
-unfolding order now_of
-rises names up distinct = sorted_from_all_adjacent nat_list_cmp_total (now_of names) [] (λ k within.
-    let many : k + 1 < length names = rw length-map at within in
-    less_of _ _ (nat_list_cmp_total.antisymm (get_or (now_of names) (k + 1) []) (get_or (now_of names) k [])) (not_below names up k many) (apart_from_distinct (eq_by_cmp order) (now_of names) k (k + 1) [] distinct (omega arith) within))
+pub keys-insert : (m : FinMap label_cmp (Unit {0})) (k : Label) → keys (insert m k tt) ≡ insert_key label_cmp (keys m) k
+keys-insert m k = ap (map (λ (e : Label × Unit {0}). e.0)) (entries-insert order_total m k tt) ∙ put_key (entries m) k
 
-below : (x : List ℕ) (names : List (List ℕ)) → AllByRecursion (λ y. order x y ≡ Less) names → T (below_all order x (entries_of names))
-below x [] all = tt
-below x (y ∷ names) all = rw (all.0) (below x names (all.1))
+-- an entry more at the end is found where none is found before
+found_behind : (es : List (Label × Unit {0})) (k q : Label) → find label_cmp q (es ++ (k, tt) ∷ []) ≡ cond (eq_by_cmp label_cmp q k) (Some tt) (find label_cmp q es)
+found_behind [] k q = refl
+found_behind (e ∷ es) k q = by (eq_by_cmp label_cmp q e.0) (eq_by_cmp label_cmp q k) (found_behind es k q)
+  where
+    by : (here there : Bool) → find label_cmp q (es ++ (k, tt) ∷ []) ≡ cond there (Some tt) (find label_cmp q es)
+        → cond here (Some e.1) (find label_cmp q (es ++ (k, tt) ∷ [])) ≡ cond there (Some tt) (cond here (Some e.1) (find label_cmp q es))
+    by true true h = refl
+    by true false h = refl
+    by false there h = h
 
-both_hold : (a b : Bool) → T a → T b → T (a && b)
-both_hold true b p q = q
-both_hold false b p q = p
+-- a label more at the end is put into its place
+pushed : (es : List (Label × Unit {0})) (k : Label) → from_entries {R = label_cmp} (es ++ (k, tt) ∷ []) ≡ insert (from_entries {R = label_cmp} es) k tt
+pushed es k = same_map order_total order_separates _ _ (λ q.
+    get-from_entries order_total (es ++ (k, tt) ∷ []) q ∙ found_behind es k q
+    ∙ sym (get-insert order_total (from_entries es) k tt q ∙ ap (cond (eq_by_cmp label_cmp q k) (Some tt)) (get-from_entries order_total es q)))
 
-are_sorted : (names : List (List ℕ)) → IsStrictlySortedBy order names → T (is_sorted order (entries_of names))
-are_sorted [] up = tt
-are_sorted (x ∷ names) up = both_hold _ _ (below x names (sorted_head order x names up)) (are_sorted names (sorted_tail order x names up))
+entries-push : (labels : List Label) (k : Label) → entries_of (labels ++ k ∷ []) ≡ entries_of labels ++ (k, tt) ∷ []
+entries-push [] k = refl
+entries-push (label ∷ labels) k = ap (λ (rest : List (Label × Unit {0})). (label, tt) ∷ rest) (entries-push labels k)
 
-keys_back : (names : List (List ℕ)) → map (λ (e : List ℕ × Unit {0}). e.0) (entries_of names) ≡ names
-keys_back [] = refl
-keys_back (x ∷ names) = ap (λ (rest : List (List ℕ)). x ∷ rest) (keys_back names)
+pub one_more_label : (labels : List Label) (k : Label) → in_label_order (labels ++ k ∷ []) ≡ insert_key label_cmp (in_label_order labels) k
+one_more_label labels k =
+    ap (λ (es : List (Label × Unit {0})). keys (from_entries {R = label_cmp} es)) (entries-push labels k)
+    ∙ ap keys (pushed (entries_of labels) k) ∙ keys-insert (from_entries (entries_of labels)) k
 
-same_unit : (a b : Option (Unit {0})) → is_some a ≡ is_some b → a ≡ b
-same_unit None None same = refl
-same_unit None (Some u) same = absurd (true≢false (sym same))
-same_unit (Some u) None same = absurd (true≢false same)
-same_unit (Some u) (Some v) same = refl
+nothing : (es : List (Label × Unit {0})) → length es ≡ 0 → es ≡ []
+nothing [] e = refl
+nothing (x ∷ es) e = absurd (omega arith)
 
-same_find : (names sorted : List (List ℕ)) → IsPermutation names sorted → (q : List ℕ) → find order q (entries_of names) ≡ find order q (entries_of sorted)
-unfolding order
-same_find names sorted moved q = same_unit _ _
-    (is_some-find order q (entries_of names) ∙ ap (list_any (eq_by_cmp order q)) (keys_back names) ∙ list_any-IsPermutation (eq_by_cmp order q) names sorted moved
-    ∙ sym (is_some-find order q (entries_of sorted) ∙ ap (list_any (eq_by_cmp order q)) (keys_back sorted)))
+-- no labels
+pub none_ordered : in_label_order [] ≡ []
+none_ordered = ap (map (λ (e : Label × Unit {0}). e.0)) (nothing (entries (empty {X = Unit {0}} {R = label_cmp})) (sym (len-entries (empty {X = Unit {0}} {R = label_cmp})) ∙ len-empty label_cmp (Unit {0})))
 
-keys_sorted : (names sorted : List (List ℕ)) → IsPermutation names sorted → IsStrictlySortedBy order sorted → sorted ≡ in_label_order names
-unfolding order
-keys_sorted names sorted moved up =
-    let rising : T (is_sorted order (entries_of sorted)) = are_sorted sorted up in
-    let same : from_entries {R = order} (entries_of names) ≡ from_sorted {R = order} (entries_of sorted) =
-    same_map nat_list_cmp_total (slice_cmp-IsAntisymmetric nat_cmp-IsAntisymmetric) _ _
-    (λ q. get-from_entries nat_list_cmp_total (entries_of names) q ∙ same_find names sorted moved q ∙ sym (get-from_sorted order (entries_of sorted) q rising)) in
-    sym (ap keys same ∙ ap (map (λ (e : List ℕ × Unit {0}). e.0)) (entries-from_sorted order (entries_of sorted) rising) ∙ keys_back sorted)
+labels-push : (items : List Item) (item : Item) → labels_of (items ++ item ∷ []) ≡ labels_of items ++ item.label ∷ []
+labels-push [] item = refl
+labels-push (first ∷ items) item = ap (λ (rest : List Label). first.label ∷ rest) (labels-push items item)
 
--- no element equals one after it
-none_equal : (name : List ℕ) (names : List (List ℕ)) → list_any (bytes_eq name) names ≡ false → AllByRecursion (λ y. eq_by_cmp order name y ≡ false) names
-unfolding order
-none_equal name [] none = tt
-none_equal name (y ∷ names) none =
-    (sym (texts_ties name y) ∙ neither_left (bytes_eq name y) _ none, none_equal name names (neither_right (bytes_eq name y) _ none))
-
-all_different : (names : List (List ℕ)) → are_different names ≡ true → IsDistinct (eq_by_cmp order) names
-unfolding order IsDistinct
-all_different [] different = tt
-all_different (name ∷ names) different =
-    IsDistinct-cons (eq_by_cmp order) name names
-    (none_equal name names (not_true _ (both_left (not (list_any (bytes_eq name) names)) _ different)))
-    (all_different names (both_right (not (list_any (bytes_eq name) names)) _ different))
-
-pub sorted_names : (names : List (List ℕ)) (before after : List (Bor (List ℕ))) → map (λ (name : Bor (List ℕ)). name.now) before ≡ names → IsPermutation before after
-    → IsSorted (λ (x y : Bor (List ℕ)). slice_cmp nat_cmp x.now y.now) after → are_different names ≡ true → map (λ (name : Bor (List ℕ)). name.now) after ≡ in_label_order names
-unfolding order now_of
-sorted_names names before after is moved up different =
-    let moved_names : IsPermutation names (now_of after) = rw is at (IsPermutation-map (λ (name : Bor (List ℕ)). name.now) before after moved) in
-    let distinct : IsDistinct (eq_by_cmp order) names = all_different names different in
-    keys_sorted names (now_of after) moved_names
-    (rises after up (IsDistinct-IsPermutation (eq_by_cmp order) (eq_by_cmp_equiv nat_list_cmp_total).symm names (now_of after) moved_names distinct))
+-- an item more
+pub one_more_item : (items : List Item) (index : ℕ) (item : Item) (ordered after : List Label) → index < length items → item ≡ get_or items index item
+    → ordered ≡ in_label_order (labels_of (take index items)) → after ≡ insert_key cmp-value.it ordered item.label
+    → after ≡ in_label_order (labels_of (take (index + 1) items))
+one_more_item items index item ordered after within here before put =
+    let more : take (index + 1) items ≡ take index items ++ item ∷ [] = take_more items index item within ∙ ap (λ (x : Item). take index items ++ x ∷ []) (sym here) in
+    put ∙ (λ i. insert_key (order_is i) (before i) item.label) ∙ sym (one_more_label (labels_of (take index items)) item.label)
+    ∙ ap in_label_order (sym (ap labels_of more ∙ labels-push (take index items) item))

@@ -1,23 +1,36 @@
--- The labels of the groups of a build file, as they are listed.
-use Rattle.std.specs.Prelude.{ℕ, List, ◌++◌, codes, map}
+-- The labels of items, as they are listed.
+use Rattle.std.specs.Prelude.{ℕ, List, [], map}
 use Rattle.std.specs.List.{flat_map}
+use Rattle.std.specs.declared.cmp.Ordering.{Ordering}
 use Rattle.std.specs.Ordering.{nat_cmp}
 use Rattle.std.specs.Cmp.Lexicographic.{slice_cmp}
 use Rattle.std.specs.FinMap.{from_entries, keys}
+use Rattle.gn_labels.specs.declared.label.Label.{Label}
+use Rattle.gn_labels.specs.Labels.{order_key}
+use Rattle.gn_items.specs.declared.item.Item.{Item}
+use Rattle.gn_meaning.specs.Items.{label_text}
 use Rattle.gn_top.specs.Texts.{line}
 
--- each name, with nothing beside it
-abbrev pub entries_of : List (List ℕ) → List (List ℕ × Unit {0})
-entries_of names = map (λ name. (name, tt)) names
+-- label order: by directory, then name, then toolchain, of which the default one, the empty text, is first
+abbrev pub label_cmp : Label → Label → Ordering
+label_cmp a b = slice_cmp (slice_cmp nat_cmp) (order_key [] a) (order_key [] b)
 
--- these names, each once, in the order of their bytes: the label order of names of one directory and one toolchain
-abbrev pub in_label_order : List (List ℕ) → List (List ℕ)
-in_label_order names = keys (from_entries {R = slice_cmp nat_cmp} (entries_of names))
+-- each label, with nothing beside it
+abbrev pub entries_of : List Label → List (Label × Unit {0})
+entries_of labels = map (λ label. (label, tt)) labels
 
--- a label of the root directory under the default toolchain, and a newline
-abbrev pub label_line : List ℕ → List ℕ
-label_line name = line (codes "//:" ++ name)
+-- these labels, each once, in label order
+abbrev pub in_label_order : List Label → List Label
+in_label_order labels = keys (from_entries {R = label_cmp} (entries_of labels))
 
--- one label a line, in label order
-abbrev pub listing : List (List ℕ) → List ℕ
-listing names = flat_map label_line (in_label_order names)
+-- the labels of items
+abbrev pub labels_of : List Item → List Label
+labels_of items = map (λ (item : Item). item.label) items
+
+-- a label and a newline
+abbrev pub label_line : Label → List ℕ
+label_line label = line (label_text label)
+
+-- the labels of items, one a line, in label order
+unfoldable pub listing : List Item → List ℕ
+listing items = flat_map label_line (in_label_order (labels_of items))

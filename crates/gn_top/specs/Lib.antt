@@ -2,9 +2,10 @@ pub mod Exported
 pub mod Words
 pub mod Commands
 pub mod Texts
+pub mod Reading
+pub mod Loading
 pub mod Labels
 pub mod Said
 pub mod Hosts
 pub mod Run
 pub mod Steps
-pub mod Found

@@ -1,13 +1,18 @@
 -- The sequential meaning of a command line over a tree.
-use Rattle.std.specs.Prelude.{ℕ, List, [], ◌∷◌, Option, None, Some, map, string_bytes}
+use Rattle.std.specs.Prelude.{ℕ, List, [], ◌∷◌, ◌++◌, Option, None, Some, Result, Ok, Err, map, string_bytes}
+use Rattle.std.specs.List.{flat_map}
 use Rattle.std.specs.declared.string.String.{String}
 use Rattle.std.specs.declared.alloc.Global.{Global}
 use Rattle.gn_outside.specs.Tree.{Tree, Answer, Bytes, Absent, TooBig, read_of}
 use Rattle.gn_outside.specs.States.{PutFile}
-use Rattle.gn_syntax.specs.Groups.{group_names}
+use Rattle.gn_items.specs.declared.code.Code.TheVariants.{NoFile, FileTooBig}
+use Rattle.gn_items.specs.declared.fault.Fault.{Fault}
+use Rattle.gn_items.specs.Effects.{Effects}
+use Rattle.gn_items.specs.Printed.{printed}
 use Rattle.gn_top.specs.Exported.{Exported}
 use Rattle.gn_top.specs.Words.{Command, Ls, command_of}
-use Rattle.gn_top.specs.Texts.{usage_line, build_file, absent_line, too_big_line, excluded_line}
+use Rattle.gn_top.specs.Texts.{usage_line, build_file}
+use Rattle.gn_top.specs.Loading.{build_fault, beginning, file_loaded}
 use Rattle.gn_top.specs.Labels.{listing}
 use Rattle.gn_top.specs.Hosts.{HostTexts}
 
@@ -31,24 +36,28 @@ texts words = map string_bytes words
 abbrev pub usage_said : Said
 usage_said = record { status = 2; text = usage_line; files = []; units = Exactly 0 }
 
--- the line of an error that was found while the build was loaded
-abbrev pub load_error : List ℕ → Said
-load_error text = record { status = 1; text = text; files = []; units = Exactly 1 }
+-- the line of a fault that was found while the build was loaded
+abbrev pub fault_said : Fault → Said
+fault_said fault = record { status = 1; text = printed fault; files = []; units = Exactly 1 }
 
--- the text of an answer
-abbrev pub answer_said : List ℕ → Said
-answer_said text = record { status = 0; text = text; files = []; units = Exactly 1 }
+-- the lines printed, in order, then the labels of the items in label order, one a line
+abbrev pub answer_text : Effects → List ℕ
+answer_text effects = flat_map (λ text. text) effects.prints ++ listing effects.items
 
--- the labels of the groups of a build file, or an error where its bytes aren't a list of groups
-abbrev pub groups_said : Option (List (List ℕ)) → Said
-groups_said None = load_error excluded_line
-groups_said (Some names) = answer_said (listing names)
+-- the answer of a build that was loaded
+abbrev pub answer_said : Effects → Said
+answer_said effects = record { status = 0; text = answer_text effects; files = []; units = Exactly 1 }
+
+-- what is said of what a build file leaves, or of its fault
+abbrev pub loaded_said : Result Effects Fault → Said
+loaded_said (Ok effects) = answer_said effects
+loaded_said (Err fault) = fault_said fault
 
 -- what is said of what a read of the build file answers
 abbrev pub file_said : Answer → Said
-file_said Absent = load_error absent_line
-file_said TooBig = load_error too_big_line
-file_said (Bytes bytes) = groups_said (group_names bytes)
+file_said Absent = fault_said (build_fault beginning NoFile (build_file ∷ []))
+file_said TooBig = fault_said (build_fault beginning FileTooBig (build_file ∷ []))
+file_said (Bytes bytes) = loaded_said (file_loaded bytes)
 
 -- what a command says over a tree
 abbrev pub command_said : Option Command → Tree → Said

@@ -1,11 +1,20 @@
 -- What the parts of a run do.
 use Rattle.std.specs.Prelude.{◌≡◌, ◌⊎◌, ℕ, ◌<◌, ◌≤◌, List, [], ◌∷◌, take, Result, Ok, Err}
+use Rattle.gn_items.specs.declared.fault.Fault.{Fault}
+use Rattle.gn_items.specs.Effects.{Effects}
+use Rattle.gn_eval.specs.declared.ending.EvalEnd.{EvalEnd}
+use Rattle.gn_eval.specs.declared.ending.EvalEnd.TheVariants.{Wrong, Memory as NoMemory}
 use Rattle.gn_outside.specs.States.{SourceState, SinkState}
 use Rattle.gn_outside.specs.Lists.{Extends}
 use Rattle.gn_top.specs.declared.answered.Answered.{Answered}
 use Rattle.gn_top.specs.declared.answered.RunStop.{RunStop}
 use Rattle.gn_top.specs.declared.answered.RunStop.TheVariants.{CannotRead, Memory}
 use Rattle.gn_top.specs.Said.{Said, Exactly, usage_said}
+
+-- the end of a run is this fault, or want of memory, of which nothing is said
+abbrev pub IsFaultOf : EvalEnd → Result Effects Fault → Type 0
+IsFaultOf (Wrong fault) loaded = loaded ≡ Err fault
+IsFaultOf NoMemory loaded = Unit {0}
 
 -- an answer as a meaning without files
 abbrev pub answered_said : Answered → Said

@@ -3,8 +3,11 @@
 
 mod answer;
 mod answered;
+mod faults;
+mod groups;
 mod host;
 mod labels;
+mod loading;
 mod many;
 mod one;
 #[cfg(test)]

@@ -2,10 +2,11 @@
 ghost use Rattle.std.specs.Prelude.{IfOk, string_bytes};
 ghost use Rattle.gn_top.specs.Hosts.{IsRoot};
 
-use crate::{Host, run_gn, run_one};
+use crate::{Host, One, run_gn, run_one};
 use gn_outside::{Tree, TreeSink, TreeSource};
 use std::alloc::{AllocError, Global};
 use std::test::Fail;
+use std::thread::Threads;
 
 const USAGE: &str = "usage: gn gen|ls|desc|refs|path|check|args|sample ...\n";
 
@@ -38,24 +39,37 @@ fn source(alloc: Global, file: Option<&str>, failing: Vec<u64>) -> Result<TreeSo
     Ok(TreeSource::new(alloc, tree, failing))
 }
 
+// The status and the count of build files that a run ends with, and what it read, said and put.
+#[derive(Drop)]
+struct Run {
+    one: One,
+    source: TreeSource,
+    sink: TreeSink,
+}
+
+// A run over a tree with this build file.
+fn run_over<R: Threads + Sync>(
+    rt: &R,
+    alloc: Global,
+    line: &str,
+    file: Option<&str>,
+) -> Result<Run, AllocError> {
+    let host = host(alloc)?;
+    let words = words(alloc, line)?;
+    let mut source = source(alloc, file, Vec::new(alloc))?;
+    let mut sink = TreeSink::new(alloc, Vec::new(alloc));
+    let one = run_one(rt, alloc, &words, &host, &mut source, &mut sink);
+    Ok(Run { one, source, sink })
+}
+
 #[test]
 fn a_run_says_the_meaning_of_its_words(rt: HostRuntime) -> Result<(), Fail> {
     let alloc = rt.alloc();
-    let host = host(alloc)?;
     let absent = "ERROR at //BUILD.gn:1:1: No such file \"//BUILD.gn\".\n";
-    let excluded = "ERROR at //BUILD.gn:1:1: \"//BUILD.gn\" is not in this profile.\n";
     for (line, file, status, text, reads) in [
         ("ls out", Some(GROUPS), 0, "//:a\n//:b\n", 1),
         ("ls _A9", Some(""), 0, "", 1),
         ("ls out", None, 1, absent, 1),
-        ("ls out", Some("x = 1\n"), 1, excluded, 1),
-        (
-            "ls out",
-            Some("group(\"a\") {\n}\ngroup(\"a\") {\n}\n"),
-            1,
-            excluded,
-            1,
-        ),
         ("", Some(GROUPS), 2, USAGE, 0),
         ("frob", Some(GROUPS), 2, USAGE, 0),
         ("gen", Some(GROUPS), 2, USAGE, 0),
@@ -64,22 +78,16 @@ fn a_run_says_the_meaning_of_its_words(rt: HostRuntime) -> Result<(), Fail> {
         ("ls a-b", None, 2, USAGE, 0),
         ("ls out --threads=1", Some(GROUPS), 2, USAGE, 0),
     ] {
-        let mut source = source(alloc, file, Vec::new(alloc))?;
-        let mut sink = TreeSink::new(alloc, Vec::new(alloc));
-        let one = run_one(
-            &rt,
-            alloc,
-            &words(alloc, line)?,
-            &host,
-            &mut source,
-            &mut sink,
-        );
-        assert_eq!(rt; one.status, status, "at {line}");
-        assert!(rt; sink.said() == text.as_bytes(), "at {line}");
-        assert_eq!(rt; one.units, reads, "at {line}");
-        assert!(rt; source.read_path(0).is_some() == (reads == 1), "at {line}");
+        let run = run_over(&rt, alloc, line, file)?;
+        assert_eq!(rt; run.one.status, status, "at {line}");
+        assert!(rt; run.sink.said() == text.as_bytes(), "at {line}");
+        assert_eq!(rt; run.one.units, reads, "at {line}");
         assert!(rt;
-            source.read_path(1).is_none() && sink.file(0).is_none(),
+            run.source.read_path(0).is_some() == (reads == 1),
+            "at {line}"
+        );
+        assert!(rt;
+            run.source.read_path(1).is_none() && run.sink.file(0).is_none(),
             "at {line}"
         );
     }
@@ -87,21 +95,174 @@ fn a_run_says_the_meaning_of_its_words(rt: HostRuntime) -> Result<(), Fail> {
 }
 
 #[test]
+fn a_file_says_its_lines_and_then_its_labels(rt: HostRuntime) -> Result<(), Fail> {
+    let alloc = rt.alloc();
+    for (file, text) in [
+        ("a = [ 1 ]\na = []\na = [ 2 ]\nprint(a)\n", "[2]\n"),
+        (
+            "group(\"g\") {\n  x = 1\n  print(x)\n  x += 1\n}\n",
+            "1\n//:g\n",
+        ),
+        ("print([ 1, 2, 1 ] - [ 1 ])\n", "[2]\n"),
+        (
+            "i = 7\nl = [ 1, 2 ]\nforeach(i, l) {\n  l += [ i ]\n}\nprint(i, l)\n",
+            "7 [1, 2, 1, 2]\n",
+        ),
+        ("print(\"a$0x0Ab\")\n", "a\nb\n"),
+        ("print(\"a\\n\")\n", "a\\n\n"),
+        ("# only a comment", ""),
+        (
+            "group(\"a\"){deps=[\":b\",]}group(\"b\"){deps=[]}",
+            "//:a\n//:b\n",
+        ),
+        (
+            "a = [ 1 ]\ngroup(\"g\") {\n  a += [ 2 ]\n  print(a)\n}\nprint(a)\n",
+            "[1, 2]\n[1]\n//:g\n",
+        ),
+        (
+            "group(\"z\") {\n}\ngroup(\"a/b\") {\n}\ngroup(\"Z\") {\n}\n",
+            "//:Z\n//:a/b\n//:z\n",
+        ),
+        ("print(false && nope, true || nope)\n", "false true\n"),
+        (
+            "foreach(v, [ 1, 2 ]) {\n  print(v)\n}\nprint(defined(v))\n",
+            "1\n2\nfalse\n",
+        ),
+        (
+            "a = { x = 1 }\nb = a\nb.x = 2\nprint(a.x, b.x, b[\"x\"])\n",
+            "1 2 2\n",
+        ),
+    ] {
+        let run = run_over(&rt, alloc, "ls out", Some(file))?;
+        assert_eq!(rt; run.one.status, 0, "at {file}");
+        assert!(rt; run.sink.said() == text.as_bytes(), "at {file}");
+    }
+    Ok(())
+}
+
+#[test]
+fn a_fault_is_said_with_its_place(rt: HostRuntime) -> Result<(), Fail> {
+    let alloc = rt.alloc();
+    for (file, place, text) in [
+        ("@\n", "1:1", "Invalid token."),
+        ("x = 01\n", "1:5", "Invalid number."),
+        ("x = \"abc\n", "1:5", "Unterminated string literal."),
+        ("x = \"a$\"\n", "1:7", "Invalid expansion in string."),
+        ("a = 1\ny = a -1\nprint(y)\n", "2:7", "Unexpected token."),
+        ("x = = @\n", "1:5", "Unexpected token."),
+        ("x =\n", "2:1", "Unexpected token."),
+        ("group(\"a:b\") {\n}\n", "1:1", "Invalid label."),
+        ("group(\"a*\") {\n  x = 1\n}\n", "1:1", "Invalid label."),
+        ("x = 1 + true\n", "1:7", "Wrong type of value."),
+        ("x = print(1)\n", "1:5", "Wrong type of value."),
+        ("x = 9223372036854775807 + 1\n", "1:25", "Integer overflow."),
+        (
+            "print([ 2 ] - [ 3 ])\n",
+            "1:13",
+            "Item not found in the list.",
+        ),
+        ("x = [ 1 ]\ny = x[1]\n", "2:6", "Index out of range."),
+        (
+            "print(defined(q.x))\n",
+            "1:15",
+            "Undefined identifier \"q\".",
+        ),
+        (
+            "a = [ 1 ]\na = [ 2 ]\nprint(a)\n",
+            "2:3",
+            "Replacing nonempty list or scope \"a\".",
+        ),
+        (
+            "group(\"g\") {\n  x = 1\n}\n",
+            "2:5",
+            "Assignment had no effect: \"x\".",
+        ),
+        (
+            "a = 1\nb = 2\na = 3\n",
+            "2:3",
+            "Assignment had no effect: \"b\".",
+        ),
+        ("if (1) {\n}\n", "1:5", "Condition is not a boolean."),
+        ("nope()\n", "1:1", "Unknown function \"nope\"."),
+        ("print(1) {\n}\n", "1:1", "Wrong arguments to \"print\"."),
+        ("assert(false)\n", "1:1", "Assertion failed."),
+        (
+            "assert(1 == 2, \"one is \" + 1)\n",
+            "1:1",
+            "Assertion failed. one is 1",
+        ),
+        (
+            "exec_script(\"x.py\")\n",
+            "1:1",
+            "\"exec_script\" is not in this profile.",
+        ),
+        (
+            "group(\"a\") {\n  deps = 1\n}\n",
+            "1:1",
+            "Wrong type for \"deps\".",
+        ),
+        (
+            "group(\"a\") {\n  deps = [ 1 ]\n}\n",
+            "1:1",
+            "Wrong type for \"deps\".",
+        ),
+        (
+            "group(\"a\") {\n}\ngroup(\"a\") {\n}\n",
+            "3:1",
+            "Duplicate item \"//:a\".",
+        ),
+        (
+            "print(1)\nprint(nope)\n",
+            "2:7",
+            "Undefined identifier \"nope\".",
+        ),
+    ] {
+        let run = run_over(&rt, alloc, "ls out", Some(file))?;
+        assert_eq!(rt; run.one.status, 1, "at {file}");
+        let line = format!(in alloc; "ERROR at //BUILD.gn:{place}: {text}\n")?;
+        assert!(rt; run.sink.said() == line.as_bytes(), "at {file}");
+        assert_eq!(rt; run.one.units, 1, "at {file}");
+    }
+    Ok(())
+}
+
+// A text so many times.
+fn repeated(alloc: Global, text: &str, times: usize) -> Result<String, AllocError> {
+    let mut long = String::new(alloc);
+    for _ in 0..times {
+        long.push_str(text)?;
+    }
+    Ok(long)
+}
+
+#[test]
 fn a_file_of_the_limit_is_read_and_a_longer_one_is_too_big(rt: HostRuntime) -> Result<(), Fail> {
     let alloc = rt.alloc();
-    let host = host(alloc)?;
-    let words = words(alloc, "ls out")?;
     let too_big = "ERROR at //BUILD.gn:1:1: File \"//BUILD.gn\" is too big.\n";
     for (size, status, text) in [(16_777_216, 0, ""), (16_777_217, 1, too_big)] {
-        let mut spaces = Vec::new(alloc);
-        spaces.resize(size, b' ')?;
-        let mut tree = Tree::new(alloc);
-        tree.put("//BUILD.gn", &spaces)?;
-        let mut source = TreeSource::new(alloc, tree, Vec::new(alloc));
-        let mut sink = TreeSink::new(alloc, Vec::new(alloc));
-        let one = run_one(&rt, alloc, &words, &host, &mut source, &mut sink);
-        assert_eq!(rt; one.status, status);
-        assert!(rt; sink.said() == text.as_bytes());
+        let spaces = repeated(alloc, " ", size)?;
+        let run = run_over(&rt, alloc, "ls out", Some(spaces.as_str()))?;
+        assert_eq!(rt; run.one.status, status);
+        assert!(rt; run.sink.said() == text.as_bytes());
+    }
+    Ok(())
+}
+
+#[test]
+fn brackets_nest_up_to_the_limit(rt: HostRuntime) -> Result<(), Fail> {
+    let alloc = rt.alloc();
+    for (depth, status) in [(200, 0), (201, 1)] {
+        let open = repeated(alloc, "[", depth)?;
+        let close = repeated(alloc, "]", depth)?;
+        let file = format!(in alloc; "x = {open}{close}\nprint(x)\n")?;
+        let run = run_over(&rt, alloc, "ls out", Some(file.as_str()))?;
+        assert_eq!(rt; run.one.status, status);
+        let line = if status == 0 {
+            format!(in alloc; "{open}{close}\n")?
+        } else {
+            String::from_str(alloc, "ERROR at //BUILD.gn:1:205: Nesting is too deep.\n")?
+        };
+        assert!(rt; run.sink.said() == line.as_bytes());
     }
     Ok(())
 }

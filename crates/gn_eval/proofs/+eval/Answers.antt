@@ -111,16 +111,16 @@ functions::run_loop-returns-in-List-clause-runs g t c = λ a.
 pub functions::run_foreach-returns-in_err-value-clause-runs : goal.functions::run_foreach-returns-in_err-value-clause-runs
 functions::run_foreach-returns-in_err-value-clause-runs g t c = λ a.
     let es : c.args.call.now.arguments ≡ expr_then (name_expr c.in-Name.position c.in-Name.name) (expr_then (expr_of c.list-item.result) no_exprs) =
-        sym c.as_slice.ensures.exprs ∙ two_exprs c.as_slice.result.now c.variable-item.result c.list-item.result c.in-len2.len_at_least c.in-len2.len_below c.variable-item.is c.list-item.is
-        ∙ ap (λ (x : Expr). expr_then (expr_of x) (expr_then (expr_of c.list-item.result) no_exprs)) c.in-Name.is in
+    sym c.as_slice.ensures.exprs ∙ two_exprs c.as_slice.result.now c.variable-item.result c.list-item.result c.in-len2.len_at_least c.in-len2.len_below c.variable-item.is c.list-item.is
+    ∙ ap (λ (x : Expr). expr_then (expr_of x) (expr_then (expr_of c.list-item.result) no_exprs)) c.in-Name.is in
     let e = foreach_two a c.args.call.now.arguments c.args.call.now.block c.in-Some.block c.in-Name.position c.in-Name.name (expr_of c.list-item.result) c.args.call.now.position c.args.call.now.name c.args.env.now c.args.out.now es c.in-Some.is in
     grind (arith, common_steps, e)
 
 pub functions::run_foreach-returns-clause-runs : goal.functions::run_foreach-returns-clause-runs
 functions::run_foreach-returns-clause-runs g t c = λ a.
     let es : c.args.call.now.arguments ≡ expr_then (name_expr c.in-Name.position c.in-Name.name) (expr_then (expr_of c.list-item.result) no_exprs) =
-        sym c.as_slice.ensures.exprs ∙ two_exprs c.as_slice.result.now c.variable-item.result c.list-item.result c.in-len2.len_at_least c.in-len2.len_below c.variable-item.is c.list-item.is
-        ∙ ap (λ (x : Expr). expr_then (expr_of x) (expr_then (expr_of c.list-item.result) no_exprs)) c.in-Name.is in
+    sym c.as_slice.ensures.exprs ∙ two_exprs c.as_slice.result.now c.variable-item.result c.list-item.result c.in-len2.len_at_least c.in-len2.len_below c.variable-item.is c.list-item.is
+    ∙ ap (λ (x : Expr). expr_then (expr_of x) (expr_then (expr_of c.list-item.result) no_exprs)) c.in-Name.is in
     let e = foreach_two a c.args.call.now.arguments c.args.call.now.block c.in-Some.block c.in-Name.position c.in-Name.name (expr_of c.list-item.result) c.args.call.now.position c.args.call.now.name c.args.env.now c.args.out.now es c.in-Some.is in
     grind (arith, common_steps, e)
 
@@ -133,8 +133,8 @@ functions::run_item-returns-clause-runs g t c = λ a.
 pub functions::run_defined-returns-in-Item-clause-runs : goal.functions::run_defined-returns-in-Item-clause-runs
 functions::run_defined-returns-in-Item-clause-runs g t c = λ a.
     let es : c.args.call.now.arguments ≡ expr_then (item_expr c.in-Item.position c.in-Item.base c.in-Item.bracket c.in-Item.index) no_exprs =
-        sym c.as_slice.ensures.exprs ∙ one_expr c.as_slice.result.now c.argument-item.result c.in-len1.len_at_least c.in-len1.len_below c.argument-item.is
-        ∙ ap (λ (x : Expr). expr_then (expr_of x) no_exprs) c.in-Item.is in
+    sym c.as_slice.ensures.exprs ∙ one_expr c.as_slice.result.now c.argument-item.result c.in-len1.len_at_least c.in-len1.len_below c.argument-item.is
+    ∙ ap (λ (x : Expr). expr_then (expr_of x) no_exprs) c.in-Item.is in
     let none : c.args.call.now.block ≡ None = grind (arith, common_steps) in
     let e = defined_item a c.args.call.now.arguments c.args.call.now.block c.in-Item.position c.in-Item.base c.in-Item.bracket c.in-Item.index c.args.call.now.position c.args.call.now.name c.args.env.now c.args.out.now es none in
     subst (λ (r : Run (Option Val)). IsRun (option_map val_of) c.has_item.result c.has_item.new.env c.has_item.new.out r) (sym e) (c.has_item.ensures.runs a)
