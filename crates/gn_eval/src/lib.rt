@@ -1,10 +1,25 @@
-//! A stand-in for the evaluator: its contracts, with a body that gives up.
+//! The evaluator: what a block of the language does.
 #![tactic(auto)]
 
+mod assignments;
+mod blocks;
+mod calls;
+mod collections;
 mod definer;
 mod ending;
-mod run;
+mod expressions;
+mod faults;
+mod functions;
+mod items;
+mod names;
+mod operations;
+mod operators;
+mod statements;
+mod strings;
 
+pub use blocks::{run_block, run_file};
 pub use definer::{DefineError, Definer};
 pub use ending::EvalEnd;
-pub use run::run_file;
+
+#[cfg(test)]
+mod tests;

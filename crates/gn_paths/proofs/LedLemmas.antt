@@ -30,10 +30,10 @@ slash_utf8 : is_utf8 (47 ∷ []) ≡ true
 unfolding is_utf8 chars encode
 slash_utf8 = refl
 
-clean-slash : IsClean (47 ∷ [])
+pub clean-slash : IsClean (47 ∷ [])
 clean-slash = record { bytes = refl; utf8 = IsUtf8-from_is_utf8 (47 ∷ []) slash_utf8 }
 
-clean-nil : IsClean []
+pub clean-nil : IsClean []
 clean-nil = record { bytes = refl; utf8 = ([], (refl, refl)) }
 
 -- both sides of a slash

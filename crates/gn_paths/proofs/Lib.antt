@@ -1,4 +1,6 @@
 pub mod NormalLemmas
+pub mod ReadingLemmas
+pub mod CleanLemmas
 pub mod PieceLemmas
 pub mod BufferLemmas
 pub mod ResolveLemmas

@@ -1,13 +1,12 @@
 -- The buffer holds what the components spell, and what a text leads to is in normal form.
-use Rattle.std.proofs.Common.{◌≡◌, ℕ, ◌<◌, Bool, true, false, cond, ◌||◌, List, [], ◌∷◌, ◌++◌, length, take, Option, None, Some, Ok, Err, option_and_then, option_map, refl, sym, ap, ◌∙◌, subst, arith, eqb, append_assoc, ◌⊎◌, inl, inr}
+use Rattle.std.proofs.Common.{◌≡◌, ℕ, ◌<◌, Bool, true, false, cond, ◌||◌, List, [], ◌∷◌, ◌++◌, length, take, Option, None, Some, Ok, Err, option_and_then, option_map, refl, sym, ap, ◌∙◌, subst, arith, eqb, append_assoc}
 use Rattle.std.specs.Option.{ok_or}
 use Rattle.std.specs.List.{All, before_last}
 use Rattle.std.specs.Str.{bytes_eq}
 use Rattle.std.proofs.lemmas.Bool.Decides.{Decides-eqb}
 use Rattle.std.proofs.lemmas.List.{append-nil, take_at, length-append, get_or_at}
 use Rattle.std.proofs.lemmas.List.Elements.{All-head, All-tail, All-take, All-push}
-use Rattle.gn_paths.specs.declared.error.PathError.{PathError}
-use Rattle.gn_paths.specs.declared.error.PathError.TheVariants.{AboveRoot, BadPath, Memory}
+use Rattle.gn_paths.specs.declared.error.PathError.TheVariants.{AboveRoot, BadPath}
 use Rattle.gn_paths.specs.Components.{is_slash, slash, two_dots, HasNoSlash, pieces, trail, top_of, is_absolute, is_system, components, spelled, ends_in_slash}
 use Rattle.gn_paths.specs.Normal.{is_path_text}
 use Rattle.gn_paths.specs.Resolve.{stays_there, without_last, stepped, walked, start_of, led, resolved}
@@ -147,11 +146,10 @@ resolved_not_bad current text e h = by (is_system text) refl
     by true s = let q = sym (resolved-system current text e s) ∙ h in cc
     by false s = never (led (start_of current text) text) (sym (resolved-led current text e s) ∙ h)
 
--- what is told where the text leads above the root
-pub led_failed : (current text start : List ℕ) (e : PathError) → start ≡ start_of current text → is_path_text text ≡ true → is_system text ≡ false → is_absolute start ≡ true → (e ≡ Memory) ⊎ ((e ≡ AboveRoot) × (buffer_led start text ≡ None)) → (e ≡ Memory) ⊎ (resolved current text ≡ Err e)
-led_failed current text start e same p s a (inl m) = inl m
-led_failed current text start e same p s a (inr w) =
-    inr (resolved-led current text p s ∙ ap (λ o. ok_or o AboveRoot) (ap (λ b. led b text) (sym same) ∙ sym (buffer_led-path start text a) ∙ w.1) ∙ ap Err (sym w.0))
+-- what a text means that leads above the root, and one that leads to a path
+pub led_none : (current text start : List ℕ) → start ≡ start_of current text → is_path_text text ≡ true → is_system text ≡ false → is_absolute start ≡ true → buffer_led start text ≡ None → resolved current text ≡ Err AboveRoot
+led_none current text start same p s a h =
+    resolved-led current text p s ∙ ap (λ o. ok_or o AboveRoot) (ap (λ b. led b text) (sym same) ∙ sym (buffer_led-path start text a) ∙ h)
 
 pub led_found : (current text start path : List ℕ) → start ≡ start_of current text → is_path_text text ≡ true → is_system text ≡ false → is_absolute start ≡ true → buffer_led start text ≡ Some path → resolved current text ≡ Ok path
 led_found current text start path same p s a h =

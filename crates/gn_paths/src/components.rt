@@ -1,41 +1,15 @@
 // The forms of a path's text, and its pieces.
 
 ghost use Rattle.std.specs.Prelude.{◌≡◌, ◌≤◌, length};
-ghost use Rattle.std.specs.List.{list_all, position_or_len};
-ghost use Rattle.std.specs.Str.{is_utf8};
+ghost use Rattle.std.specs.List.{position_or_len};
 ghost use Rattle.gn_paths.specs.Components.{is_slash, is_source, is_system, is_absolute, ends_in_slash, without_final_slash, top_of};
-ghost use Rattle.gn_paths.specs.Normal.{is_path_byte, is_path_text};
+ghost use Rattle.gn_paths.specs.Normal.{is_path_byte};
 
-fn is_path_byte(byte: u8) -> bool
+// Whether a byte may stand in a path.
+pub(crate) fn is_path_byte(byte: u8) -> bool
     ensures { result ≡ is_path_byte byte }
 {
     byte != 0 && byte != b'\n'
-}
-
-fn is_utf8(text: &[u8]) -> bool
-    ensures { result ≡ is_utf8 text.now }
-{
-    match str::from_utf8(text) {
-        Ok(_) => true,
-        Err(_) => false,
-    }
-}
-
-fn has_path_bytes(text: &[u8]) -> bool
-    ensures { result ≡ list_all is_path_byte text.now }
-{
-    text.iter().all(|byte| is_path_byte(*byte))
-}
-
-// Whether a text may name a path.
-#[tactic(auto, using(crate::proofs::NormalLemmas::bytes_eq_nil), unfolding(crate::specs::Normal::is_path_text))]
-pub(crate) fn is_path_text(text: &[u8]) -> bool
-    ensures { result ≡ is_path_text text.now }
-{
-    if text.is_empty() || !has_path_bytes(text) {
-        return false;
-    }
-    is_utf8(text)
 }
 
 // Whether a path stands in the source tree.

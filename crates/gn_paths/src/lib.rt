@@ -6,6 +6,7 @@ mod error;
 mod parts;
 mod path;
 mod place;
+mod reading;
 mod rebasing;
 mod resolving;
 mod text;

@@ -1,18 +1,19 @@
 // The path that a text means at a current directory.
 
-ghost use Rattle.std.specs.Prelude.{◌≡◌, ◌⊎◌, Some, None, Ok, Err, MatchResult, IfOk, IfErr, OnErr, OnOk, IsTrue, ◌++◌, ◌∷◌, length};
+ghost use Rattle.std.specs.Prelude.{◌≡◌, ◌⊎◌, true, if◌then◌else◌, Some, None, Ok, Err, MatchResult, IfOk, IfErr, OnErr, OnOk, IsTrue, ◌++◌, ◌∷◌, length};
 ghost use Rattle.std.specs.List.{before_last};
-ghost use Rattle.gn_paths.specs.Components.{is_slash, pieces};
-ghost use Rattle.gn_paths.specs.Normal.{is_path_text, IsNormal};
+ghost use Rattle.gn_paths.specs.Components.{is_slash, pieces, without_final_slash};
+ghost use Rattle.gn_paths.specs.declared.error.PathError.TheVariants.{BadPath};
+ghost use Rattle.gn_paths.specs.Normal.{IsNormal};
+ghost use Rattle.gn_paths.specs.Reading.{is_clean, IsFault};
 ghost use Rattle.gn_paths.specs.Resolve.{start_of, resolved, stays_there};
 ghost use Rattle.gn_paths.specs.Buffer.{buffer_stepped, buffer_walked, buffer_closed, buffer_led};
 
-use crate::components::{
-    ends_in_slash, is_path_text, is_source, is_system, piece_len, top_len, without_final_slash,
-};
+use crate::components::{ends_in_slash, is_source, is_system, top_len, without_final_slash};
 use crate::error::PathError;
 use crate::parts::len_after;
 use crate::path::Path;
+use crate::reading::{clean_piece_len, is_clean};
 use crate::text::Text;
 use std::alloc::{AllocError, Global};
 
@@ -26,11 +27,11 @@ pub fn resolve(alloc: Global, current: &Path, text: &[u8]) -> Result<Path, PathE
     ensures err { IfErr result (λ e. (e ≡ PathError.Memory) ⊎ (resolved current.now text.now ≡ Err e)) }
     ensures bad { resolved current.now text.now ≡ Err PathError.BadPath → result ≡ Err PathError.BadPath }
 {
-    if !is_path_text(text) {
+    if text.is_empty() {
         return Err(PathError::BadPath);
     }
     if is_system(text) {
-        let path = Text::from_bytes(alloc, text)?;
+        let path = keep(alloc, text)?;
         return Ok(Path::from_normal(path));
     }
     let path = lead(alloc, start_of(current, text), text)?;
@@ -48,32 +49,66 @@ fn start_of<'a>(current: &'a Path, text: &[u8]) -> &'a [u8]
     }
 }
 
+// The text of a path that stays as it stands.
+fn keep(alloc: Global, text: &[u8]) -> Result<Text, PathError>
+    ensures { MatchResult result (λ path. (is_clean text.now ≡ true) × (path ≡ text.now)) (λ e. IsFault text.now (Some text.now) e) }
+{
+    if !is_clean(text) {
+        return Err(PathError::BadPath);
+    }
+    Ok(Text::from_bytes(alloc, text)?)
+}
+
+// What is told where `error` came and `rest` isn't read yet: what keeps it from naming a path goes first.
+fn fault(rest: &[u8], error: PathError) -> PathError
+    ensures { result ≡ (if is_clean rest.now then error else BadPath) }
+{
+    if is_clean(rest) {
+        error
+    } else {
+        PathError::BadPath
+    }
+}
+
 // The bytes of the path to which a text leads from a directory.
 fn lead(alloc: Global, start: &[u8], text: &[u8]) -> Result<Vec<u8>, PathError>
-    ensures { MatchResult result (λ path. buffer_led start.now text.now ≡ Some path.items) (λ e. (e ≡ PathError.Memory) ⊎ ((e ≡ PathError.AboveRoot) × (buffer_led start.now text.now ≡ None))) }
+    ensures { MatchResult result (λ path. (is_clean text.now ≡ true) × (buffer_led start.now text.now ≡ Some path.items)) (λ e. IsFault text.now (buffer_led start.now text.now) e) }
 {
     let top = top_len(start);
-    let base = without_final_slash(start);
-    let mut buffer = Vec::with_capacity(alloc, base.len() + text.len() + 1)?;
-    buffer.extend_from_slice(base)?;
+    let mut buffer = match begin(alloc, start, text) {
+        Ok(buffer) => buffer,
+        Err(error) => return Err(fault(text, error.into())),
+    };
     walk(&mut buffer, top, text)?;
     close(&mut buffer, top, ends_in_slash(text))?;
     Ok(buffer)
 }
 
-// Takes each piece of a text in turn.
+// The bytes of a directory, with room for those of a text that leads on from there.
+fn begin(alloc: Global, start: &[u8], text: &[u8]) -> Result<Vec<u8>, AllocError>
+    ensures { IfOk result (λ buffer. buffer.items ≡ without_final_slash start.now) }
+{
+    let base = without_final_slash(start);
+    let mut buffer = Vec::with_capacity(alloc, base.len() + text.len() + 1)?;
+    buffer.extend_from_slice(base)?;
+    Ok(buffer)
+}
+
+// Takes each piece of a text in turn, as it is read.
 fn walk(buffer: &mut Vec<u8>, top: usize, text: &[u8]) -> Result<(), PathError>
-    ensures { MatchResult result (λ _. buffer_walked top buffer.old.items (pieces text.now) ≡ Some buffer.new.items) (λ e. (e ≡ PathError.Memory) ⊎ ((e ≡ PathError.AboveRoot) × (buffer_walked top buffer.old.items (pieces text.now) ≡ None))) }
+    ensures { MatchResult result (λ _. (is_clean text.now ≡ true) × (buffer_walked top buffer.old.items (pieces text.now) ≡ Some buffer.new.items)) (λ e. IsFault text.now (buffer_walked top buffer.old.items (pieces text.now)) e) }
 {
     let mut rest = text;
-    loop {
-        let n = piece_len(rest);
-        step(buffer, top, &rest[..n])?;
+    while let Some(n) = clean_piece_len(rest) {
+        if let Err(error) = step(buffer, top, &rest[..n]) {
+            return Err(fault(&rest[n..], error));
+        }
         if n == rest.len() {
             return Ok(());
         }
         rest = &rest[n + 1..];
     }
+    Err(PathError::BadPath)
 }
 
 // Whether a piece leads nowhere.

@@ -1,5 +1,5 @@
 -- A layer after an assignment in place: what was assigned, or why it was refused.
-use Rattle.std.proofs.Common.{◌≡◌, ℕ, List, Bool, true, false, cond, Option, Some, None, Result, Ok, Err, OnOk, OnErr, IfErr, IfSome, refl, sym, ap, ◌∙◌, subst}
+use Rattle.std.proofs.Common.{◌≡◌, ℕ, List, Bool, true, false, cond, Some, None, Result, Ok, Err, IfSome, refl, sym, ap, ◌∙◌}
 use Rattle.std.specs.Map.{lookup, set_value, keys_of}
 use Rattle.std.specs.BTreeMap.{is_at}
 use Rattle.std.specs.List.Sorted.{IsStrictlySortedBy}
@@ -8,11 +8,11 @@ use Rattle.gn_values.specs.Val.{Val}
 use Rattle.gn_values.specs.View.{val_of}
 use Rattle.gn_values.specs.declared.error.ValueError.{ValueError}
 use Rattle.gn_values.specs.declared.error.ElementError.{ElementError}
-use Rattle.gn_scopes.specs.Layers.{VariableState, Table, LayerState}
+use Rattle.gn_scopes.specs.Layers.{Table, LayerState}
 use Rattle.gn_scopes.specs.Chains.{variable_in}
 use Rattle.gn_scopes.specs.Assigning.{replaces, unread_after, put, overwritten, overwritten_over, changed_in, changed_here, put_result, replaces_nonempty, has_no_value, operator_refuses, base_has_no_value, element_refuses}
 use Rattle.gn_scopes.specs.Errors.{refusal_of, element_refusal_of, IsRefusalOf, IsElementRefusalOf}
-use Rattle.gn_scopes.specs.View.{variable_state, variables_in}
+use Rattle.gn_scopes.specs.View.{variable_state}
 use Rattle.gn_scopes.specs.declared.variable.Variable.{Variable}
 use Rattle.gn_scopes.specs.declared.error.AssignError.{AssignError}
 use Rattle.gn_scopes.specs.declared.error.AssignError.TheVariants.{Overwrite, Undefined, Value, Memory}

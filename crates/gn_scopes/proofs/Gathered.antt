@@ -7,8 +7,8 @@ use Rattle.std.specs.List.Sorted.{IsStrictlySortedBy}
 use Rattle.gn_values.specs.Val.{Val, IsSortedByName, names_of}
 use Rattle.gn_values.specs.View.{val_of}
 use Rattle.gn_values.proofs.Sorted.{order}
-use Rattle.gn_scopes.specs.Layers.{VariableState, Table, LayerState, values_in}
-use Rattle.gn_scopes.specs.View.{variable_state, variables_in}
+use Rattle.gn_scopes.specs.Layers.{VariableState}
+use Rattle.gn_scopes.specs.View.{variables_in}
 use Rattle.gn_scopes.specs.declared.variable.Variable.{Variable}
 
 abbrev pub pair_value : List ℕ × Variable → List ℕ × Val

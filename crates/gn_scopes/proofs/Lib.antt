@@ -1,7 +1,6 @@
 pub mod Tables
 pub mod Changes
 pub mod Outcomes
-pub mod Earliest
 pub mod Outwards
 pub mod Gathered
 pub mod Levels

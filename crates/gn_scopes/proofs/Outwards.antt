@@ -1,16 +1,14 @@
 -- The first layer that has a name: where it is found, what a read does to it, and that the read changes no value.
-use Rattle.std.proofs.Common.{◌≡◌, ℕ, zero, suc, ◌+◌, ◌<◌, ◌≤◌, Bool, true, false, cond, List, [], ◌∷◌, length, take, get_or, Option, Some, None, option_map, is_some, IsSome, Ordering, refl, sym, ap, ◌∙◌, subst, arith}
+use Rattle.std.proofs.Common.{◌≡◌, ℕ, zero, suc, ◌+◌, ◌<◌, true, false, cond, List, [], ◌∷◌, length, take, get_or, Option, Some, None, option_map, is_some, Ordering, refl, sym, ap, ◌∙◌, subst, arith}
 use Rattle.std.specs.Prelude.{slice_set}
-use Rattle.std.specs.Ordering.{nat_cmp, is_eq, match_ordering, ordering_reverse}
+use Rattle.std.specs.Ordering.{is_eq, match_ordering, ordering_reverse}
 use Rattle.std.specs.declared.cmp.Ordering.TheVariants.{Less, Equal, Greater}
-use Rattle.std.specs.Cmp.Lexicographic.{slice_cmp, nat_list_cmp_total}
-use Rattle.std.specs.Map.{lookup}
-use Rattle.std.specs.BTreeMap.{is_at, insert_entry}
+use Rattle.std.specs.Cmp.Lexicographic.{nat_list_cmp_total}
 use Rattle.gn_values.specs.Val.{Val}
 use Rattle.gn_values.proofs.Sorted.{order, by_answer}
 use Rattle.gn_scopes.specs.Layers.{VariableState, Table, at_name, with_name, LayerState, ChainState}
 use Rattle.gn_scopes.specs.Environment.{Environment, fixed_value, value_of, after_read}
-use Rattle.gn_scopes.specs.Chains.{variable_in, set_in, nearest, variable_of, read_variable, read_of, read_in, read_through, marked, IsFirstAt, chain_value, chain_read, chain_read_of}
+use Rattle.gn_scopes.specs.Chains.{variable_in, nearest, variable_of, read_variable, read_of, read_in, read_through, marked, IsFirstAt, chain_value, chain_read, chain_read_of}
 
 tied : (r : Ordering) → r ≡ ordering_reverse r → r ≡ Equal
 tied Less h = cc
@@ -108,11 +106,6 @@ module _ (name : List ℕ) where
       subst (λ (o : Option VariableState). IsFirstAt name (read_through name l ls o (marked name ls)) (suc i)) (sym f.0) (f.0, stays_first ls i f.1)
 
   -- the value at the place where a name is found
-  pub found_inner : (chain : ChainState) → IsSome (variable_in name chain.inner) → option_map (λ v. v.value) (variable_in name chain.inner) ≡ chain_value name chain
-  unfolding chain_value
-  found_inner chain h =
-      ap (option_map (λ v. v.value)) (sym (nearest_here (variable_in name chain.inner) (variable_of name chain.outer) h))
-
   pub found_outer : (chain : ChainState) (i : ℕ) (x : LayerState) → (variable_in name chain.inner ≡ None) × IsFirstAt name chain.outer i → x ≡ get_or chain.outer i x → option_map (λ v. v.value) (variable_in name x) ≡ chain_value name chain
   unfolding chain_value
   found_outer chain i x f is =

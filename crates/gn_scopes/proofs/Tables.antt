@@ -1,5 +1,5 @@
 -- Tables and lists of entries: what a name stands for, and what setting and taking away does, under another view of the values.
-use Rattle.std.proofs.Common.{◌≡◌, ℕ, List, [], ◌∷◌, map, cond, Bool, true, false, Option, Some, None, option_map, option_copied, Bor, Ordering, refl, sym, ap, ◌∙◌, subst}
+use Rattle.std.proofs.Common.{◌≡◌, ℕ, List, [], ◌∷◌, map, cond, Bool, true, false, Option, Some, None, option_map, option_copied, Bor, Ordering, refl, sym, ap, ◌∙◌}
 use Rattle.std.specs.Cmp.Lexicographic.{slice_cmp, nat_list_cmp_total}
 use Rattle.std.proofs.lemmas.Map.Made.{lookup-map_values}
 use Rattle.gn_values.specs.Val.{Val}

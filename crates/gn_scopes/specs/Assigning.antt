@@ -1,10 +1,10 @@
 -- Assigning: what `=`, `+=` and `-=` do to layers, and which refusal comes.
-use Rattle.std.specs.Prelude.{ℕ, Bool, true, false, ◌&&◌, ◌||◌, if◌then◌else◌, List, [], ◌∷◌, Option, Some, None, option_map, Result, Ok, Err}
+use Rattle.std.specs.Prelude.{ℕ, Bool, true, false, if◌then◌else◌, List, Option, Some, None, option_map, Result, Ok, Err}
 use Rattle.gn_tree.specs.declared.position.Position.{Position}
 use Rattle.gn_tree.specs.declared.operator.AssignOp.{AssignOp}
 use Rattle.gn_tree.specs.declared.operator.AssignOp.TheVariants.{Set, Add, Subtract}
 use Rattle.gn_values.specs.declared.error.ValueError.{ValueError}
-use Rattle.gn_values.specs.Val.{Val, vlist, vscope, Vals, no_vals, val_then, Binds, no_binds, bind_then}
+use Rattle.gn_values.specs.Val.{Val, vlist, vscope, val_then, bind_then}
 use Rattle.gn_values.specs.Assigning.{combined, element_assigned}
 use Rattle.gn_values.specs.declared.error.ElementError.{ElementError}
 use Rattle.gn_scopes.specs.Layers.{VariableState, LayerState, ChainState}

@@ -5,7 +5,7 @@ use Rattle.gn_tree.specs.declared.position.Position.{Position}
 use Rattle.gn_tree.specs.declared.operator.AssignOp.{AssignOp}
 use Rattle.gn_items.specs.declared.stage.Stage.{Stage}
 use Rattle.gn_values.specs.Val.{Val}
-use Rattle.gn_scopes.specs.Layers.{VariableState, Table, at_name, LayerState, FixedState, ChainState, empty_layer, values_in}
+use Rattle.gn_scopes.specs.Layers.{VariableState, Table, at_name, FixedState, ChainState, empty_layer, values_in}
 use Rattle.gn_scopes.specs.Chains.{variable_in, set_in, nearest, chain_value, chain_read, chain_entered, chain_left}
 use Rattle.gn_scopes.specs.Assigning.{Refusal, assigned, ElementRefusal, element_changed}
 use Rattle.gn_scopes.specs.Unread.{reported}

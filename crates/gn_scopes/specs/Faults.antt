@@ -12,5 +12,5 @@ fault_in setting position code detail = record {
   place = Some (record { file = setting.file; line = position.line; column = position.column });
   toolchain = setting.toolchain;
   code = code;
-  detail = detail
+  detail = detail;
 }

@@ -14,3 +14,6 @@ pub use fixed::Fixed;
 pub use layer::Layer;
 pub use scopes::Scopes;
 pub use variable::Variable;
+
+#[cfg(test)]
+mod tests;

@@ -1,7 +1,7 @@
 // The layers of the scopes that are open.
 
 ghost use types.Logic.{sem};
-ghost use Rattle.std.specs.Prelude.{◌≡◌, ◌≢◌, ℕ, List, ◌<◌, [], OnOk, OnErr, IfOk, IfErr, IfSome, IfNone, Some, None, length, option_map};
+ghost use Rattle.std.specs.Prelude.{◌≡◌, ◌+◌, ◌≢◌, ℕ, List, ◌<◌, [], OnOk, OnErr, IfOk, IfErr, IfSome, IfNone, Some, None, length, option_map};
 ghost use Rattle.gn_values.specs.View.{val_of};
 ghost use Rattle.gn_scopes.specs.Layers.{empty_layer};
 ghost use Rattle.gn_scopes.specs.Chains.{variable_in, set_in, variable_of, further_value, marked, IsFirstAt, chain_value, chain_read, chain_entered, chain_left};
@@ -69,6 +69,7 @@ impl Scopes {
     pub fn enter(&mut self, checked: bool) -> Result<(), AllocError>
         ensures ok { OnOk result (self.new ≡ chain_entered checked self.old) }
         ensures err { OnErr result (self.new ≡ self.old) }
+        ensures outer { OnOk result (length self.new.outer ≡ length self.old.outer + 1) }
     {
         self.outer.reserve(1)?;
         let inner = mem::replace(&mut self.inner, Layer::new(self.alloc, checked));
@@ -97,6 +98,7 @@ impl Scopes {
         ensures read { OnOk result (reported self.old.inner ≡ None) }
         ensures unread { IfErr result (λ e. IsReport e (reported self.old.inner)) }
         ensures new { self.new ≡ chain_left self.old }
+        ensures outer { length self.new.outer + 1 ≡ length self.old.outer }
     {
         let layer = self.end();
         if layer.unread().is_none() {
@@ -165,7 +167,9 @@ impl Scopes {
     /// The value of a name, which counts as read from then on. None comes exactly where no layer has it. It takes no
     /// memory.
     pub fn get(&mut self, name: &Text) -> Option<&Value>
-        ensures* read { sem 𝓛 (Ends the_row self.entry (λ chain. chain ≡ chain_read name.now self.old)) }
+        ensures* read { sem 𝓛 (Ends the_row self.entry
+            (λ chain. (chain ≡ chain_read name.now self.old)
+            × (length chain.outer ≡ length self.old.outer))) }
         ensures value { option_map (λ v. val_of v.now) result ≡ chain_value name.now self.old }
     {
         let found = self.mark(name);
@@ -270,9 +274,7 @@ impl Scopes {
     {
         match op {
             AssignOp::Set => self.inner.overwrite(alloc, name, value, position),
-            AssignOp::Add => {
-                self.combine(alloc, name, AssignOp::Add, value, position, beneath)
-            }
+            AssignOp::Add => { self.combine(alloc, name, AssignOp::Add, value, position, beneath) }
             AssignOp::Subtract => {
                 self.combine(alloc, name, AssignOp::Subtract, value, position, beneath)
             }
@@ -303,7 +305,9 @@ impl Scopes {
         ensures outer { length self.new.outer ≡ length self.old.outer }
     {
         if self.inner.has(name) {
-            return self.inner.assign_element(alloc, name, at, op, value, position);
+            return self
+                .inner
+                .assign_element(alloc, name, at, op, value, position);
         }
         let Some(mut copy) = self.copy_of_outer(alloc, name, beneath)? else {
             return Err(ElementAssignError::Undefined);
@@ -334,6 +338,7 @@ impl Scopes {
             (λ r. assigned name.now op (val_of value) position None self.old ≡ Err r)) }
         ensures assigning { IfErr result (λ e. (n : List ℕ) (p : Position) → e ≢ ScopeError.NoEffect n p) }
         ensures err { OnErr result (self.new ≡ self.old) }
+        ensures outer { length self.new.outer ≡ length self.old.outer }
     {
         match self.assign(alloc, name, op, value, position, None) {
             Ok(()) => Ok(()),

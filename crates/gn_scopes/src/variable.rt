@@ -45,11 +45,7 @@ impl Variable {
 
     /// `=`. `Overwrite` comes exactly where a nonempty list or scope would take the place of one of its kind. After a
     /// refusal nothing is changed, and the value is dropped. It takes no memory.
-    pub(crate) fn overwrite(
-        &mut self,
-        value: Value,
-        position: Position,
-    ) -> Result<(), AssignError>
+    pub(crate) fn overwrite(&mut self, value: Value, position: Position) -> Result<(), AssignError>
         ensures ok { OnOk result (replaces (val_of self.old.value) (val_of value) ≡ false) }
         ensures value { OnOk result (self.new.value ≡ value) }
         ensures unread { OnOk result

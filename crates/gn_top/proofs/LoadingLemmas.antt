@@ -2,11 +2,11 @@
 use Rattle.std.proofs.Common.{◌≡◌, ◌≢◌, ℕ, List, refl, sym, ap, ◌∙◌, inl, inr, ◌⊎◌}
 use Rattle.std.specs.Prelude.{Result, Ok, Err}
 use Rattle.gn_tree.specs.Tree.{BlockTree}
-use Rattle.gn_grammar.specs.declared.error.SyntaxError.{SyntaxError}
-use Rattle.gn_grammar.specs.declared.error.SyntaxError.TheVariants.{Memory}
-use Rattle.gn_grammar.specs.Errors.{IsTree, IsError}
-use Rattle.gn_grammar.specs.Laws.{IsFirstError, HasOneAnswer}
-use Rattle.gn_grammar.proofs.OneAnswer.{one_answer}
+use Rattle.gn_syntax.specs.declared.error.SyntaxError.{SyntaxError}
+use Rattle.gn_syntax.specs.declared.error.SyntaxError.TheVariants.{Memory}
+use Rattle.gn_syntax.specs.Errors.{IsTree, IsError}
+use Rattle.gn_syntax.specs.Laws.{IsFirstError, HasOneAnswer}
+use Rattle.gn_syntax.proofs.OneAnswer.{one_answer}
 use Rattle.gn_items.specs.declared.fault.Fault.{Fault}
 use Rattle.gn_items.specs.Effects.{Effects, no_effects}
 use Rattle.gn_scopes.specs.Environment.{Environment}

@@ -4,9 +4,9 @@ use Rattle.gn_paths.specs.declared.place.Place.{Place}
 use Rattle.gn_tokens.specs.declared.token.TokenError.TheVariants.{BadByte, BadNumber, OpenString, BadDollar}
 use Rattle.gn_tree.specs.declared.position.Position.{Position}
 use Rattle.gn_tree.specs.Tree.{BlockTree}
-use Rattle.gn_grammar.specs.declared.error.SyntaxError.{SyntaxError}
-use Rattle.gn_grammar.specs.declared.error.SyntaxError.TheVariants.{Token, Unexpected, TooDeep, Memory}
-use Rattle.gn_grammar.specs.Position.{position_of}
+use Rattle.gn_syntax.specs.declared.error.SyntaxError.{SyntaxError}
+use Rattle.gn_syntax.specs.declared.error.SyntaxError.TheVariants.{Token, Unexpected, TooDeep, Memory}
+use Rattle.gn_syntax.specs.Position.{position_of}
 use Rattle.gn_items.specs.declared.code.Code.{Code}
 use Rattle.gn_items.specs.declared.code.Code.TheVariants as code
 use Rattle.gn_items.specs.declared.fault.Fault.{Fault}

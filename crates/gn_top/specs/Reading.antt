@@ -2,10 +2,10 @@
 use Rattle.std.specs.Prelude.{ℕ, List, ◌⊎◌, Result, Ok, Err}
 use Rattle.std.proofs.Common.{inl, inr}
 use Rattle.gn_tree.specs.Tree.{BlockTree}
-use Rattle.gn_grammar.specs.declared.error.SyntaxError.{SyntaxError}
-use Rattle.gn_grammar.specs.Errors.{IsTree}
-use Rattle.gn_grammar.specs.Laws.{IsFirstError}
-use Rattle.gn_grammar.proofs.OneAnswer.{one_answer}
+use Rattle.gn_syntax.specs.declared.error.SyntaxError.{SyntaxError}
+use Rattle.gn_syntax.specs.Errors.{IsTree}
+use Rattle.gn_syntax.specs.Laws.{IsFirstError}
+use Rattle.gn_syntax.proofs.OneAnswer.{one_answer}
 
 -- the tree that bytes spell, or their first error
 abbrev pub read_as : (bytes : List ℕ) → ((tree : BlockTree) × IsTree bytes tree) ⊎ ((error : SyntaxError) × IsFirstError error bytes) → Result BlockTree SyntaxError

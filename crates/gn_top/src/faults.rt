@@ -1,14 +1,14 @@
 // The faults of the build file that are found before it runs.
 
 ghost use Rattle.std.specs.Prelude.{◌≡◌, ◌≢◌, ◌≤◌, [], ◌∷◌, length, IfOk};
-ghost use Rattle.gn_grammar.specs.Position.{position_of};
+ghost use Rattle.gn_syntax.specs.Position.{position_of};
 ghost use Rattle.gn_top.specs.Texts.{build_file};
 ghost use Rattle.gn_top.specs.Loading.{beginning, build_fault, syntax_fault};
 
 use crate::texts::BUILD_FILE;
-use gn_grammar::{SyntaxError, place_of};
 use gn_items::{Code, Fault, Stage};
 use gn_paths::{Place, Text, Texts};
+use gn_syntax::{SyntaxError, place_of};
 use gn_tokens::TokenError;
 use gn_tree::Position;
 use std::alloc::{AllocError, Global};

@@ -8,10 +8,10 @@ use crate::faults::syntax_fault;
 use crate::groups::Groups;
 use crate::texts::BUILD_FILE;
 use gn_eval::{EvalEnd, run_file};
-use gn_grammar::parse;
 use gn_items::{Outcome, Stage};
 use gn_paths::{Path, Text};
 use gn_scopes::Env;
+use gn_syntax::parse;
 use gn_tree::Block;
 use std::alloc::{AllocError, Global};
 

@@ -53,6 +53,14 @@ impl Items {
         self.items.as_slice()
     }
 
+    /// The items, in order, moved out of the list. It takes no memory.
+    pub fn into_vec(self) -> Vec<Value>
+        ensures { map val_of result.items ≡ self }
+    {
+        let Items { items, .. } = self;
+        items
+    }
+
     /// The item of this number, counted from 0. None comes exactly where there is no such item.
     pub fn get(&self, index: usize) -> Option<&Value>
         ensures { option_map (λ v. val_of v.now) result ≡ slice_get self.now index }

@@ -1,4 +1,4 @@
-use Rattle.std.proofs.Common.{◌<◌, length, sym, ◌∙◌, arith}
+use Rattle.std.proofs.Common.{sym, ◌∙◌, arith}
 use Rattle.gn_scopes.proofs.Outwards.{found_at, lacks_more}
 use Rattle.gn_scopes.proofs.scopes.find.Goals as goal
 

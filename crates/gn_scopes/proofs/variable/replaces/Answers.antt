@@ -1,6 +1,5 @@
-use Rattle.std.proofs.Common.{◌≡◌, ℕ, Bool, true, false, not, IsTrue, ◌↔◌, List, [], ◌∷◌, refl, sym, ◌∙◌, ap}
+use Rattle.std.proofs.Common.{◌≡◌, ℕ, Bool, true, false, not, IsTrue, ◌↔◌, List, [], ◌∷◌, refl}
 use Rattle.gn_values.specs.Val.{Val, vlist, vscope, vals_of, binds_of}
-use Rattle.gn_values.specs.View.{val_of}
 use Rattle.gn_scopes.specs.Assigning.{replaces}
 use Rattle.gn_scopes.proofs.variable.replaces.Goals as goal
 

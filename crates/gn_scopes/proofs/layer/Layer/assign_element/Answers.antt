@@ -1,7 +1,6 @@
-use Rattle.std.proofs.Common.{◌≡◌, Result, Ok, Err, OnOk, OnErr, IfErr, IfSome, sym, ◌∙◌, ap, refl}
 use Rattle.gn_values.specs.View.{val_of}
-use Rattle.gn_values.specs.Assigning.{combined, element_assigned}
-use Rattle.gn_scopes.specs.Assigning.{has_no_value, operator_refuses, base_has_no_value, element_refuses}
+use Rattle.gn_values.specs.Assigning.{element_assigned}
+use Rattle.gn_scopes.specs.Assigning.{base_has_no_value, element_refuses}
 use Rattle.gn_scopes.proofs.Outcomes.{on_ok_both, on_err, if_err}
 use Rattle.gn_scopes.proofs.Changes.{change_absent, changes, stays, element_refused}
 use Rattle.gn_scopes.proofs.layer.Layer.assign_element.Goals as goal

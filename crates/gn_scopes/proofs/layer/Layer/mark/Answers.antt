@@ -1,4 +1,4 @@
-use Rattle.std.proofs.Common.{◌≡◌, refl, sym, ◌∙◌, ap, is_some, None}
+use Rattle.std.proofs.Common.{refl, sym, ◌∙◌, ap, is_some, None}
 use Rattle.gn_scopes.specs.Layers.{LayerState}
 use Rattle.gn_scopes.specs.Chains.{variable_in, read_in}
 use Rattle.gn_scopes.proofs.Outwards.{stays_there}

@@ -1,7 +1,6 @@
-use Rattle.std.proofs.Common.{◌≡◌, Result, Ok, Err, OnOk, OnErr, IfErr, IfSome, Some, true, sym, ◌∙◌, ap, refl}
+use Rattle.std.proofs.Common.{sym, ◌∙◌, ap}
 use Rattle.gn_values.specs.View.{val_of}
 use Rattle.gn_scopes.specs.Assigning.{put}
-use Rattle.gn_scopes.specs.Errors.{refusal_of}
 use Rattle.gn_scopes.specs.View.{variable_state}
 use Rattle.gn_scopes.proofs.Outcomes.{on_ok_three, on_err, if_err_both}
 use Rattle.gn_scopes.proofs.Changes.{absent_in, overwrites, overwrite_refused, overwrite_absent, stays}

@@ -1,5 +1,5 @@
-use Rattle.std.proofs.Common.{◌≡◌, ℕ, List, None, length, sym, subst, ap, ◌∙◌, arith}
-use Rattle.gn_scopes.specs.Layers.{LayerState, ChainState}
+use Rattle.std.proofs.Common.{◌≡◌, ℕ, List, None, sym, subst, ap, ◌∙◌, arith}
+use Rattle.gn_scopes.specs.Layers.{ChainState}
 use Rattle.gn_scopes.specs.Found.{IsFound}
 use Rattle.gn_scopes.specs.declared.scopes.Found.{Found}
 use Rattle.gn_scopes.specs.declared.scopes.Found.TheVariants.{Outer}

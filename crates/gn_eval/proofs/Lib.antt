@@ -1,0 +1,3 @@
+pub mod Sequence
+pub mod Joined
+pub mod Arguments

@@ -1,0 +1,106 @@
+// Faults where an evaluation takes place.
+
+ghost use Rattle.std.specs.Prelude.{◌≡◌, [], ◌∷◌, IfOk};
+ghost use Rattle.gn_scopes.specs.Faults.{fault_in};
+ghost use Rattle.gn_meaning.specs.Words.{code_of, element_detail};
+ghost use Rattle.gn_values.specs.View.{val_of};
+ghost use Rattle.gn_eval.specs.Ends.{IsFault, IsRefusal};
+
+use crate::ending::EvalEnd;
+use gn_items::{Code, Fault};
+use gn_paths::{Text, Texts};
+use gn_scopes::Env;
+use gn_tree::Position;
+use gn_values::{Value, ValueError, print_text};
+use std::alloc::{AllocError, Global};
+
+// The fault with this code and one detail at a position of the file that is evaluated.
+fn fault_with(
+    alloc: Global,
+    env: &Env,
+    code: Code,
+    position: Position,
+    detail: &Text,
+) -> Result<Fault, AllocError>
+    ensures { IfOk result (λ f. f ≡ fault_in env.now.setting position code (detail.now ∷ [])) }
+{
+    let mut details = Texts::new(alloc);
+    details.push(detail.copy(alloc)?)?;
+    env.fault(alloc, code, position, details)
+}
+
+/// The end of an evaluation with a fault without details.
+pub(crate) fn wrong(alloc: Global, env: &Env, code: Code, position: Position) -> EvalEnd
+    ensures { IsFault result (fault_in env.now.setting position code []) }
+{
+    match env.fault(alloc, code, position, Texts::new(alloc)) {
+        Ok(fault) => EvalEnd::Wrong(fault),
+        Err(_) => EvalEnd::Memory,
+    }
+}
+
+/// The end of an evaluation with a fault that has one detail.
+pub(crate) fn wrong_with(
+    alloc: Global,
+    env: &Env,
+    code: Code,
+    position: Position,
+    detail: &Text,
+) -> EvalEnd
+    ensures { IsFault result (fault_in env.now.setting position code (detail.now ∷ [])) }
+{
+    match fault_with(alloc, env, code, position, detail) {
+        Ok(fault) => EvalEnd::Wrong(fault),
+        Err(_) => EvalEnd::Memory,
+    }
+}
+
+// The code of what an operator refuses.
+fn code_of(error: ValueError) -> Code
+    ensures { result ≡ code_of error }
+{
+    match error {
+        ValueError::BadTypes => Code::BadTypes,
+        ValueError::Overflow => Code::Overflow,
+        ValueError::NotInList => Code::NotInList,
+        ValueError::BadIndex => Code::BadIndex,
+        ValueError::Undefined => Code::Undefined,
+        ValueError::TooLong | ValueError::Memory => Code::TooLong,
+    }
+}
+
+/// The end of an evaluation whose operator refuses, at its position.
+pub(crate) fn refused(alloc: Global, env: &Env, error: ValueError, position: Position) -> EvalEnd
+    ensures { IsRefusal error result (fault_in env.now.setting position (code_of error) []) }
+{
+    match error {
+        ValueError::Memory => EvalEnd::Memory,
+        _ => wrong(alloc, env, code_of(error), position),
+    }
+}
+
+// An absent entry of the scope, with the subscript as its name.
+fn absent(alloc: Global, env: &Env, at: &Value, position: Position) -> EvalEnd
+    ensures { IsFault result (fault_in env.now.setting position (code_of ValueError.Undefined) (element_detail ValueError.Undefined (val_of at.now))) }
+{
+    match print_text(alloc, at, false) {
+        Ok(name) => wrong_with(alloc, env, Code::Undefined, position, &name),
+        Err(_) => EvalEnd::Memory,
+    }
+}
+
+/// The end of an evaluation whose subscript finds no element, at the position of the subscript.
+pub(crate) fn refused_element(
+    alloc: Global,
+    env: &Env,
+    error: ValueError,
+    at: &Value,
+    position: Position,
+) -> EvalEnd
+    ensures { IsRefusal error result (fault_in env.now.setting position (code_of error) (element_detail error (val_of at.now))) }
+{
+    match error {
+        ValueError::Undefined => absent(alloc, env, at, position),
+        _ => refused(alloc, env, error, position),
+    }
+}

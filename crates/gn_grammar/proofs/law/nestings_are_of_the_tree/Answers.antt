@@ -1,5 +1,0 @@
-use Rattle.gn_grammar.proofs.Nestings.{nestings_of_tree}
-use Rattle.gn_grammar.proofs.law.nestings_are_of_the_tree.Goals as goal
-
-pub returns : goal.returns
-returns c = nestings_of_tree

@@ -1,0 +1,9 @@
+use Rattle.std.proofs.Common.{◌≡◌, ◌≤◌, length}
+use Rattle.gn_paths.specs.Reading.{is_clean}
+use Rattle.gn_paths.proofs.reading.is_clean.Given as goal
+
+abbrev pub invariant-loop-n : goal.invariant-loop-n
+invariant-loop-n l = (length l.rest ≤ length l.text) × (is_clean l.rest ≡ is_clean l.text)
+
+abbrev pub decreases-loop-n : goal.decreases-loop-n
+decreases-loop-n l = length l.rest

@@ -1,0 +1,339 @@
+// Each call once, with ample memory, and the rules of names that nothing reads.
+
+ghost use Rattle.std.specs.Prelude.{◌≡◌};
+ghost use Rattle.gn_scopes.specs.Environment.{levels};
+
+use crate::{AssignError, ElementAssignError, Env, Fixed, ScopeError, Scopes};
+use gn_items::{Code, Stage};
+use gn_paths::{Path, Text, Texts};
+use gn_tree::{AssignOp, Position};
+use gn_values::{Bindings, Entries, Items, KeptScope, Value, ValueError};
+use std::alloc::{AllocError, Global};
+use std::collections::BTreeMap;
+use std::sync::Arc;
+use std::test::Fail;
+
+fn at(column: u32) -> Position {
+    Position { line: 1, column }
+}
+
+fn text(alloc: Global, bytes: &[u8]) -> Result<Text, AllocError> {
+    Text::from_bytes(alloc, bytes)
+}
+
+fn list(alloc: Global, number: i64) -> Result<Value, ValueError> {
+    let mut items = Items::new(alloc);
+    items.push(Value::Int(number))?;
+    Ok(Value::List(items))
+}
+
+// A fixed layer in which `host_os` is 7.
+fn built_in(alloc: Global) -> Result<Fixed, AllocError> {
+    let mut values = Bindings::new(alloc);
+    values.set(text(alloc, b"host_os")?, Value::Int(7))?;
+    Ok(Fixed::new(KeptScope::new(values, BTreeMap::new(alloc), BTreeMap::new(alloc))))
+}
+
+fn environment(alloc: Global, checked: bool) -> Result<Env, AllocError> {
+    let mut beneath = Vec::new(alloc);
+    beneath.push(Arc::new(alloc, built_in(alloc)?)?)?;
+    Ok(Env::new(
+        alloc,
+        Stage::Loading,
+        text(alloc, b"//t:t")?,
+        text(alloc, b"//BUILD.gn")?,
+        Path::root(alloc)?,
+        checked,
+        beneath,
+    ))
+}
+
+// The integer that a name has, or -1 where it has none.
+fn read(env: &mut Env, alloc: Global, name: &[u8]) -> Result<i64, AllocError>
+    ensures { levels env.new ≡ levels env.old }
+{
+    let name = text(alloc, name)?;
+    match env.look(&name) {
+        Some(Value::Int(n)) => Ok(*n),
+        _ => Ok(-1),
+    }
+}
+
+fn assign(
+    env: &mut Env,
+    alloc: Global,
+    name: &[u8],
+    op: AssignOp,
+    value: Value,
+    column: u32,
+) -> Result<(), AssignError>
+    ensures { levels env.new ≡ levels env.old }
+{
+    let name = text(alloc, name)?;
+    env.assign(alloc, &name, op, value, at(column))
+}
+
+fn assign_item(
+    env: &mut Env,
+    alloc: Global,
+    name: &[u8],
+    index: i64,
+    value: Value,
+    column: u32,
+) -> Result<(), ElementAssignError>
+    ensures { levels env.new ≡ levels env.old }
+{
+    let name = text(alloc, name)?;
+    let index = Value::Int(index);
+    env.assign_element(alloc, &name, &index, AssignOp::Add, value, at(column))
+}
+
+#[derive(Clone, Copy)]
+enum Step {
+    Nothing,
+    Set,
+    Add,
+    Read,
+    Element,
+}
+
+fn run(env: &mut Env, alloc: Global, step: Step, column: u32) -> Result<(), Fail>
+    ensures { levels env.new ≡ levels env.old }
+{
+    match step {
+        Step::Nothing => {}
+        Step::Set => assign(env, alloc, b"x", AssignOp::Set, Value::Int(1), column)?,
+        Step::Add => assign(env, alloc, b"x", AssignOp::Add, list(alloc, 2)?, column)?,
+        Step::Read => {
+            let _value = read(env, alloc, b"x")?;
+        }
+        Step::Element => assign_item(env, alloc, b"x", 0, Value::Int(3), column)?,
+    }
+    Ok(())
+}
+
+fn column_of(found: Option<(&Text, Position)>) -> u32 {
+    match found {
+        Some((_, position)) => position.column,
+        None => 0,
+    }
+}
+
+// Whether the file sets `x = [ 1 ]`, whether the block is checked, three steps of the block in columns 1 to 3, the
+// column that the block's end reports, and the one that the file's end reports, where the file's own is 9. 0 is none.
+type Row = (bool, bool, [Step; 3], u32, u32);
+
+fn rows() -> [Row; 14] {
+    [
+        // The first assignment makes a name unread, a later one moves the place, a read ends it for good.
+        (false, true, [Step::Set, Step::Nothing, Step::Nothing], 1, 0),
+        (false, true, [Step::Set, Step::Set, Step::Nothing], 2, 0),
+        (false, true, [Step::Set, Step::Read, Step::Nothing], 0, 0),
+        (false, true, [Step::Set, Step::Read, Step::Set], 0, 0),
+        // Without a check nothing is reported.
+        (
+            false,
+            false,
+            [Step::Set, Step::Nothing, Step::Nothing],
+            0,
+            0,
+        ),
+        // A read goes outwards; `=` makes a name of its own and reads nothing.
+        (
+            true,
+            true,
+            [Step::Nothing, Step::Nothing, Step::Nothing],
+            0,
+            9,
+        ),
+        (true, true, [Step::Read, Step::Nothing, Step::Nothing], 0, 0),
+        (
+            true,
+            false,
+            [Step::Read, Step::Nothing, Step::Nothing],
+            0,
+            0,
+        ),
+        (true, true, [Step::Set, Step::Nothing, Step::Nothing], 1, 9),
+        (true, true, [Step::Set, Step::Read, Step::Nothing], 0, 9),
+        // `+=` and an assignment to an element read an outer name and assign its copy.
+        (true, true, [Step::Add, Step::Nothing, Step::Nothing], 1, 0),
+        (true, true, [Step::Add, Step::Add, Step::Nothing], 2, 0),
+        (
+            true,
+            true,
+            [Step::Element, Step::Nothing, Step::Nothing],
+            1,
+            0,
+        ),
+        (true, true, [Step::Element, Step::Read, Step::Element], 0, 0),
+    ]
+}
+
+// A file that sets `x`, or nothing.
+fn file(alloc: Global, sets: bool) -> Result<Env, Fail> {
+    let mut env = environment(alloc, true)?;
+    if sets {
+        assign(&mut env, alloc, b"x", AssignOp::Set, list(alloc, 1)?, 9)?;
+    }
+    Ok(env)
+}
+
+// What a block of these steps reports at its end.
+fn block(env: &mut Env, alloc: Global, checked: bool, steps: [Step; 3]) -> Result<u32, Fail> {
+    let [first, second, third] = steps;
+    env.enter(checked)?;
+    run(env, alloc, first, 1)?;
+    run(env, alloc, second, 2)?;
+    run(env, alloc, third, 3)?;
+    let reported = column_of(env.unread());
+    env.leave();
+    Ok(reported)
+}
+
+#[test]
+fn names_that_nothing_reads(rt: HostRuntime) -> Result<(), Fail> {
+    let alloc = rt.alloc();
+    for (sets, checked, steps, inner, outer) in rows() {
+        let mut env = file(alloc, sets)?;
+        assert_eq!(rt; block(&mut env, alloc, checked, steps)?, inner);
+        assert_eq!(rt; column_of(env.unread()), outer);
+    }
+    Ok(())
+}
+
+#[test]
+fn refused_assignments(rt: HostRuntime) -> Result<(), Fail> {
+    let alloc = rt.alloc();
+    let mut env = file(alloc, true)?;
+    let absent = assign(&mut env, alloc, b"y", AssignOp::Add, Value::Int(1), 1);
+    assert_eq!(rt; absent, Err(AssignError::Undefined));
+    let over = assign(&mut env, alloc, b"x", AssignOp::Set, list(alloc, 2)?, 2);
+    assert_eq!(rt; over, Err(AssignError::Overwrite));
+    let types = assign(&mut env, alloc, b"x", AssignOp::Add, Value::Int(1), 3);
+    assert_eq!(rt; types, Err(AssignError::Value(ValueError::BadTypes)));
+    assert_eq!(rt; column_of(env.unread()), 9);
+    Ok(())
+}
+
+#[test]
+fn a_list_that_was_emptied(rt: HostRuntime) -> Result<(), Fail> {
+    let alloc = rt.alloc();
+    let mut env = file(alloc, true)?;
+    assign(
+        &mut env,
+        alloc,
+        b"x",
+        AssignOp::Subtract,
+        list(alloc, 1)?,
+        2,
+    )?;
+    let over = assign(&mut env, alloc, b"x", AssignOp::Set, list(alloc, 2)?, 3);
+    assert_eq!(rt; over, Ok(()));
+    Ok(())
+}
+
+#[test]
+fn refused_elements(rt: HostRuntime) -> Result<(), Fail> {
+    let alloc = rt.alloc();
+    let mut env = file(alloc, true)?;
+    let beyond = assign_item(&mut env, alloc, b"x", 1, Value::Int(1), 2);
+    assert_eq!(rt;
+        beyond,
+        Err(ElementAssignError::Subscript(ValueError::BadIndex))
+    );
+    let types = assign_item(&mut env, alloc, b"x", 0, Value::Bool(true), 3);
+    assert_eq!(rt;
+        types,
+        Err(ElementAssignError::Operator(ValueError::BadTypes))
+    );
+    let absent = assign_item(&mut env, alloc, b"y", 0, Value::Int(1), 4);
+    assert_eq!(rt; absent, Err(ElementAssignError::Undefined));
+    Ok(())
+}
+
+#[test]
+fn the_setting(rt: HostRuntime) -> Result<(), Fail> {
+    let alloc = rt.alloc();
+    let mut env = environment(alloc, false)?;
+    env.set_in_item(true);
+    assert!(rt; env.in_item() && env.depth() == 0);
+    assert!(rt; matches!(env.stage(), Stage::Loading));
+    assert_eq!(rt; env.toolchain().as_bytes(), &b"//t:t"[..]);
+    assert_eq!(rt; env.file().as_bytes(), &b"//BUILD.gn"[..]);
+    assert_eq!(rt; env.directory().as_bytes(), &b"//"[..]);
+    Ok(())
+}
+
+#[test]
+fn a_fault(rt: HostRuntime) -> Result<(), Fail> {
+    let alloc = rt.alloc();
+    let env = environment(alloc, false)?;
+    let fault = env.fault(alloc, Code::BadTypes, at(4), Texts::new(alloc))?;
+    assert_eq!(rt;
+        fault.print(alloc)?.as_bytes(),
+        &b"ERROR at //BUILD.gn:1:4: Wrong type of value.\n"[..]
+    );
+    Ok(())
+}
+
+// A name that is put aside while it has another value, which is answered.
+fn aside(env: &mut Env, alloc: Global) -> Result<i64, Fail> {
+    let name = text(alloc, b"x")?;
+    let aside = env.put_aside(&name);
+    env.give(alloc, &name, Value::Int(2))?;
+    let value = read(env, alloc, b"x")?;
+    env.restore(alloc, &name, aside)?;
+    Ok(value)
+}
+
+#[test]
+fn a_name_that_comes_back(rt: HostRuntime) -> Result<(), Fail> {
+    let alloc = rt.alloc();
+    let mut env = file(alloc, true)?;
+    assert_eq!(rt; aside(&mut env, alloc)?, 2);
+    assert_eq!(rt; column_of(env.unread()), 9);
+    Ok(())
+}
+
+// The entries of a block that adds to a built-in variable.
+fn literal(env: &mut Env, alloc: Global) -> Result<Entries, Fail> {
+    env.enter(false)?;
+    assign(env, alloc, b"host_os", AssignOp::Add, Value::Int(1), 1)?;
+    Ok(env.leave_with_entries(alloc)?)
+}
+
+#[test]
+fn a_scope_literal(rt: HostRuntime) -> Result<(), Fail> {
+    let alloc = rt.alloc();
+    let mut env = environment(alloc, false)?;
+    let entries = literal(&mut env, alloc)?;
+    assert!(rt; entries.len() == 1);
+    assert!(rt; matches!(entries.get(b"host_os"), Some(Value::Int(8))));
+    assert_eq!(rt; read(&mut env, alloc, b"host_os")?, 7);
+    Ok(())
+}
+
+// The column that the end of a scope reports in which `x` is set, and read or not.
+fn ended(alloc: Global, reads: bool) -> Result<u32, Fail> {
+    let name = text(alloc, b"x")?;
+    let mut scopes = Scopes::new(alloc, false);
+    scopes.enter(true)?;
+    scopes.set(alloc, &name, AssignOp::Set, Value::Int(1), at(2))?;
+    if reads {
+        let _value = scopes.get(&name);
+    }
+    match scopes.leave() {
+        Err(ScopeError::NoEffect(_name, position)) => Ok(position.column),
+        Err(_error) => Ok(0),
+        Ok(layer) => Ok(column_of(layer.unread())),
+    }
+}
+
+#[test]
+fn layers(rt: HostRuntime) -> Result<(), Fail> {
+    let alloc = rt.alloc();
+    assert_eq!(rt; ended(alloc, false)?, 2);
+    assert_eq!(rt; ended(alloc, true)?, 0);
+    Ok(())
+}

@@ -1,0 +1,33 @@
+//! Laws of the grammar itself, whatever the parser's code is, each as a call that does nothing and whose contract is the law.
+
+ghost use Rattle.std.specs.Prelude.{◌≡◌, ℕ, List, [], drop, slice_range};
+ghost use Rattle.gn_tree.specs.Tree.{BlockTree};
+ghost use Rattle.gn_tokens.specs.Text.{IsString, string_items};
+ghost use Rattle.gn_syntax.specs.Lexemes.{Lexeme};
+ghost use Rattle.gn_syntax.specs.Grammar.{SpellsStatements};
+ghost use Rattle.gn_syntax.specs.Nesting.{token_nestings, block_nestings};
+ghost use Rattle.gn_syntax.specs.Laws.{HasOneAnswer, IsJudgedRightly, StandRightly};
+
+use gn_tokens::string_is_its_items;
+
+/// Bytes spell just one tree, or have just one first error, and never both.
+pub fn each_file_has_one_answer()
+    ensures { (bytes : List ℕ) → HasOneAnswer bytes }
+{}
+
+/// The machine that reads one token after the other finds the first error of the grammar, and none where the bytes spell a tree.
+pub fn machine_is_right()
+    ensures { (bytes : List ℕ) → IsJudgedRightly bytes }
+{}
+
+/// The nestings of the tokens of a file, counted one token after the other, are those of the tree that they spell, counted by the cases of the grammar.
+pub fn nestings_are_of_the_tree()
+    ensures { (tree : BlockTree) (tokens : List Lexeme) → SpellsStatements tree tokens [] → token_nestings [] tokens ≡ block_nestings tree 0 }
+{}
+
+/// Where bytes of a file are a string literal, each of its items stands at the position that its piece has: as many columns behind the opening quote as bytes lie between.
+pub fn pieces_stand_in_the_line()
+    ensures { (bytes : List ℕ) (start end : ℕ) → IsString (slice_range bytes start end) → StandRightly bytes start (string_items 1 (drop 1 (slice_range bytes start end))) }
+{
+    string_is_its_items();
+}

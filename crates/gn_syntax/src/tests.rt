@@ -1,0 +1,27 @@
+// What no clause says: that the definitions mean what the language says, and that the stack is large enough. Offsets,
+// places and counts are counted by hand.
+
+mod files;
+mod nesting;
+mod places;
+mod sizes;
+mod trees;
+
+use crate::{SyntaxError, parse};
+use std::alloc::{AllocError, Global};
+
+/// The first error of a file, none where it parses.
+fn error_of(alloc: Global, bytes: &[u8]) -> Option<SyntaxError> {
+    match parse(alloc, bytes) {
+        Ok(_) => None,
+        Err(error) => Some(error),
+    }
+}
+
+/// Text so many times.
+fn push_times(bytes: &mut Vec<u8>, text: &str, count: usize) -> Result<(), AllocError> {
+    for _ in 0..count {
+        bytes.extend_from_slice(text.as_bytes())?;
+    }
+    Ok(())
+}
