@@ -41,6 +41,15 @@ operations_more a (p ∷ os) o x env out =
     ap (λ (r : Run Val). then_do r (λ y env1 out1. operation_runs a p y env1 out1)) (operations_more a os o x env out)
     ∙ then_assoc (operation_runs a o x env out) (λ y env1 out1. operations_run a os y env1 out1) (λ y env1 out1. operation_runs a p y env1 out1)
 
+module _ (a : Answers) (whole : Run Val) (all rest : List Operation) (o : Operation) (x : Val) (env : Environment) (out : Effects) (runs : whole ≡ operations_run a all x env out) (last : all ≡ rest ++ o ∷ []) where
+  -- the innermost operator is taken from the others
+  pub operation_taken : whole ≡ then_do (operation_runs a o x env out) (λ y env1 out1. operations_run a rest y env1 out1)
+  operation_taken = runs ∙ ap (λ (os : List Operation). operations_run a os x env out) last ∙ operations_more a rest o x env out
+
+  -- and has its value
+  pub operation_done : (y : Val) (env1 : Environment) (out1 : Effects) → operation_runs a o x env out ≡ ends y env1 out1 → whole ≡ operations_run a rest y env1 out1
+  operation_done y env1 out1 h = operation_taken ∙ ap (λ (r : Run Val). then_do r (λ z env2 out2. operations_run a rest z env2 out2)) h
+
 -- the operand and the right sides are less deep than the whole
 abbrev pub right_depth : List Operation → ℕ
 right_depth [] = 0

@@ -44,7 +44,7 @@ pub fn run_file<D: Definer>(
     ensures runs { (a : Answers) → IsRun (λ u. u) result env.new out.new (file_runs a block.now env.old out.old) }
     ensures levels { OnOk result (levels env.new ≡ levels env.old) }
 {
-    run_statements(alloc, block, env, out, definer)?;
+    run_block(alloc, block, env, out, definer)?;
     match env.unread() {
         Some((name, position)) => Err(wrong_with(alloc, env, Code::NoEffect, position, name)),
         None => Ok(()),

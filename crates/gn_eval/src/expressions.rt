@@ -1,8 +1,7 @@
 // Expressions.
 
 ghost use Rattle.std.specs.Prelude.{◌≡◌, OnOk, [], false, map};
-ghost use Rattle.gn_tree.specs.Views.{expr_of, exprs_of};
-ghost use Rattle.gn_tree.specs.FirstPosition.{call_position};
+ghost use Rattle.gn_tree.specs.Views.{expr_of, exprs_of, call_of};
 ghost use Rattle.gn_values.specs.View.{val_of};
 ghost use Rattle.gn_scopes.specs.Environment.{levels, entered};
 ghost use Rattle.gn_meaning.specs.Runs.{Answers, then_do};
@@ -18,14 +17,15 @@ use crate::definer::Definer;
 use crate::ending::EvalEnd;
 use crate::faults::wrong;
 use crate::functions::run_call;
-use crate::names::{read_base, read_element, read_name};
+use crate::names::{read_base, read_element, read_entry, read_name};
 use crate::operations::{Operation, left_operand};
 use crate::operators::{boolean, negate, operate};
 use crate::statements::run_statements;
 use crate::strings::expand;
 use gn_items::{Code, Outcome};
+use gn_paths::Text;
 use gn_scopes::Env;
-use gn_tree::{BinaryOp, Block, Expr, Exprs, Position, SubExpr};
+use gn_tree::{BinaryOp, Block, Call, Expr, Exprs, Position, SubExpr};
 use gn_values::{Items, Value};
 use std::alloc::Global;
 
@@ -67,40 +67,26 @@ fn eval_operand<D: Definer>(
         Expr::Name { position, name } => read_name(alloc, name, *position, env),
         Expr::Integer { value, .. } => Ok(Value::Int(*value)),
         Expr::String { position, pieces } => {
-            let text = expand(alloc, pieces.as_slice(), *position, env)?;
-            Ok(Value::Str(text))
+            Ok(Value::Str(expand(alloc, pieces.as_slice(), *position, env)?))
         }
         Expr::Boolean { value, .. } => Ok(Value::Bool(*value)),
-        Expr::Call(call) => {
-            let value = run_call(alloc, call, env, out, definer)?;
-            value_of_call(alloc, value, call.position, env)
-        }
+        Expr::Call(call) => eval_call(alloc, call, env, out, definer),
         Expr::Item {
             position,
             base,
             bracket,
             index,
-        } => {
-            read_base(alloc, base, *position, env)?;
-            let at = eval_expr(alloc, index.get(), env, out, definer)?;
-            read_element(alloc, base, *position, &at, *bracket, env)
-        }
+        } => eval_item(alloc, base, *position, index, *bracket, env, out, definer),
         Expr::Entry {
             position,
             base,
             dot,
             entry,
-        } => {
-            let at = Value::Str(entry.copy(alloc)?);
-            read_element(alloc, base, *position, &at, *dot, env)
-        }
-        Expr::Scope { position, block } => {
-            eval_scope(alloc, block, *position, env, out, definer)
-        }
+        } => read_entry(alloc, base, *position, entry, *dot, env),
+        Expr::Scope { position, block } => eval_scope(alloc, block, *position, env, out, definer),
         Expr::Parentheses { inner, .. } => eval_expr(alloc, inner.get(), env, out, definer),
         Expr::List { position, items } => {
-            let items = eval_items(alloc, items, *position, env, out, definer)?;
-            Ok(Value::List(items))
+            Ok(Value::List(eval_items(alloc, items, *position, env, out, definer)?))
         }
         Expr::Not { position, operand } => {
             let value = eval_expr(alloc, operand.get(), env, out, definer)?;
@@ -108,6 +94,42 @@ fn eval_operand<D: Definer>(
         }
         Expr::Binary { .. } => unreachable!(),
     }
+}
+
+// The value of a call, which has to have one.
+#[cycle(eval)]
+fn eval_call<D: Definer>(
+    alloc: Global,
+    call: &Call,
+    env: &mut Env,
+    out: &mut Outcome,
+    definer: &mut D,
+) -> Result<Value, EvalEnd>
+    ensures runs { (a : Answers) → IsRun val_of result env.new out.new (then_do (call_runs a (call_of call.now) env.old out.old) (λ v env1 out1. call_value_runs v call.now.position env1 out1)) }
+    ensures levels { OnOk result (levels env.new ≡ levels env.old) }
+{
+    let value = run_call(alloc, call, env, out, definer)?;
+    value_of_call(alloc, value, call.position, env)
+}
+
+// `base[index]`: the base has to have a value before the index is evaluated.
+#[cycle(eval)]
+fn eval_item<D: Definer>(
+    alloc: Global,
+    base: &Text,
+    position: Position,
+    index: &SubExpr,
+    bracket: Position,
+    env: &mut Env,
+    out: &mut Outcome,
+    definer: &mut D,
+) -> Result<Value, EvalEnd>
+    ensures runs { (a : Answers) → IsRun val_of result env.new out.new (then_do (base_runs base.now position env.old out.old) (λ _ env1 out1. then_do (expr_runs a index.now env1 out1) (λ at env2 out2. element_runs base.now position at bracket env2 out2))) }
+    ensures levels { OnOk result (levels env.new ≡ levels env.old) }
+{
+    read_base(alloc, base, position, env)?;
+    let at = eval_expr(alloc, index.get(), env, out, definer)?;
+    read_element(alloc, base, position, &at, bracket, env)
 }
 
 // An operator behind its left side: `&&` and `||` look at its type first and stop early, all others evaluate the right

@@ -1,4 +1,4 @@
-// Calls.
+// The functions of the language.
 
 ghost use Rattle.std.specs.Prelude.{◌≡◌, [], ◌∷◌, OnOk, map, option_map};
 ghost use Rattle.gn_tree.specs.Views.{expr_of, exprs_of, call_of, body_of};
@@ -17,7 +17,7 @@ use crate::ending::EvalEnd;
 use crate::expressions::{eval_expr, eval_values};
 use crate::faults::{wrong, wrong_with};
 use crate::items::{begin_item, end_item};
-use crate::names::{has_entry, has_value, read_base};
+use crate::names::{has_element, has_entry, has_value, read_base};
 use crate::statements::run_statements;
 use gn_items::{Code, ItemKind, Outcome};
 use gn_meaning::Function;
@@ -134,8 +134,7 @@ fn run_defined<D: Definer>(
             ..
         } => {
             read_base(alloc, base, *position, env)?;
-            let at = Value::Str(entry.copy(alloc)?);
-            has_entry(alloc, base, &at, *position, env)
+            has_entry(alloc, base, entry, *position, env)
         }
         Expr::Item {
             position,
@@ -163,7 +162,7 @@ fn has_item<D: Definer>(
 {
     read_base(alloc, base, position, env)?;
     let at = eval_expr(alloc, index.get(), env, out, definer)?;
-    has_entry(alloc, base, &at, position, env)
+    has_element(alloc, base, &at, position, env)
 }
 
 // `foreach(name, list) { .. }`

@@ -2,6 +2,7 @@
 
 ghost use Rattle.std.specs.Prelude.{◌≡◌, ◌≢◌, IfOk, IfErr, option_map};
 ghost use Rattle.gn_items.specs.Effects.{Effects};
+ghost use Rattle.gn_values.specs.Val.{vstr};
 ghost use Rattle.gn_values.specs.View.{val_of};
 ghost use Rattle.gn_values.specs.Operators.{element_of};
 ghost use Rattle.gn_scopes.specs.Environment.{levels};
@@ -84,6 +85,29 @@ pub(crate) fn read_element(
     }
 }
 
+/// `base.entry`: the entry alone is copied. A base without a value is a fault at the base, all else at the dot.
+#[tactic(auto, unfolding(gn_meaning::specs::Words::element_runs, gn_scopes::specs::Environment::after_read, gn_values::specs::Operators::element_of))]
+pub(crate) fn read_entry(
+    alloc: Global,
+    base: &Text,
+    base_position: Position,
+    entry: &Text,
+    position: Position,
+    env: &mut Env,
+) -> Result<Value, EvalEnd>
+    ensures runs { (out : Effects) → IsRun val_of result env.new out (element_runs base.now base_position (vstr entry.now) position env.old out) }
+    ensures levels { levels env.new ≡ levels env.old }
+{
+    match env.look(base) {
+        Some(Value::Scope(entries)) => match entries.get(entry.as_bytes()) {
+            Some(value) => Ok(value.copy(alloc)?),
+            None => Err(wrong_with(alloc, env, Code::Undefined, position, entry)),
+        },
+        Some(_) => Err(wrong(alloc, env, Code::BadTypes, position)),
+        None => Err(wrong_with(alloc, env, Code::Undefined, base_position, base)),
+    }
+}
+
 /// `defined(name)`: whether the name has a value, which counts as read.
 #[tactic(auto, unfolding(gn_meaning::specs::Calls::has_value_runs))]
 pub(crate) fn has_value(name: &Text, env: &mut Env) -> Result<Option<Value>, EvalEnd>
@@ -94,9 +118,32 @@ pub(crate) fn has_value(name: &Text, env: &mut Env) -> Result<Option<Value>, Eva
     Ok(Some(Value::Bool(found)))
 }
 
-/// `defined(base[at])` and `defined(base.at)`, once the subscript is evaluated: whether the scope has the entry.
+/// `defined(base.entry)`: whether the scope has the entry.
 #[tactic(auto, unfolding(gn_meaning::specs::Calls::has_entry_runs, gn_scopes::specs::Environment::after_read))]
 pub(crate) fn has_entry(
+    alloc: Global,
+    base: &Text,
+    entry: &Text,
+    position: Position,
+    env: &mut Env,
+) -> Result<Option<Value>, EvalEnd>
+    ensures runs { (out : Effects) → IsRun (option_map val_of) result env.new out (has_entry_runs base.now (vstr entry.now) position env.old out) }
+    ensures levels { levels env.new ≡ levels env.old }
+{
+    match env.look(base) {
+        Some(Value::Scope(entries)) => {
+            let found = entries.get(entry.as_bytes()).is_some();
+            Ok(Some(Value::Bool(found)))
+        }
+        Some(_) => Err(wrong(alloc, env, Code::BadTypes, position)),
+        None => Err(wrong_with(alloc, env, Code::Undefined, position, base)),
+    }
+}
+
+/// `defined(base[at])`, once the subscript is evaluated: whether the scope has the entry. The subscript has to be a
+/// string.
+#[tactic(auto, unfolding(gn_meaning::specs::Calls::has_entry_runs, gn_scopes::specs::Environment::after_read))]
+pub(crate) fn has_element(
     alloc: Global,
     base: &Text,
     at: &Value,
@@ -106,12 +153,11 @@ pub(crate) fn has_entry(
     ensures runs { (out : Effects) → IsRun (option_map val_of) result env.new out (has_entry_runs base.now (val_of at.now) position env.old out) }
     ensures levels { levels env.new ≡ levels env.old }
 {
-    match (env.look(base), at) {
-        (Some(Value::Scope(entries)), Value::Str(name)) => {
-            let found = entries.get(name.as_bytes()).is_some();
-            Ok(Some(Value::Bool(found)))
-        }
-        (Some(_), _) => Err(wrong(alloc, env, Code::BadTypes, position)),
-        (None, _) => Err(wrong_with(alloc, env, Code::Undefined, position, base)),
+    match at {
+        Value::Str(entry) => has_entry(alloc, base, entry, position, env),
+        _ => match env.look(base) {
+            Some(_) => Err(wrong(alloc, env, Code::BadTypes, position)),
+            None => Err(wrong_with(alloc, env, Code::Undefined, position, base)),
+        },
     }
 }

@@ -13,7 +13,7 @@ use Rattle.gn_eval.proofs.Sequence.{then_failed}
 use Rattle.gn_meaning.specs.Calls.{loop_runs}
 use Rattle.gn_values.proofs.Mapped.{list_of-vals}
 use Rattle.gn_eval.proofs.Arguments.{one_expr, two_exprs, defined_item, foreach_two, item_one}
-use Rattle.gn_eval.proofs.Joined.{operations_run, right_depth, operand_within, rights_within, joined_runs, operations_more, right_depth-more}
+use Rattle.gn_eval.proofs.Joined.{operations_run, right_depth, operand_within, rights_within, joined_runs, operation_taken, operation_done, right_depth-more}
 use Rattle.gn_eval.proofs.+eval.Goals as goal
 
 pub expressions::eval_expr-eval_operand-requires : goal.expressions::eval_expr-eval_operand-requires
@@ -45,20 +45,22 @@ expressions::eval_expr-apply-requires g t c κs within =
 
 pub expressions::eval_expr-returns-in_err-value-2-clause-runs : goal.expressions::eval_expr-returns-in_err-value-2-clause-runs
 expressions::eval_expr-returns-in_err-value-2-clause-runs g t c = λ a.
-    let e = c.operators.invariant.runs a ∙ ap (λ os. operations_run a os (val_of c.operators.value) c.operators.env c.operators.out) c.in-Some.ensures.items ∙ operations_more a c.pop.new.self.items c.in-Some.operation (val_of c.operators.value) c.operators.env c.operators.out in
+    let e = operation_taken a _ c.operators.operations.items c.pop.new.self.items c.in-Some.operation (val_of c.operators.value) c.operators.env c.operators.out (c.operators.invariant.runs a) c.in-Some.ensures.items in
     grind (arith, common_steps, e)
 
 pub expressions::eval_expr-operators-preserved : goal.expressions::eval_expr-operators-preserved
 expressions::eval_expr-operators-preserved g t c =
     let rights = ap right_depth c.in-Some.ensures.items ∙ right_depth-more c.pop.new.self.items c.in-Some.operation in
     record {
-      runs = λ a. c.operators.invariant.runs a
-          ∙ ap (λ os. operations_run a os (val_of c.operators.value) c.operators.env c.operators.out) c.in-Some.ensures.items
-          ∙ operations_more a c.pop.new.self.items c.in-Some.operation (val_of c.operators.value) c.operators.env c.operators.out
-          ∙ ap (λ (r : Run Val). then_do r (λ x env1 out1. operations_run a c.pop.new.self.items x env1 out1)) (c.in_ok-value-2.ensures.runs a);
+      runs = λ a. operation_done a _ c.operators.operations.items c.pop.new.self.items c.in-Some.operation (val_of c.operators.value) c.operators.env c.operators.out (c.operators.invariant.runs a) c.in-Some.ensures.items (val_of c.in_ok-value-2.value) c.apply.new.env c.apply.new.out (c.in_ok-value-2.ensures.runs a);
       levels = c.in_ok-value-2.ensures.levels ∙ c.operators.invariant.levels;
       small = omega (arith, c.operators.invariant.small);
     }
+
+pub expressions::eval_operand-returns-in-Item-clause-runs : goal.expressions::eval_operand-returns-in-Item-clause-runs
+unfolding expr_runs
+expressions::eval_operand-returns-in-Item-clause-runs g t c = λ a.
+    subst (λ (x : Expr). IsRun val_of c.eval_item.result c.eval_item.new.env c.eval_item.new.out (expr_runs a (expr_of x) c.args.env.now c.args.out.now)) (sym c.in-Item.is) (c.eval_item.ensures.runs a)
 
 pub functions::run_assert-returns-in_err-value-in-len1-clause-runs : goal.functions::run_assert-returns-in_err-value-in-len1-clause-runs
 unfolding assert_runs body_steps

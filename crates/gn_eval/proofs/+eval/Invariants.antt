@@ -18,6 +18,12 @@ decreases-expressions::eval_expr g l = 10 * expr_depth (expr_of l.expr.now) + 5
 abbrev pub decreases-expressions::eval_operand : goal.decreases-expressions::eval_operand
 decreases-expressions::eval_operand g l = 10 * expr_depth (expr_of l.expr.now) + 4
 
+abbrev pub decreases-expressions::eval_call : goal.decreases-expressions::eval_call
+decreases-expressions::eval_call g l = 10 * call_depth (call_of l.call.now) + 4
+
+abbrev pub decreases-expressions::eval_item : goal.decreases-expressions::eval_item
+decreases-expressions::eval_item g l = 10 * expr_depth l.index.now + 6
+
 abbrev pub decreases-expressions::apply : goal.decreases-expressions::apply
 decreases-expressions::apply g l = 10 * expr_depth l.operation.right.now + 6
 
