@@ -1,6 +1,6 @@
 // Each call once, with ample memory, and the answers that the language names.
 
-ghost use Rattle.std.specs.Prelude.{◌≤◌};
+ghost use Rattle.std.specs.Prelude.{◌≡◌, ◌≤◌, [], IfOk};
 
 use crate::{
     Bindings, Compare, Definition, ElementError, Entries, ImportValue, Items, Kept, KeptScope,
@@ -276,7 +276,7 @@ fn elements_nest_199_deep(rt: HostRuntime) -> Result<(), Fail> {
 fn bindings_become_scopes(rt: HostRuntime) -> Result<(), Fail> {
     let alloc = rt.alloc();
     let mut bindings = Bindings::new(alloc);
-    bindings.push_last(Text::from_bytes(alloc, b"a")?, Value::Int(1))?;
+    bindings.set(Text::from_bytes(alloc, b"a")?, Value::Int(1))?;
     let entries = Entries::from_bindings(bindings)?;
     assert_eq!(rt; entries.depth(), 1);
     let bindings = Bindings::from_entries(entries);
@@ -285,7 +285,9 @@ fn bindings_become_scopes(rt: HostRuntime) -> Result<(), Fail> {
 }
 
 /// The definition of a template in a column of a file.
-fn definition(alloc: Global, column: u32) -> Result<Definition, AllocError> {
+fn definition(alloc: Global, column: u32) -> Result<Definition, AllocError>
+    ensures { IfOk result (λ d. d.scope.templates ≡ []) }
+{
     let scope = KeptScope::new(
         Bindings::new(alloc),
         BTreeMap::new(alloc),
@@ -294,10 +296,6 @@ fn definition(alloc: Global, column: u32) -> Result<Definition, AllocError> {
     let block = Block::new(alloc, Vec::new(alloc))?;
     let file = Text::from_bytes(alloc, b"//d.gni")?;
     Ok(Definition::new(file, Position { line: 1, column }, block, scope))
-}
-
-fn is_sent<T: Send + Sync>(_value: &T) -> bool {
-    true
 }
 
 #[test]
@@ -315,7 +313,6 @@ fn imports_leave_definitions(rt: HostRuntime) -> Result<(), Fail> {
         BTreeMap::new(alloc),
     );
     let value = ImportValue::new(alloc, scope, table)?.copy(alloc)?;
-    assert!(rt; is_sent(&value));
     assert!(rt; value.scope().templates().is_empty());
     let first = value.table().get(0).ok_or("a definition")?;
     let shared = outer.share(1)?;

@@ -7,7 +7,7 @@ use std::test::Fail;
 
 // What stands in front, what nests, what stands inside, what closes each one, and what stands behind. Then how often it
 // may nest, and the offset of the token that is too deep where it nests once more.
-type Nest = ([&'static str; 5], usize, usize);
+type Nest = ([&'static str; 5], u8, usize);
 
 const NESTS: [Nest; 17] = [
     // A bracket counts for all that stands inside.
@@ -47,6 +47,7 @@ fn nested(alloc: Global, parts: [&'static str; 5], count: usize) -> Result<Vec<u
 fn nests_200_deep_and_no_deeper(rt: HostRuntime) -> Result<(), Fail> {
     let alloc = rt.alloc();
     for (parts, count, too_deep) in NESTS {
+        let count = usize::from(count);
         let deepest = nested(alloc, parts, count)?;
         assert_eq!(rt; error_of(alloc, &deepest), None, "at {parts:?}");
         let deeper = nested(alloc, parts, count + 1)?;
