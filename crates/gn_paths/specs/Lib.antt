@@ -5,3 +5,4 @@ pub mod Reading
 pub mod Buffer
 pub mod Rebase
 pub mod Parts
+pub mod Directory

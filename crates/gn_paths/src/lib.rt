@@ -2,6 +2,7 @@
 #![tactic(auto)]
 
 mod components;
+mod enclosing;
 mod error;
 mod parts;
 mod path;
@@ -12,6 +13,7 @@ mod resolving;
 mod text;
 mod texts;
 
+pub use enclosing::directory;
 pub use error::PathError;
 pub use parts::{PathPart, part};
 pub use path::Path;
