@@ -17,3 +17,4 @@ pub mod Trees
 pub mod Calls
 pub mod Whole
 pub mod Literals
+pub mod Shallow

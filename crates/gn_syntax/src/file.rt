@@ -1,6 +1,7 @@
 // The parser as its callers see it.
 
-ghost use Rattle.std.specs.Prelude.{◌≡◌, IfOk, IfErr, []};
+ghost use Rattle.std.specs.Prelude.{◌≡◌, ◌≤◌, IfOk, IfErr, [], length};
+ghost use Rattle.gn_tree.specs.Depth.{IsShallow};
 ghost use Rattle.gn_syntax.specs.Lexemes.{lexemes, last_of};
 ghost use Rattle.gn_syntax.specs.Grammar.{SpellsStatements};
 ghost use Rattle.gn_syntax.specs.Machine.{verdict, whole_file, Good};
@@ -52,6 +53,7 @@ impl Parsed {
 pub fn parse(alloc: Global, bytes: &[u8]) -> Result<Parsed, SyntaxError>
     ensures tree { IfOk result (λ parsed. IsTree bytes.now parsed) }
     ensures error { IfErr result (λ e. IsError e bytes.now) }
+    ensures shallow { IfOk result (λ parsed. length bytes.now ≤ 16777216 → IsShallow parsed) }
 {
     machine_is_right();
     match whole(alloc, bytes) {

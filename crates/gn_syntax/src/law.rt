@@ -1,10 +1,12 @@
 //! Laws of the grammar itself, whatever the parser's code is, each as a call that does nothing and whose contract is the law.
 
-ghost use Rattle.std.specs.Prelude.{◌≡◌, ℕ, List, [], drop, slice_range};
+ghost use Rattle.std.specs.Prelude.{◌≡◌, ◌≤◌, ℕ, List, [], length, drop, slice_range};
 ghost use Rattle.gn_tree.specs.Tree.{BlockTree};
+ghost use Rattle.gn_tree.specs.Depth.{IsShallow};
 ghost use Rattle.gn_tokens.specs.Text.{IsString, string_items};
 ghost use Rattle.gn_syntax.specs.Lexemes.{Lexeme};
 ghost use Rattle.gn_syntax.specs.Grammar.{SpellsStatements};
+ghost use Rattle.gn_syntax.specs.Errors.{IsTree};
 ghost use Rattle.gn_syntax.specs.Nesting.{token_nestings, block_nestings};
 ghost use Rattle.gn_syntax.specs.Laws.{HasOneAnswer, IsJudgedRightly, StandRightly};
 
@@ -23,6 +25,11 @@ pub fn machine_is_right()
 /// The nestings of the tokens of a file, counted one token after the other, are those of the tree that they spell, counted by the cases of the grammar.
 pub fn nestings_are_of_the_tree()
     ensures { (tree : BlockTree) (tokens : List Lexeme) → SpellsStatements tree tokens [] → token_nestings [] tokens ≡ block_nestings tree 0 }
+{}
+
+/// The tree of a file of at most 16,777,216 bytes is no deeper than 268,435,456 nodes: it takes a token to make a tree deeper, and a byte to make a token.
+pub fn trees_are_shallow()
+    ensures { (bytes : List ℕ) (tree : BlockTree) → length bytes ≤ 16777216 → IsTree bytes tree → IsShallow tree }
 {}
 
 /// Where bytes of a file are a string literal, each of its items stands at the position that its piece has: as many columns behind the opening quote as bytes lie between.

@@ -18,5 +18,6 @@ pub use error::SyntaxError;
 pub use file::{Parsed, parse};
 pub use law::{
     each_file_has_one_answer, machine_is_right, nestings_are_of_the_tree, pieces_stand_in_the_line,
+    trees_are_shallow,
 };
 pub use place::place_of;

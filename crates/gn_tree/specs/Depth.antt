@@ -1,6 +1,6 @@
 -- How deep a tree is. A node without parts is 0 deep, any other node one deeper than its deepest part.
 -- A list of nodes is as deep as its deepest node.
-use Rattle.std.specs.Prelude.{ℕ, suc, max}
+use Rattle.std.specs.Prelude.{ℕ, suc, ◌≤◌, max}
 use Rattle.gn_tree.specs.Tree.{ExprTree, name_expr, integer_expr, string_expr, boolean_expr, call_expr, item_expr, entry_expr, scope_expr, parentheses_expr, list_expr, not_expr, binary_expr, ExprTrees, no_exprs, expr_then, CallTree, call_tree, BodyTree, no_body, some_body, TargetTree, name_target, item_target, entry_target, StatementTree, assign_statement, call_statement, condition_statement, ConditionTree, condition_tree, OtherwiseTree, no_otherwise, else_block, else_if, BlockTree, no_statements, statement_then}
 
 abbrev mutual
@@ -50,3 +50,11 @@ abbrev mutual
   pub block_depth : BlockTree → ℕ
   block_depth no_statements = 0
   block_depth (statement_then s b) = max (statement_depth s) (block_depth b)
+
+-- how deep the tree of a file is at most
+abbrev pub max_depth : ℕ
+max_depth = 268435456
+
+-- The tree of a block is no deeper than that.
+abbrev pub IsShallow : BlockTree → Type 0
+IsShallow tree = block_depth tree ≤ max_depth
