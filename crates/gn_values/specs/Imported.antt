@@ -1,37 +1,31 @@
 -- What a template keeps, and what an import leaves.
-use Rattle.std.specs.Prelude.{ℕ, suc, ◌<◌, ◌≤◌, List, [], ◌∷◌, All}
-use Rattle.gn_tree.specs.declared.position.Position.{Position}
+use Rattle.std.specs.Prelude.{ℕ, List}
+use Rattle.gn_paths.specs.declared.place.Place.{Place}
 use Rattle.gn_tree.specs.Tree.{BlockTree}
 use Rattle.gn_values.specs.Val.{Val}
+use Rattle.gn_values.specs.declared.kept.DefinitionName.{DefinitionName}
 
--- a scope that is kept: its variables, its templates by a number that says which definition is meant, and the defaults
--- of each kind of call, each in the order of the names
+-- a scope that is kept: its variables, its templates by the names of their definitions, and the defaults of each kind of call, each in the order
+-- of the names
 pub record ScopeState : Type 0 where
   pub variables : List (List ℕ × Val)
-  pub templates : List (List ℕ × ℕ)
+  pub templates : List (List ℕ × DefinitionName)
   pub defaults : List (List ℕ × List (List ℕ × Val))
 
--- a template's definition: the file and the place where it stands, its block, and the scope that it keeps
+-- a template's definition: where the name of the call stands that makes it, how deep its block nests in its file, the block, the scope that it keeps,
+-- and where the definitions stand in whose bodies it was made
 pub record DefinitionState : Type 0 where
-  pub file : List ℕ
-  pub position : Position
+  pub place : Place
+  pub nesting : ℕ
   pub block : BlockTree
   pub scope : ScopeState
+  pub enclosing : List Place
 
--- a definition with so many before it keeps each template by how far before it that template's definition stands
-abbrev pub KeepsEarlier : ℕ → DefinitionState → Type 0
-KeepsEarlier n d = All (λ t. (0 < t.1) × (t.1 ≤ n)) d.scope.templates
+-- definitions by the execution that made them, in the order in which it did
+abbrev pub MadeBy : Type 0
+MadeBy = List (List ℕ × List DefinitionState)
 
--- definitions with so many before them; a table has none before it. So it can be put behind another one as it is
-abbrev pub IsTableAfter : ℕ → List DefinitionState → Type 0
-IsTableAfter n [] = Unit {0}
-IsTableAfter n (d ∷ ds) = KeepsEarlier n d × IsTableAfter (suc n) ds
-
--- each template of a scope is named by the number of its definition in a table of so many, counted from 0
-abbrev pub NamesDefinitions : ℕ → ScopeState → Type 0
-NamesDefinitions n s = All (λ t. t.1 < n) s.templates
-
--- what an import leaves: its scope, and the table with the definitions of its templates
+-- what an import leaves: its scope, and the definitions that the templates of scopes name
 pub record ImportState : Type 0 where
   pub scope : ScopeState
-  pub table : List DefinitionState
+  pub definitions : MadeBy

@@ -11,3 +11,5 @@ pub mod Members
 pub mod Assigning
 pub mod Imported
 pub mod ImportedCode
+pub mod Tables
+pub mod TakenOut

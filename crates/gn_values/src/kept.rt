@@ -1,22 +1,45 @@
 // The definitions of templates, and what each keeps.
 
 ghost use Rattle.std.specs.Prelude.{◌≡◌, ◌↔◌, ◌++◌, [], ◌∷◌, ◌<◌, IsTrue, IfOk, OnOk, OnErr, length, option_map, slice_get, Some};
-ghost use Rattle.gn_values.specs.Imported.{KeepsEarlier, IsTableAfter};
+ghost use Rattle.gn_tree.specs.Depth.{IsShallow};
 
 use crate::bindings::Bindings;
-use gn_paths::Text;
-use gn_tree::{Block, Position};
+use gn_paths::{Place, Text};
+use gn_tree::Block;
 use std::alloc::{AllocError, Global};
 use std::collections::BTreeMap;
 use std::marker::Model;
 use std::sync::Arc;
 
-/// A scope that is kept: its variables, its templates by a number that says which definition is
-/// meant, and the defaults of each kind of call.
+/// Names the definition of a template: the execution of a file that made it, and its number among those that this
+/// execution made, counted from 0.
+#[derive(Debug, Drop, PartialEq, Eq)]
+pub struct DefinitionName {
+    /// The execution: the path of the file that was imported, or the empty text for a build file, whose definitions no
+    /// other execution sees.
+    pub execution: Text,
+    /// The number of the definition.
+    pub number: usize,
+}
+
+impl DefinitionName {
+    /// A new name equal to this one.
+    pub fn copy(&self, alloc: Global) -> Result<DefinitionName, AllocError>
+        ensures { IfOk result (λ n. n ≡ self.now) }
+    {
+        Ok(DefinitionName {
+            execution: self.execution.copy(alloc)?,
+            number: self.number,
+        })
+    }
+}
+
+/// A scope that is kept: its variables, its templates by the names of their definitions, and the defaults of each kind
+/// of call.
 #[derive(Debug, Drop)]
 pub struct KeptScope {
     variables: Bindings,
-    templates: BTreeMap<Text, usize>,
+    templates: BTreeMap<Text, DefinitionName>,
     defaults: BTreeMap<Text, Bindings>,
 }
 
@@ -35,7 +58,7 @@ impl KeptScope {
     /// A scope of these names, which takes no memory.
     pub fn new(
         variables: Bindings,
-        templates: BTreeMap<Text, usize>,
+        templates: BTreeMap<Text, DefinitionName>,
         defaults: BTreeMap<Text, Bindings>,
     ) -> KeptScope
         ensures { result
@@ -55,10 +78,8 @@ impl KeptScope {
         &self.variables
     }
 
-    /// The names of the templates, each with a number that says which definition is meant. Of a
-    /// scope that a definition keeps it says how far before that one it stands in the table, and of
-    /// one that an import leaves it is the number in the import's table.
-    pub fn templates(&self) -> &BTreeMap<Text, usize>
+    /// The names of the templates, each with the name of its definition.
+    pub fn templates(&self) -> &BTreeMap<Text, DefinitionName>
         ensures { result.now.entries ≡ self.now.templates }
     {
         &self.templates
@@ -72,16 +93,18 @@ impl KeptScope {
     }
 }
 
-/// The definition of a template.
+/// The definition of a template. What it keeps is shared: a copy of the definition's reference is all that a call takes.
 #[derive(Drop)]
 pub struct Definition {
-    file: Text,
-    position: Position,
+    place: Place,
+    nesting: u32,
     block: Block,
-    scope: KeptScope,
+    scope: Arc<KeptScope>,
+    enclosing: Vec<Place>,
 }
 
 impl Model for Definition {
+    ghost use Rattle.gn_tree.specs.Depth.{IsShallow};
     ghost use Rattle.gn_values.specs.Imported.{DefinitionState};
     ghost use Rattle.gn_values.specs.ImportedCode.{definition_code};
 
@@ -89,41 +112,52 @@ impl Model for Definition {
 
     ghost coded = { definition_code };
 
-    ghost view = { λ a. record { file = a.file; position = a.position; block = a.block; scope = a.scope } };
+    ghost view = { λ a. record { place = a.place; nesting = a.nesting; block = a.block; scope = a.scope.value; enclosing = a.enclosing.items } };
+
+    ghost invariant = { λ a. IsShallow a.block };
 }
 
 impl Definition {
-    /// A definition that stands at a position of a file, with its block and the scope that it
-    /// keeps. It takes no memory.
-    pub fn new(file: Text, position: Position, block: Block, scope: KeptScope) -> Definition
+    /// A definition: where the name of the call stands that makes it, how deep its block nests in its file, the block, the
+    /// scope that it keeps, and where the definitions stand in whose bodies it was made. It takes no memory.
+    pub fn new(
+        place: Place,
+        nesting: u32,
+        block: Block,
+        scope: Arc<KeptScope>,
+        enclosing: Vec<Place>,
+    ) -> Definition
+        requires { IsShallow block }
         ensures { result
-            ≡ record { file = file; position = position; block = block; scope = scope } }
+            ≡ record { place = place; nesting = nesting; block = block; scope = scope.value; enclosing = enclosing.items } }
     {
         Definition {
-            file,
-            position,
+            place,
+            nesting,
             block,
             scope,
+            enclosing,
         }
     }
 
-    /// The file that the definition stands in.
-    pub fn file(&self) -> &Text
-        ensures { result.now ≡ self.now.file }
+    /// Where the name of the call stands that made the definition.
+    pub fn place(&self) -> &Place
+        ensures { result.now ≡ self.now.place }
     {
-        &self.file
+        &self.place
     }
 
-    /// Where in its file the definition stands.
-    pub fn position(&self) -> Position
-        ensures { result ≡ self.now.position }
+    /// How deep the block nests in its file.
+    pub fn nesting(&self) -> u32
+        ensures { result ≡ self.now.nesting }
     {
-        self.position
+        self.nesting
     }
 
     /// The block of the template.
     pub fn block(&self) -> &Block
-        ensures { result.now ≡ self.now.block }
+        ensures value { result.now ≡ self.now.block }
+        ensures shallow { IsShallow self.now.block }
     {
         &self.block
     }
@@ -135,28 +169,24 @@ impl Definition {
         &self.scope
     }
 
-    /// Whether the definitions stand at one place, which makes two templates equal. It takes no
-    /// memory.
-    pub fn is_same(&self, other: &Definition) -> bool
-        ensures { IsTrue result
-            ↔ ((self.now.file ≡ other.now.file) × (self.now.position ≡ other.now.position)) }
+    /// Where the definitions stand in whose bodies this one was made.
+    pub fn enclosing(&self) -> &[Place]
+        ensures { result.now ≡ self.now.enclosing }
     {
-        self.position == other.position && self.file == other.file
+        self.enclosing.as_slice()
     }
 }
 
-/// A table of definitions, numbered from 0. A definition names each template that it keeps by how
-/// far before it that template's definition stands, so the table can be put behind another one as
-/// it is. Definitions are shared: no call copies one.
+/// Definitions in the order in which one execution made them, numbered from 0. They are shared: no call copies one.
 #[derive(Drop)]
-pub struct Kept {
+pub struct Definitions {
     definitions: Vec<Arc<Definition>>,
 }
 
-impl Model for Kept {
+impl Model for Definitions {
     ghost use Rattle.std.specs.Prelude.{List, map};
     ghost use Rattle.std.specs.Coded.{coded_list};
-    ghost use Rattle.gn_values.specs.Imported.{DefinitionState, IsTableAfter};
+    ghost use Rattle.gn_values.specs.Imported.{DefinitionState};
     ghost use Rattle.gn_values.specs.ImportedCode.{definition_code};
 
     ghost Value = { List DefinitionState };
@@ -164,24 +194,21 @@ impl Model for Kept {
     ghost coded = { coded_list definition_code };
 
     ghost view = { λ a. map (λ d. d.value) a.definitions.items };
-
-    ghost invariant = { λ a. IsTableAfter 0 (map (λ d. d.value) a.definitions.items) };
 }
 
-impl Kept {
-    /// A table without definitions. It takes no memory.
-    pub fn new(alloc: Global) -> Kept
+impl Definitions {
+    /// No definitions. It takes no memory.
+    pub fn new(alloc: Global) -> Definitions
         ensures { result ≡ [] }
     {
-        Kept {
+        Definitions {
             definitions: Vec::new(alloc),
         }
     }
 
     /// The number of definitions.
     pub fn len(&self) -> usize
-        ensures value { result ≡ length self.now }
-        ensures table { IsTableAfter 0 self.now }
+        ensures { result ≡ length self.now }
     {
         self.definitions.len()
     }
@@ -194,58 +221,19 @@ impl Kept {
     }
 
     /// The definition of this number, counted from 0. None comes exactly where there is none.
-    pub fn get(&self, number: usize) -> Option<&Definition>
-        ensures { option_map (λ d. d.now) result ≡ slice_get self.now number }
+    pub fn get(&self, number: usize) -> Option<&Arc<Definition>>
+        ensures { option_map (λ d. d.now.value) result ≡ slice_get self.now number }
     {
-        if number >= self.definitions.len() {
-            return None;
-        }
-        Some(&self.definitions[number])
+        self.definitions.get(number)
     }
 
-    /// The definition of this number once more, of which nothing is copied.
-    pub fn share(&self, number: usize) -> Result<Arc<Definition>, AllocError>
-        requires { number < length self.now }
-        ensures { IfOk result (λ d. slice_get self.now number ≡ Some d.value) }
-    {
-        self.definitions[number].clone()
-    }
-
-    /// Puts a definition at the end. Each template that it keeps is named by how far before it that
-    /// template's definition stands. After want of memory the table is as before, and the
-    /// definition is dropped.
+    /// Puts a definition at the end. After want of memory nothing is changed, and the definition is dropped.
     pub fn push(&mut self, alloc: Global, definition: Definition) -> Result<(), AllocError>
-        requires { KeepsEarlier (length self.old) definition }
         ensures ok { OnOk result (self.new ≡ self.old ++ definition ∷ []) }
         ensures err { OnErr result (self.new ≡ self.old) }
     {
         let shared = Arc::new(alloc, definition)?;
         self.definitions.push(shared)?;
         Ok(())
-    }
-
-    /// Puts the definitions of another table at the end: its definition number n is then the one
-    /// of number n and the former length. No definition is copied. After want of memory the table
-    /// is as before.
-    pub fn append(&mut self, alloc: Global, other: &Kept) -> Result<(), AllocError>
-        ensures ok { OnOk result (self.new ≡ self.old ++ other.now) }
-        ensures err { OnErr result (self.new ≡ self.old) }
-    {
-        let Kept {
-            definitions: mut shared,
-        } = other.copy(alloc)?;
-        self.definitions.append(&mut shared)?;
-        Ok(())
-    }
-
-    /// A new table equal to this one. No definition is copied.
-    pub fn copy(&self, alloc: Global) -> Result<Kept, AllocError>
-        ensures { IfOk result (λ r. r ≡ self.now) }
-    {
-        let mut definitions = Vec::with_capacity(alloc, self.definitions.len())?;
-        for definition in &self.definitions {
-            definitions.push(definition.clone()?)?;
-        }
-        Ok(Kept { definitions })
     }
 }

@@ -14,11 +14,13 @@ mod value;
 pub use bindings::{Bindings, Overrides};
 pub use comparison::Compare;
 pub use error::{ElementError, ValueError};
-pub use import_value::ImportValue;
-pub use kept::{Definition, Kept, KeptScope};
+pub use import_value::{ImportValue, MadeBy};
+pub use kept::{Definition, DefinitionName, Definitions, KeptScope};
 pub use limits::{MAX_BYTES, MAX_DEPTH, MAX_ITEMS, append_text};
 pub use operators::{add, compare, index, subtract};
 pub use value::{Entries, Entry, Items, Value, print_text};
 
 #[cfg(test)]
 mod tests;
+#[cfg(test)]
+mod tests_kept;

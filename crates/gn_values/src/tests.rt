@@ -1,15 +1,14 @@
 // Each call once, with ample memory, and the answers that the language names.
 
-ghost use Rattle.std.specs.Prelude.{◌≡◌, ◌≤◌, [], IfOk};
+ghost use Rattle.std.specs.Prelude.{◌≤◌};
 
 use crate::{
-    Bindings, Compare, Definition, ElementError, Entries, ImportValue, Items, Kept, KeptScope,
-    Overrides, Value, ValueError, add, append_text, compare, index, print_text, subtract,
+    Bindings, Compare, ElementError, Entries, Items, Overrides, Value, ValueError, add,
+    append_text, compare, index, print_text, subtract,
 };
 use gn_paths::Text;
-use gn_tree::{AssignOp, Block, Position};
+use gn_tree::AssignOp;
 use std::alloc::{AllocError, Global};
-use std::collections::BTreeMap;
 use std::test::Fail;
 
 fn string(alloc: Global, bytes: &[u8]) -> Result<Value, AllocError> {
@@ -273,6 +272,16 @@ fn elements_nest_199_deep(rt: HostRuntime) -> Result<(), Fail> {
 }
 
 #[test]
+fn a_name_behind_all_others(rt: HostRuntime) -> Result<(), Fail> {
+    let alloc = rt.alloc();
+    let mut bindings = Bindings::new(alloc);
+    bindings.push_last(Text::from_bytes(alloc, b"a")?, Value::Int(1))?;
+    assert_eq!(rt; bindings.len(), 1);
+    assert!(rt; bindings.get(b"a").is_some());
+    Ok(())
+}
+
+#[test]
 fn bindings_become_scopes(rt: HostRuntime) -> Result<(), Fail> {
     let alloc = rt.alloc();
     let mut bindings = Bindings::new(alloc);
@@ -281,44 +290,5 @@ fn bindings_become_scopes(rt: HostRuntime) -> Result<(), Fail> {
     assert_eq!(rt; entries.depth(), 1);
     let bindings = Bindings::from_entries(entries);
     assert_eq!(rt; bindings.len(), 1);
-    Ok(())
-}
-
-/// The definition of a template in a column of a file.
-fn definition(alloc: Global, column: u32) -> Result<Definition, AllocError>
-    ensures { IfOk result (λ d. d.scope.templates ≡ []) }
-{
-    let scope = KeptScope::new(
-        Bindings::new(alloc),
-        BTreeMap::new(alloc),
-        BTreeMap::new(alloc),
-    );
-    let block = Block::new(alloc, Vec::new(alloc))?;
-    let file = Text::from_bytes(alloc, b"//d.gni")?;
-    Ok(Definition::new(file, Position { line: 1, column }, block, scope))
-}
-
-#[test]
-fn imports_leave_definitions(rt: HostRuntime) -> Result<(), Fail> {
-    let alloc = rt.alloc();
-    let mut table = Kept::new(alloc);
-    table.push(alloc, definition(alloc, 1)?)?;
-    let mut outer = Kept::new(alloc);
-    outer.push(alloc, definition(alloc, 2)?)?;
-    outer.append(alloc, &table)?;
-    assert_eq!(rt; outer.len(), 2);
-    let scope = KeptScope::new(
-        Bindings::new(alloc),
-        BTreeMap::new(alloc),
-        BTreeMap::new(alloc),
-    );
-    let value = ImportValue::new(alloc, scope, table)?.copy(alloc)?;
-    assert!(rt; value.scope().templates().is_empty());
-    let first = value.table().get(0).ok_or("a definition")?;
-    let shared = outer.share(1)?;
-    assert!(rt; first.is_same(&shared));
-    let other = outer.get(0).ok_or("a definition")?;
-    assert!(rt; !first.is_same(other));
-    assert_eq!(rt; first.position().column, 1);
     Ok(())
 }

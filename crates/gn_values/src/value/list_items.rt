@@ -1,7 +1,7 @@
 // What is done with the items of a list.
 
 ghost use Rattle.std.specs.Prelude.{◌≡◌, ◌≢◌, ◌↔◌, ◌≤◌, ◌++◌, [], ◌∷◌, IsTrue, IfOk, OnOk, OnErr, IfErr, false, length, map, option_map, slice_get, MatchResult};
-ghost use Rattle.gn_values.specs.Val.{list_depth};
+ghost use Rattle.gn_values.specs.Val.{vals_of, list_of, list_depth};
 ghost use Rattle.gn_values.specs.Limits.{max_depth, max_items, list_fits, IsList};
 ghost use Rattle.gn_values.specs.Operators.{item_at};
 ghost use Rattle.gn_values.specs.View.{val_of};
@@ -55,7 +55,8 @@ impl Items {
 
     /// The items, in order, moved out of the list. It takes no memory.
     pub fn into_vec(self) -> Vec<Value>
-        ensures { map val_of result.items ≡ self }
+        ensures value { map val_of result.items ≡ self }
+        ensures items { list_of (vals_of self) ≡ map val_of result.items }
     {
         let Items { items, .. } = self;
         items

@@ -1,8 +1,8 @@
 // Entries in the order of their names, and what is done with those of a scope.
 
-ghost use Rattle.std.specs.Prelude.{◌≡◌, ◌≢◌, ◌↔◌, ◌≤◌, [], IsTrue, IfOk, OnOk, OnErr, IfErr, false, length, map, option_map};
-ghost use Rattle.gn_values.specs.Val.{scope_depth, IsSortedByName};
-ghost use Rattle.gn_values.specs.Operators.{value_at, with_entry};
+ghost use Rattle.std.specs.Prelude.{◌≡◌, ◌≢◌, ◌↔◌, ◌≤◌, [], IsTrue, IfOk, OnOk, OnErr, IfErr, false, length, map, option_map, ok_or};
+ghost use Rattle.gn_values.specs.Val.{vscope, vstr, binds_of, entries_of, scope_depth, IsSortedByName};
+ghost use Rattle.gn_values.specs.Operators.{value_at, with_entry, element_of};
 ghost use Rattle.gn_values.specs.Limits.{max_depth, scope_fits, IsScope};
 ghost use Rattle.gn_values.specs.View.{val_of, entry_of};
 
@@ -82,7 +82,9 @@ impl Entries {
     /// The value of a name. None comes exactly where no entry has the name. It looks at
     /// logarithmically many entries.
     pub fn get(&self, name: &[u8]) -> Option<&Value>
-        ensures { option_map (λ v. val_of v.now) result ≡ value_at name.now self.now }
+        ensures value { option_map (λ v. val_of v.now) result ≡ value_at name.now self.now }
+        ensures entry { option_map (λ v. val_of v.now) result ≡ value_at name.now (entries_of (binds_of self.now)) }
+        ensures element { ok_or (option_map (λ v. val_of v.now) result) ValueError.Undefined ≡ element_of (vscope (binds_of self.now)) (vstr name.now) }
     {
         match find_entry(self.entries.as_slice(), name) {
             Ok(at) => Some(&self.entries[at].value),

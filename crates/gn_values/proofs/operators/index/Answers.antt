@@ -1,10 +1,9 @@
 use Rattle.std.proofs.Common.{◌≡◌, ◌∙◌, sym, ap, FitsSigned, w64, rules}
-use Rattle.std.specs.Option.{ok_or}
 use Rattle.std.proofs.lemmas.Int.{to_z-of_z}
-use Rattle.gn_values.specs.Operators.{element_of, item_at, value_at}
+use Rattle.gn_values.specs.Operators.{element_of, item_at}
+use Rattle.gn_values.specs.Val.{vscope, vstr, binds_of}
 use Rattle.gn_values.specs.View.{val_of}
-use Rattle.gn_values.specs.declared.error.ValueError.TheVariants.{Undefined}
-use Rattle.gn_values.proofs.Meanings.{element_of-list, element_of-scope}
+use Rattle.gn_values.proofs.Meanings.{element_of-list}
 use Rattle.gn_values.proofs.operators.index.Goals as goal
 
 pub returns-in-List-Int : goal.returns-in-List-Int
@@ -16,10 +15,10 @@ returns-in-List-Int c =
 
 pub returns-in-Some : goal.returns-in-Some
 returns-in-Some c =
-    (λ i. element_of (val_of (c.in-Scope-Str.is-0 i)) (val_of (c.in-Scope-Str.is-1 i))) ∙ element_of-scope _ _
-    ∙ ap (λ o. ok_or o Undefined) (ap (λ n. value_at n c.in-Scope-Str.entries) (sym c.as_bytes.ensures) ∙ sym c.in-Some.ensures)
+    (λ i. element_of (val_of (c.in-Scope-Str.is-0 i)) (val_of (c.in-Scope-Str.is-1 i)))
+    ∙ ap (λ n. element_of (vscope (binds_of c.in-Scope-Str.entries)) (vstr n)) (sym c.as_bytes.ensures) ∙ sym c.in-Some.ensures.element
 
 pub returns-in-None : goal.returns-in-None
 returns-in-None c =
-    (λ i. element_of (val_of (c.in-Scope-Str.is-0 i)) (val_of (c.in-Scope-Str.is-1 i))) ∙ element_of-scope _ _
-    ∙ ap (λ o. ok_or o Undefined) (ap (λ n. value_at n c.in-Scope-Str.entries) (sym c.as_bytes.ensures) ∙ sym c.in-None.ensures)
+    (λ i. element_of (val_of (c.in-Scope-Str.is-0 i)) (val_of (c.in-Scope-Str.is-1 i)))
+    ∙ ap (λ n. element_of (vscope (binds_of c.in-Scope-Str.entries)) (vstr n)) (sym c.as_bytes.ensures) ∙ sym c.in-None.ensures.element
