@@ -8,7 +8,9 @@ use Rattle.gn_values.specs.Val.{Val}
 use Rattle.gn_values.specs.View.{val_of}
 use Rattle.gn_values.specs.declared.error.ValueError.{ValueError}
 use Rattle.gn_values.specs.declared.error.ElementError.{ElementError}
-use Rattle.gn_scopes.specs.Layers.{Table, LayerState}
+use Rattle.gn_values.specs.Tables.{Table}
+use Rattle.gn_values.specs.declared.kept.DefinitionName.{DefinitionName}
+use Rattle.gn_scopes.specs.Layers.{LayerState}
 use Rattle.gn_scopes.specs.Chains.{variable_in}
 use Rattle.gn_scopes.specs.Assigning.{replaces, unread_after, put, overwritten, overwritten_over, changed_in, changed_here, put_result, replaces_nonempty, has_no_value, operator_refuses, base_has_no_value, element_refuses}
 use Rattle.gn_scopes.specs.Errors.{refusal_of, element_refusal_of, IsRefusalOf, IsElementRefusalOf}
@@ -20,7 +22,7 @@ use Rattle.gn_scopes.specs.declared.error.ElementAssignError.{ElementAssignError
 use Rattle.gn_scopes.specs.declared.error.ElementAssignError.TheVariants.{Undefined as NoBase, Subscript, Operator, Memory as NoMemory}
 use Rattle.gn_scopes.proofs.Tables.{order, layer_with, not_there, is_there, same_there, put_there}
 
-module _ (templates : Table ℕ) (defaults : Table (Table Val)) (checked : Bool) (name : List ℕ) (es : List (List ℕ × Variable)) (layer : LayerState) (view : layer_with templates defaults checked es ≡ layer) where
+module _ (templates : Table DefinitionName) (defaults : Table (Table Val)) (checked : Bool) (name : List ℕ) (es : List (List ℕ × Variable)) (layer : LayerState) (view : layer_with templates defaults checked es ≡ layer) where
   pub absent_in : None ≡ lookup (is_at (order name)) es → variable_in name layer ≡ None
   absent_in h = ap (variable_in name) (sym view) ∙ not_there templates defaults checked name es h
 

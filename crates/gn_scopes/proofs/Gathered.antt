@@ -5,14 +5,10 @@ use Rattle.std.specs.List.{AllByRecursion}
 use Rattle.std.specs.Map.{keys_of}
 use Rattle.std.specs.List.Sorted.{IsStrictlySortedBy}
 use Rattle.gn_values.specs.Val.{Val, IsSortedByName, names_of}
-use Rattle.gn_values.specs.View.{val_of}
 use Rattle.gn_values.proofs.Sorted.{order}
 use Rattle.gn_scopes.specs.Layers.{VariableState}
-use Rattle.gn_scopes.specs.View.{variables_in}
+use Rattle.gn_scopes.specs.View.{variables_in, pair_value}
 use Rattle.gn_scopes.specs.declared.variable.Variable.{Variable}
-
-abbrev pub pair_value : List ℕ × Variable → List ℕ × Val
-pair_value e = (e.0, val_of e.1.value)
 
 pub values_seen : (es : List (List ℕ × Variable)) → map (λ (v : List ℕ × VariableState). (v.0, v.1.value)) (variables_in es) ≡ map pair_value es
 values_seen [] = refl

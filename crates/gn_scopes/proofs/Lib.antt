@@ -3,4 +3,11 @@ pub mod Changes
 pub mod Outcomes
 pub mod Outwards
 pub mod Gathered
-pub mod Levels
+pub mod Undone
+pub mod NameSets
+pub mod ManyReads
+pub mod Forwarded
+pub mod Merging
+pub mod Laid
+pub mod Searched
+pub mod Restored

@@ -6,8 +6,9 @@ use Rattle.std.specs.declared.cmp.Ordering.TheVariants.{Less, Equal, Greater}
 use Rattle.std.specs.Cmp.Lexicographic.{nat_list_cmp_total}
 use Rattle.gn_values.specs.Val.{Val}
 use Rattle.gn_values.proofs.Sorted.{order, by_answer}
-use Rattle.gn_scopes.specs.Layers.{VariableState, Table, at_name, with_name, LayerState, ChainState}
-use Rattle.gn_scopes.specs.Environment.{Environment, fixed_value, value_of, after_read}
+use Rattle.gn_values.specs.Tables.{Table, at_name, with_name}
+use Rattle.gn_scopes.specs.Layers.{VariableState, LayerState, ChainState}
+use Rattle.gn_scopes.specs.Environment.{Environment, fixed_value, behind, value_of, after_read}
 use Rattle.gn_scopes.specs.Chains.{variable_in, nearest, variable_of, read_variable, read_of, read_in, read_through, marked, IsFirstAt, chain_value, chain_read, chain_read_of}
 
 tied : (r : Ordering) → r ≡ ordering_reverse r → r ≡ Equal
@@ -135,4 +136,4 @@ module _ (name : List ℕ) where
   pub value_of-after_read : (env : Environment) → value_of name (after_read name env) ≡ value_of name env
   unfolding value_of after_read
   value_of-after_read env =
-      ap (λ v. nearest v (fixed_value name env.beneath)) (chain_value-chain_read env.chain)
+      ap (λ v. nearest v (fixed_value name (behind env))) (chain_value-chain_read env.chain)

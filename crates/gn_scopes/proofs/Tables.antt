@@ -3,7 +3,9 @@ use Rattle.std.proofs.Common.{◌≡◌, ℕ, List, [], ◌∷◌, map, cond, Bo
 use Rattle.std.specs.Cmp.Lexicographic.{slice_cmp, nat_list_cmp_total}
 use Rattle.std.proofs.lemmas.Map.Made.{lookup-map_values}
 use Rattle.gn_values.specs.Val.{Val}
-use Rattle.gn_scopes.specs.Layers.{VariableState, Table, at_name, with_name, without_name, LayerState}
+use Rattle.gn_values.specs.Tables.{Table, at_name, with_name, without_name}
+use Rattle.gn_values.specs.declared.kept.DefinitionName.{DefinitionName}
+use Rattle.gn_scopes.specs.Layers.{VariableState, LayerState}
 use Rattle.std.proofs.lemmas.Map.Steps.{set_value_same}
 use Rattle.gn_values.specs.View.{val_of}
 use Rattle.gn_tree.specs.declared.position.Position.{Position}
@@ -89,7 +91,7 @@ module _ (name : List ℕ) (es : List (List ℕ × Variable)) where
       ap variables_in (set_value-is_insert_entry nat_list_cmp_total name v w es s h) ∙ with_variable w
 
 -- a layer of these variables
-module _ (templates : Table ℕ) (defaults : Table (Table Val)) (checked : Bool) where
+module _ (templates : Table DefinitionName) (defaults : Table (Table Val)) (checked : Bool) where
   abbrev pub layer_with : List (List ℕ × Variable) → LayerState
   layer_with es = record { variables = variables_in es; templates = templates; defaults = defaults; checked = checked }
 

@@ -1,7 +1,10 @@
 -- Reading through layers, outwards.
-use Rattle.std.specs.Prelude.{◌≡◌, ℕ, zero, suc, IsSome, Bool, List, [], ◌∷◌, Option, Some, None, option_map}
+use Rattle.std.specs.Prelude.{◌≡◌, ℕ, zero, suc, IsSome, Bool, false, List, [], ◌∷◌, map, Option, Some, None, option_map, if◌then◌else◌}
+use Rattle.std.specs.List.{list_any}
+use Rattle.std.specs.Str.{bytes_eq}
 use Rattle.gn_values.specs.Val.{Val}
-use Rattle.gn_scopes.specs.Layers.{VariableState, at_name, with_name, without_name, LayerState, ChainState, empty_layer}
+use Rattle.gn_values.specs.Tables.{at_name, with_name, without_name}
+use Rattle.gn_scopes.specs.Layers.{VariableState, LayerState, ChainState, empty_layer}
 
 -- what the layer has at the name
 abbrev pub variable_in : List ℕ → LayerState → Option VariableState
@@ -72,10 +75,34 @@ chain_read name chain = chain_read_of name chain (variable_in name chain.inner)
 abbrev pub chain_entered : Bool → ChainState → ChainState
 chain_entered checked chain = record { inner = empty_layer checked; outer = chain.inner ∷ chain.outer }
 
--- the innermost scope ends
+-- the innermost scope ends; behind the outermost one an empty one begins
 abbrev pub chain_left : ChainState → ChainState
 chain_left chain = ended chain.outer
   where
     ended : List LayerState → ChainState
-    ended [] = chain
+    ended [] = record { inner = empty_layer false; outer = [] }
     ended (l ∷ ls) = record { inner = l; outer = ls }
+
+-- whether a name is one of these
+abbrev pub is_one_of : List ℕ → List (List ℕ) → Bool
+is_one_of name names = list_any (bytes_eq name) names
+
+-- a variable after a read of all names but these
+abbrev pub read_but : List (List ℕ) → List ℕ × VariableState → List ℕ × VariableState
+read_but except v = if is_one_of v.0 except then v else (v.0, read_variable v.1)
+
+-- the layer after a read of all its names but these
+abbrev pub all_read_but : List (List ℕ) → LayerState → LayerState
+all_read_but except layer = record layer { variables = map (read_but except) layer.variables }
+
+abbrev pub all_read : LayerState → LayerState
+all_read layer = record layer { variables = map (λ (v : List ℕ × VariableState). (v.0, read_variable v.1)) layer.variables }
+
+-- the layer after a read of these names, of those that it has, but for the excepted ones
+abbrev pub names_read : List (List ℕ) → List (List ℕ) → LayerState → LayerState
+names_read [] except layer = layer
+names_read (n ∷ ns) except layer = names_read ns except (if is_one_of n except then layer else read_in n layer)
+
+-- the layers after a read of all their names
+abbrev pub chain_all_read : ChainState → ChainState
+chain_all_read chain = record { inner = all_read chain.inner; outer = map all_read chain.outer }

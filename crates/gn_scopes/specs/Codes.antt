@@ -4,10 +4,16 @@ use Rattle.std.specs.Coded.{Coded, code_by, coded×, coded_ℕ, coded_bool, code
 use Rattle.gn_tree.specs.declared.position.Position.{Position}
 use Rattle.gn_items.specs.declared.stage.Stage.{Stage}
 use Rattle.gn_items.specs.declared.stage.Stage.TheVariants.{Arguments, Loading, Graph, Question, Includes}
+use Rattle.gn_items.specs.declared.file_kind.FileKind.{FileKind}
+use Rattle.gn_items.specs.declared.file_kind.FileKind.TheVariants.{BuildFile, Import}
 use Rattle.gn_values.specs.Val.{Val}
 use Rattle.gn_values.specs.ValCode.{val_code}
-use Rattle.gn_scopes.specs.Layers.{VariableState, Table, LayerState, FixedState, ChainState}
-use Rattle.gn_scopes.specs.Environment.{Setting, Environment}
+use Rattle.gn_values.specs.Tables.{Table}
+use Rattle.gn_values.specs.Imported.{ScopeState, DefinitionState, MadeBy}
+use Rattle.gn_values.specs.ImportedCode.{name_code, scope_code, definition_code, made_code}
+use Rattle.gn_values.specs.declared.kept.DefinitionName.{DefinitionName}
+use Rattle.gn_scopes.specs.Layers.{VariableState, LayerState, ChainState}
+use Rattle.gn_scopes.specs.Environment.{Setting, Caller, Environment}
 
 abbrev pub text_code : Coded (List ℕ)
 text_code = coded_list coded_ℕ
@@ -23,13 +29,9 @@ abbrev pub variable_code : Coded VariableState
 variable_code =
     code_by (Val × Option Position) (coded× val_code (coded_option position_code)) (λ v. (v.value, v.unread)) (λ p. record { value = p.0; unread = p.1 }) (λ _. refl)
 
-abbrev pub fixed_code : Coded FixedState
-fixed_code =
-    code_by (Table Val × (Table ℕ × Table (Table Val))) (coded× (table_code val_code) (coded× (table_code coded_ℕ) (table_code (table_code val_code)))) (λ f. (f.values, (f.templates, f.defaults))) (λ p. record { values = p.0; templates = p.1.0; defaults = p.1.1 }) (λ _. refl)
-
 abbrev pub layer_code : Coded LayerState
 layer_code =
-    code_by ((Table VariableState × Bool) × (Table ℕ × Table (Table Val))) (coded× (coded× (table_code variable_code) coded_bool) (coded× (table_code coded_ℕ) (table_code (table_code val_code)))) (λ l. ((l.variables, l.checked), (l.templates, l.defaults))) (λ p. record { variables = p.0.0; templates = p.1.0; defaults = p.1.1; checked = p.0.1 }) (λ _. refl)
+    code_by ((Table VariableState × Bool) × (Table DefinitionName × Table (Table Val))) (coded× (coded× (table_code variable_code) coded_bool) (coded× (table_code name_code) (table_code (table_code val_code)))) (λ l. ((l.variables, l.checked), (l.templates, l.defaults))) (λ p. record { variables = p.0.0; templates = p.1.0; defaults = p.1.1; checked = p.0.1 }) (λ _. refl)
 
 abbrev pub chain_code : Coded ChainState
 chain_code =
@@ -60,10 +62,29 @@ stage_back Includes = refl
 abbrev pub stage_code : Coded Stage
 stage_code = code_by ℕ coded_ℕ stage_index stage_at stage_back
 
+abbrev kind_index : FileKind → ℕ
+kind_index BuildFile = 0
+kind_index Import = 1
+
+abbrev kind_at : ℕ → FileKind
+kind_at zero = BuildFile
+kind_at (suc n) = Import
+
+pub kind_back : (k : FileKind) → kind_at (kind_index k) ≡ k
+kind_back BuildFile = refl
+kind_back Import = refl
+
+abbrev pub kind_code : Coded FileKind
+kind_code = code_by ℕ coded_ℕ kind_index kind_at kind_back
+
 abbrev pub setting_code : Coded Setting
 setting_code =
-    code_by ((Stage × Bool) × (List ℕ × (List ℕ × List ℕ))) (coded× (coded× stage_code coded_bool) (coded× text_code (coded× text_code text_code))) (λ s. ((s.stage, s.in_item), (s.toolchain, (s.file, s.directory)))) (λ p. record { stage = p.0.0; toolchain = p.1.0; file = p.1.1.0; directory = p.1.1.1; in_item = p.0.1 }) (λ _. refl)
+    code_by ((Stage × (FileKind × Bool)) × (List ℕ × (List ℕ × List ℕ))) (coded× (coded× stage_code (coded× kind_code coded_bool)) (coded× text_code (coded× text_code text_code))) (λ s. ((s.stage, (s.kind, s.in_item)), (s.toolchain, (s.file, s.directory)))) (λ p. record { stage = p.0.0; toolchain = p.1.0; file = p.1.1.0; directory = p.1.1.1; kind = p.0.1.0; in_item = p.0.1.1 }) (λ _. refl)
+
+abbrev pub caller_code : Coded Caller
+caller_code =
+    code_by (ChainState × (Option DefinitionState × List ℕ)) (coded× chain_code (coded× (coded_option definition_code) text_code)) (λ c. (c.chain, (c.body, c.file))) (λ p. record { chain = p.0; body = p.1.0; file = p.1.1 }) (λ _. refl)
 
 abbrev pub environment_code : Coded Environment
 environment_code =
-    code_by ((Setting × ChainState) × (List FixedState × ℕ)) (coded× (coded× setting_code chain_code) (coded× (coded_list fixed_code) coded_ℕ)) (λ e. ((e.setting, e.chain), (e.beneath, e.depth))) (λ p. record { setting = p.0.0; chain = p.0.1; beneath = p.1.0; depth = p.1.1 }) (λ _. refl)
+    code_by (((Setting × ChainState) × (Option DefinitionState × List Caller)) × ((List ScopeState × List ℕ) × ((List DefinitionState × MadeBy) × ℕ))) (coded× (coded× (coded× setting_code chain_code) (coded× (coded_option definition_code) (coded_list caller_code))) (coded× (coded× (coded_list scope_code) text_code) (coded× (coded× (coded_list definition_code) made_code) coded_ℕ))) (λ e. (((e.setting, e.chain), (e.body, e.callers)), ((e.beneath, e.execution), ((e.made, e.definitions), e.depth)))) (λ p. record { setting = p.0.0.0; chain = p.0.0.1; body = p.0.1.0; callers = p.0.1.1; beneath = p.1.0.0; execution = p.1.0.1; made = p.1.1.0.0; definitions = p.1.1.0.1; depth = p.1.1.1 }) (λ _. refl)

@@ -1,49 +1,83 @@
 -- The environment of an evaluation: the layers of its scopes, what stands beneath them, and where it takes place. Each word here is what one
 -- kind of step does to it.
-use Rattle.std.specs.Prelude.{ℕ, ◌<◌, Bool, false, List, [], ◌∷◌, length, Option, Some, None, Result, Ok, Err}
+use Rattle.std.specs.Prelude.{ℕ, Bool, false, List, [], ◌∷◌, ◌++◌, Option, Some, None, Result, Ok, Err}
 use Rattle.gn_tree.specs.declared.position.Position.{Position}
 use Rattle.gn_tree.specs.declared.operator.AssignOp.{AssignOp}
 use Rattle.gn_items.specs.declared.stage.Stage.{Stage}
+use Rattle.gn_items.specs.declared.file_kind.FileKind.{FileKind}
 use Rattle.gn_values.specs.Val.{Val}
-use Rattle.gn_scopes.specs.Layers.{VariableState, Table, at_name, FixedState, ChainState, empty_layer, values_in}
+use Rattle.gn_values.specs.Tables.{Table, at_name}
+use Rattle.gn_values.specs.Imported.{ScopeState, DefinitionState, MadeBy}
+use Rattle.gn_scopes.specs.Layers.{VariableState, ChainState, empty_layer, values_in}
 use Rattle.gn_scopes.specs.Chains.{variable_in, set_in, nearest, chain_value, chain_read, chain_entered, chain_left}
 use Rattle.gn_scopes.specs.Assigning.{Refusal, assigned, ElementRefusal, element_changed}
 use Rattle.gn_scopes.specs.Unread.{reported}
 
--- where an evaluation takes place: the stage and the toolchain that its faults have, the file that its places name, the current directory, and
--- whether the block of an item is open
+-- where an evaluation takes place: the stage and the toolchain that its faults have, the file that its places name, the current directory, as what
+-- the file is evaluated, and whether the block of an item is open
 pub record Setting : Type 0 where
   pub stage : Stage
   pub toolchain : List ℕ
   pub file : List ℕ
   pub directory : List ℕ
+  pub kind : FileKind
   pub in_item : Bool
+
+-- who called the template whose body runs: the layers there, of which the innermost is the scope of the call's block, the definition whose body runs
+-- in these layers, if it is one, and the file
+pub record Caller : Type 0 where
+  pub chain : ChainState
+  pub body : Option DefinitionState
+  pub file : List ℕ
 
 pub record Environment : Type 0 where
   pub setting : Setting
   pub chain : ChainState
-  -- searched behind the layers, in order
-  pub beneath : List FixedState
+  -- the definition whose body runs in the layers, if it is one
+  pub body : Option DefinitionState
+  -- the callers of the templates whose bodies run, the innermost first
+  pub callers : List Caller
+  -- searched behind the layers and what the body keeps, in order
+  pub beneath : List ScopeState
+  -- the name of this execution, and the definitions that it has made
+  pub execution : List ℕ
+  pub made : List DefinitionState
+  -- the definitions that other executions made
+  pub definitions : MadeBy
   -- the depth of the evaluation: the sum over the template calls that are open
   pub depth : ℕ
 
 -- an environment of one scope, in which nothing is set
-unfoldable pub new_environment : Stage → List ℕ → List ℕ → List ℕ → Bool → List FixedState → Environment
-new_environment stage toolchain file directory checked beneath = record {
-  setting = record { stage = stage; toolchain = toolchain; file = file; directory = directory; in_item = false };
+unfoldable pub new_environment : Setting → List ℕ → Bool → List ScopeState → Environment
+new_environment setting execution checked beneath = record {
+  setting = setting;
   chain = record { inner = empty_layer checked; outer = [] };
+  body = None;
+  callers = [];
   beneath = beneath;
+  execution = execution;
+  made = [];
+  definitions = [];
   depth = 0;
 }
 
--- the first of the fixed layers that has the name
-abbrev pub fixed_value : List ℕ → List FixedState → Option Val
+-- the first of the scopes that has the name
+abbrev pub fixed_value : List ℕ → List ScopeState → Option Val
 fixed_value name [] = None
-fixed_value name (f ∷ fs) = nearest (at_name name f.values) (fixed_value name fs)
+fixed_value name (f ∷ fs) = nearest (at_name name f.variables) (fixed_value name fs)
 
--- what a read of the name finds: it searches the layers outwards, then what stands beneath them
+-- what the definition keeps whose body runs
+abbrev pub kept_by : Option DefinitionState → List ScopeState
+kept_by None = []
+kept_by (Some definition) = definition.scope ∷ []
+
+-- what is searched behind the layers: what the body keeps, then what stands beneath it
+abbrev pub behind : Environment → List ScopeState
+behind env = kept_by env.body ++ env.beneath
+
+-- what a read of the name finds: it searches the layers outwards, then what stands behind them
 unfoldable pub value_of : List ℕ → Environment → Option Val
-value_of name env = nearest (chain_value name env.chain) (fixed_value name env.beneath)
+value_of name env = nearest (chain_value name env.chain) (fixed_value name (behind env))
 
 -- the environment after a read of the name
 unfoldable pub after_read : List ℕ → Environment → Environment
@@ -57,12 +91,20 @@ with_chain env (Err e) = Err e
 -- `name = value`, `name += value`, `name -= value`
 unfoldable pub after_assignment : List ℕ → AssignOp → Val → Position → Environment → Result Environment Refusal
 after_assignment name op value position env =
-    with_chain env (assigned name op value position (fixed_value name env.beneath) env.chain)
+    with_chain env (assigned name op value position (fixed_value name (behind env)) env.chain)
+
+-- the same where this is what stands behind the layers at the name
+unfoldable pub after_assignment_over : Val → List ℕ → AssignOp → Val → Position → Environment → Result Environment Refusal
+after_assignment_over old name op value position env = with_chain env (assigned name op value position (Some old) env.chain)
 
 -- `name[at] = value`, `name.at = value`, and their kin
 unfoldable pub after_element_assignment : List ℕ → Val → AssignOp → Val → Position → Environment → Result Environment ElementRefusal
 after_element_assignment name at op value position env =
-    with_chain env (element_changed name at op value position (fixed_value name env.beneath) env.chain)
+    with_chain env (element_changed name at op value position (fixed_value name (behind env)) env.chain)
+
+-- the same where this is what stands behind the layers at the name
+unfoldable pub after_element_assignment_over : Val → List ℕ → Val → AssignOp → Val → Position → Environment → Result Environment ElementRefusal
+after_element_assignment_over old name at op value position env = with_chain env (element_changed name at op value position (Some old) env.chain)
 
 -- a scope opens
 unfoldable pub entered : Bool → Environment → Environment
@@ -71,13 +113,6 @@ entered checked env = record env { chain = chain_entered checked env.chain }
 -- the innermost scope ends
 unfoldable pub left : Environment → Environment
 left env = record env { chain = chain_left env.chain }
-
--- how many scopes are open beside the outermost one, and whether one is
-abbrev pub levels : Environment → ℕ
-levels env = length env.chain.outer
-
-abbrev pub IsEntered : Environment → Type 0
-IsEntered env = 0 < levels env
 
 -- the names that stand directly in the innermost scope, with their values
 unfoldable pub entries_here : Environment → Table Val

@@ -1,7 +1,8 @@
 -- Names that nothing reads.
 use Rattle.std.specs.Prelude.{ℕ, Bool, ◌&&◌, ◌||◌, nat_lt, nat_eq, if◌then◌else◌, List, [], ◌∷◌, Option, Some, None, option_map}
 use Rattle.gn_tree.specs.declared.position.Position.{Position}
-use Rattle.gn_scopes.specs.Layers.{VariableState, Table, LayerState}
+use Rattle.gn_values.specs.Tables.{Table}
+use Rattle.gn_scopes.specs.Layers.{VariableState, LayerState}
 
 -- whether a position stands before another: by line, then by column
 abbrev pub stands_before : Position → Position → Bool

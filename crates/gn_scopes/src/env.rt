@@ -1,10 +1,10 @@
 // The environment of an evaluation.
 
 ghost use types.Logic.{sem};
-ghost use Rattle.std.specs.Prelude.{◌≡◌, ◌≢◌, ◌+◌, OnOk, OnErr, IfOk, IfErr, IfSome, true, false, map, option_map};
+ghost use Rattle.std.specs.Prelude.{◌≡◌, ◌≢◌, ◌++◌, OnOk, OnErr, IfOk, IfErr, IfSome, true, false, map, option_map};
 ghost use Rattle.gn_values.specs.Limits.{scope_fits};
 ghost use Rattle.gn_values.specs.View.{val_of};
-ghost use Rattle.gn_scopes.specs.Environment.{new_environment, fixed_value, value_of, after_read, after_assignment, after_element_assignment, entered, left, levels, IsEntered, entries_here, reported_here, variable_here, restored, given, in_item};
+ghost use Rattle.gn_scopes.specs.Environment.{new_environment, fixed_value, kept_by, value_of, after_read, after_assignment, after_assignment_over, after_element_assignment, after_element_assignment_over, entered, left, entries_here, reported_here, variable_here, restored, given, in_item};
 ghost use Rattle.gn_scopes.specs.Faults.{fault_in};
 ghost use Rattle.gn_scopes.specs.Errors.{refusal_of, element_refusal_of};
 ghost use Rattle.gn_scopes.specs.Found.{IsFound};
@@ -12,15 +12,16 @@ ghost use Rattle.gn_scopes.specs.Lending.{Ends};
 ghost use Rattle.gn_scopes.specs.View.{variable_state};
 ghost use Rattle.gn_scopes.specs.contracts.env.Env.{the_row};
 
+use crate::caller::Caller;
 use crate::error::{AssignError, ElementAssignError};
-use crate::fixed::Fixed;
 use crate::scopes::{Found, Scopes};
 use crate::variable::Variable;
-use gn_items::{Code, Fault, Stage};
+use gn_items::{Code, Fault, FileKind, Stage};
 use gn_paths::{Path, Place, Text, Texts};
 use gn_tree::{AssignOp, Position};
-use gn_values::{Entries, Value, ValueError};
+use gn_values::{Definition, Definitions, Entries, KeptScope, MadeBy, Value, ValueError};
 use std::alloc::{AllocError, Global};
+use std::collections::VecDeque;
 use std::marker::Model;
 use std::sync::Arc;
 
@@ -29,20 +30,26 @@ use std::sync::Arc;
 ///
 /// A name is looked up in the scopes outwards, then in the layers beneath them, in order. An assignment goes to the
 /// innermost scope. Looking a name up takes a number of comparisons that is logarithmic in the names of each layer.
-#[derive(Debug, Drop)]
+#[derive(Drop)]
 pub struct Env {
-    stage: Stage,
-    toolchain: Text,
-    file: Text,
-    directory: Path,
-    in_item: bool,
-    scopes: Scopes,
-    beneath: Vec<Arc<Fixed>>,
-    depth: usize,
+    pub(crate) stage: Stage,
+    pub(crate) toolchain: Text,
+    pub(crate) file: Text,
+    pub(crate) directory: Path,
+    pub(crate) kind: FileKind,
+    pub(crate) in_item: bool,
+    pub(crate) scopes: Scopes,
+    pub(crate) body: Option<Arc<Definition>>,
+    pub(crate) callers: VecDeque<Caller>,
+    pub(crate) beneath: Vec<Arc<KeptScope>>,
+    pub(crate) execution: Text,
+    pub(crate) made: Definitions,
+    pub(crate) definitions: MadeBy,
+    pub(crate) depth: usize,
 }
 
 impl Model for Env {
-    ghost use Rattle.std.specs.Prelude.{map};
+    ghost use Rattle.std.specs.Prelude.{map, option_map};
     ghost use Rattle.gn_scopes.specs.Environment.{Environment};
     ghost use Rattle.gn_scopes.specs.Codes.{environment_code};
 
@@ -50,13 +57,25 @@ impl Model for Env {
 
     ghost coded = { environment_code };
 
-    ghost view = { λ a. record { setting = record { stage = a.stage; toolchain = a.toolchain; file = a.file; directory = a.directory; in_item = a.in_item }; chain = a.scopes; beneath = map (λ f. f.value) a.beneath.items; depth = a.depth } };
+    ghost view = { λ a. record {
+      setting = record { stage = a.stage; toolchain = a.toolchain; file = a.file; directory = a.directory; kind = a.kind; in_item = a.in_item };
+      chain = a.scopes;
+      body = option_map (λ d. d.value) a.body;
+      callers = a.callers.items;
+      beneath = map (λ f. f.value) a.beneath.items;
+      execution = a.execution;
+      made = a.made;
+      definitions = a.definitions;
+      depth = a.depth;
+    } };
 }
 
 impl Env {
-    /// An environment of one scope, in which nothing is set and no block of an item is open. `file` is the file that
-    /// its places name, `directory` the current directory, `checked` says whether the scope's end reports a name that
-    /// nothing reads, and `beneath` is what a read searches behind the scopes. It takes no memory.
+    /// An environment of one scope, in which nothing is set, no block of an item is open and no template's body runs.
+    /// `file` is the file that its places name, `directory` the current directory, `kind` as what the file is evaluated,
+    /// `execution` the name of this execution, by which the definitions that it makes are named, `checked` says whether
+    /// the scope's end reports a name that nothing reads, and `beneath` is what a read searches behind the scopes. It
+    /// takes no memory.
     #[tactic(auto, unfolding(crate::specs::Environment::new_environment))]
     pub fn new(
         alloc: Global,
@@ -64,21 +83,30 @@ impl Env {
         toolchain: Text,
         file: Text,
         directory: Path,
+        kind: FileKind,
+        execution: Text,
         checked: bool,
-        beneath: Vec<Arc<Fixed>>,
+        beneath: Vec<Arc<KeptScope>>,
     ) -> Env
         ensures { result
-            ≡ new_environment stage toolchain file directory checked
-            (map (λ f. f.value) beneath.items) }
+            ≡ new_environment
+            (record { stage = stage; toolchain = toolchain; file = file; directory = directory; kind = kind; in_item = false })
+            execution checked (map (λ f. f.value) beneath.items) }
     {
         Env {
             stage,
             toolchain,
             file,
             directory,
+            kind,
             in_item: false,
             scopes: Scopes::new(alloc, checked),
+            body: None,
+            callers: VecDeque::new(alloc),
             beneath,
+            execution,
+            made: Definitions::new(alloc),
+            definitions: MadeBy::new(alloc),
             depth: 0,
         }
     }
@@ -111,6 +139,13 @@ impl Env {
         &self.directory
     }
 
+    /// As what the file is evaluated.
+    pub fn kind(&self) -> FileKind
+        ensures { result ≡ self.now.setting.kind }
+    {
+        self.kind
+    }
+
     /// Whether the block of an item is open.
     pub fn in_item(&self) -> bool
         ensures { result ≡ self.now.setting.in_item }
@@ -121,7 +156,6 @@ impl Env {
     /// Says whether the block of an item is open.
     pub fn set_in_item(&mut self, inside: bool)
         ensures new { self.new ≡ in_item inside self.old }
-        ensures levels { levels self.new ≡ levels self.old }
     {
         self.in_item = inside;
     }
@@ -137,7 +171,7 @@ impl Env {
     /// memory.
     pub fn look(&mut self, name: &Text) -> Option<&Value>
         ensures* read { sem 𝓛 (Ends the_row self.entry
-            (λ env. (env ≡ after_read name.now self.old) × (levels env ≡ levels self.old))) }
+            (λ env. env ≡ after_read name.now self.old)) }
         ensures value { option_map (λ v. val_of v.now) result ≡ value_of name.now self.old }
     {
         let found = self.mark(name);
@@ -164,11 +198,33 @@ impl Env {
             (λ e. IfSome (refusal_of e)
             (λ r. after_assignment name.now op (val_of value) position self.old ≡ Err r)) }
         ensures err { OnErr result (self.new ≡ self.old) }
-        ensures levels { levels self.new ≡ levels self.old }
     {
-        let beneath = fixed_value(&self.beneath, name);
+        let behind = behind_value(&self.body, &self.beneath, name);
+        self.scopes.assign(alloc, name, op, value, position, behind)
+    }
+
+    /// What `assign` does where `old` is what the name has behind the scopes. `Undefined` doesn't come.
+    #[tactic(auto, unfolding(crate::specs::Environment::after_assignment_over))]
+    pub fn assign_over(
+        &mut self,
+        alloc: Global,
+        old: &Value,
+        name: &Text,
+        op: AssignOp,
+        value: Value,
+        position: Position,
+    ) -> Result<(), AssignError>
+        ensures ok { OnOk result
+            (after_assignment_over (val_of old.now) name.now op (val_of value) position self.old
+            ≡ Ok self.new) }
+        ensures refused { IfErr result
+            (λ e. IfSome (refusal_of e)
+            (λ r. after_assignment_over (val_of old.now) name.now op (val_of value) position self.old
+            ≡ Err r)) }
+        ensures err { OnErr result (self.new ≡ self.old) }
+    {
         self.scopes
-            .assign(alloc, name, op, value, position, beneath)
+            .assign(alloc, name, op, value, position, Some(old))
     }
 
     /// `name[at] op= value` or `name.at op= value`, whose operator stands at the position: an assignment of `name`.
@@ -193,11 +249,35 @@ impl Env {
             (λ r. after_element_assignment name.now (val_of at.now) op (val_of value) position self.old
             ≡ Err r)) }
         ensures err { OnErr result (self.new ≡ self.old) }
-        ensures levels { levels self.new ≡ levels self.old }
     {
-        let beneath = fixed_value(&self.beneath, name);
+        let behind = behind_value(&self.body, &self.beneath, name);
         self.scopes
-            .assign_element(alloc, name, at, op, value, position, beneath)
+            .assign_element(alloc, name, at, op, value, position, behind)
+    }
+
+    /// What `assign_element` does where `old` is what the name has behind the scopes. `Undefined` doesn't come.
+    #[tactic(auto, unfolding(crate::specs::Environment::after_element_assignment_over))]
+    pub fn assign_element_over(
+        &mut self,
+        alloc: Global,
+        old: &Value,
+        name: &Text,
+        at: &Value,
+        op: AssignOp,
+        value: Value,
+        position: Position,
+    ) -> Result<(), ElementAssignError>
+        ensures ok { OnOk result
+            (after_element_assignment_over (val_of old.now) name.now (val_of at.now) op (val_of value)
+            position self.old ≡ Ok self.new) }
+        ensures refused { IfErr result
+            (λ e. IfSome (element_refusal_of e)
+            (λ r. after_element_assignment_over (val_of old.now) name.now (val_of at.now) op
+            (val_of value) position self.old ≡ Err r)) }
+        ensures err { OnErr result (self.new ≡ self.old) }
+    {
+        self.scopes
+            .assign_element(alloc, name, at, op, value, position, Some(old))
     }
 
     /// Opens a scope, in which nothing is set. After want of memory nothing is changed.
@@ -205,8 +285,6 @@ impl Env {
     pub fn enter(&mut self, checked: bool) -> Result<(), AllocError>
         ensures ok { OnOk result (self.new ≡ entered checked self.old) }
         ensures err { OnErr result (self.new ≡ self.old) }
-        ensures levels { OnOk result (levels self.new ≡ levels self.old + 1) }
-        ensures entered { OnOk result (IsEntered self.new) }
     {
         self.scopes.enter(checked)
     }
@@ -214,9 +292,7 @@ impl Env {
     /// Ends the innermost scope, and lets go of what it has. It takes no memory.
     #[tactic(auto, unfolding(crate::specs::Environment::left))]
     pub fn leave(&mut self)
-        requires { IsEntered self.old }
         ensures new { self.new ≡ left self.old }
-        ensures levels { levels self.new + 1 ≡ levels self.old }
     {
         let _layer = self.scopes.end();
     }
@@ -225,14 +301,12 @@ impl Env {
     /// `TooLong` comes exactly where they would nest too deep for a scope's value. The scope ends whatever the answer.
     #[tactic(auto, unfolding(crate::specs::Environment::left, crate::specs::Environment::entries_here))]
     pub fn leave_with_entries(&mut self, alloc: Global) -> Result<Entries, ValueError>
-        requires { IsEntered self.old }
         ensures ok { IfOk result (λ entries. entries ≡ entries_here self.old) }
         ensures fits { OnOk result (scope_fits (entries_here self.old) ≡ true) }
         ensures refused { IfErr result
             (λ e. e ≢ ValueError.Memory
             → (e ≡ ValueError.TooLong) × (scope_fits (entries_here self.old) ≡ false)) }
         ensures new { self.new ≡ left self.old }
-        ensures levels { levels self.new + 1 ≡ levels self.old }
     {
         let layer = self.scopes.end();
         layer.into_entries(alloc)
@@ -253,7 +327,6 @@ impl Env {
     pub fn put_aside(&mut self, name: &Text) -> Option<Variable>
         ensures value { option_map variable_state result ≡ variable_here name.now self.old }
         ensures new { self.new ≡ restored name.now None self.old }
-        ensures levels { levels self.new ≡ levels self.old }
     {
         self.scopes.take(name)
     }
@@ -270,7 +343,6 @@ impl Env {
         ensures ok { OnOk result
             (self.new ≡ restored name.now (option_map variable_state variable) self.old) }
         ensures err { OnErr result (self.new ≡ self.old) }
-        ensures levels { levels self.new ≡ levels self.old }
     {
         match variable {
             Some(variable) => self.scopes.put(name.copy(alloc)?, variable),
@@ -287,7 +359,6 @@ impl Env {
     pub fn give(&mut self, alloc: Global, name: &Text, value: Value) -> Result<(), AllocError>
         ensures ok { OnOk result (self.new ≡ given name.now (val_of value) self.old) }
         ensures err { OnErr result (self.new ≡ self.old) }
-        ensures levels { levels self.new ≡ levels self.old }
     {
         let variable = Variable {
             value,
@@ -324,7 +395,6 @@ impl Env {
     #[tactic(auto, unfolding(crate::specs::Environment::after_read))]
     fn mark(&mut self, name: &Text) -> Found
         ensures new { self.new ≡ after_read name.now self.old }
-        ensures levels { levels self.new ≡ levels self.old }
         ensures found { IsFound name.now self.new.chain result }
     {
         self.scopes.mark(name)
@@ -338,18 +408,37 @@ impl Env {
     {
         match self.scopes.value_at(name, found) {
             Some(value) => Some(value),
-            None => fixed_value(&self.beneath, name),
+            None => behind_value(&self.body, &self.beneath, name),
         }
     }
 }
 
-// The value that the first of the layers that has the name has at it.
-fn fixed_value<'a>(layers: &'a [Arc<Fixed>], name: &Text) -> Option<&'a Value>
+// What a name has behind the scopes: in what the body keeps, or else in the first of the scopes beneath that has it.
+fn behind_value<'a>(
+    body: &'a Option<Arc<Definition>>,
+    beneath: &'a [Arc<KeptScope>],
+    name: &Text,
+) -> Option<&'a Value>
     ensures { option_map (λ v. val_of v.now) result
-        ≡ fixed_value name.now (map (λ f. f.value) layers.now) }
+        ≡ fixed_value name.now
+        (kept_by (option_map (λ d. d.value) body.now) ++ map (λ f. f.value) beneath.now) }
 {
-    for layer in layers {
-        if let Some(value) = layer.get(name) {
+    let Some(definition) = body else {
+        return fixed_value(beneath, name);
+    };
+    match definition.scope().variables().get(name.as_bytes()) {
+        Some(value) => Some(value),
+        None => fixed_value(beneath, name),
+    }
+}
+
+// The value that the first of the scopes that has the name has at it.
+fn fixed_value<'a>(scopes: &'a [Arc<KeptScope>], name: &Text) -> Option<&'a Value>
+    ensures { option_map (λ v. val_of v.now) result
+        ≡ fixed_value name.now (map (λ f. f.value) scopes.now) }
+{
+    for scope in scopes {
+        if let Some(value) = scope.variables().get(name.as_bytes()) {
             return Some(value);
         }
     }

@@ -15,19 +15,19 @@ use crate::error::{AssignError, ElementAssignError};
 use crate::variable::Variable;
 use gn_paths::Text;
 use gn_tree::{AssignOp, Position};
-use gn_values::{Bindings, Entries, Value, ValueError};
+use gn_values::{Bindings, DefinitionName, Entries, Value, ValueError};
 use std::alloc::{AllocError, Global};
 use std::collections::BTreeMap;
 use std::marker::Model;
 
-/// The names that one scope has: its variables, its templates by the number of their definition, and the defaults of
+/// The names that one scope has: its variables, its templates by the names of their definitions, and the defaults of
 /// each kind of call. Where it is checked, its end reports a name that nothing reads.
 #[derive(Debug, Drop)]
 pub struct Layer {
-    variables: BTreeMap<Text, Variable>,
-    templates: BTreeMap<Text, usize>,
-    defaults: BTreeMap<Text, Bindings>,
-    checked: bool,
+    pub(crate) variables: BTreeMap<Text, Variable>,
+    pub(crate) templates: BTreeMap<Text, DefinitionName>,
+    pub(crate) defaults: BTreeMap<Text, Bindings>,
+    pub(crate) checked: bool,
 }
 
 impl Model for Layer {
@@ -214,11 +214,7 @@ impl Layer {
             (λ e. e ≢ ValueError.Memory
             → (e ≡ ValueError.TooLong) × (scope_fits (values_in self) ≡ false)) }
     {
-        let mut bindings = Bindings::new(alloc);
-        for (name, variable) in self.variables {
-            bindings.push_last(name, variable.value)?;
-        }
-        Entries::from_bindings(bindings)
+        Entries::from_bindings(self.into_bindings(alloc)?)
     }
 
     /// What the end of the layer reports: the unread name whose last assignment stands first, and where that stands.

@@ -1,19 +1,38 @@
 //! Scopes: where names are looked up and assigned, and which names nothing reads.
 #![tactic(auto)]
 
+mod caller;
 mod env;
 mod error;
-mod fixed;
+mod forwarding;
+mod imports;
+mod invoker;
 mod layer;
+mod layer_gives;
+mod layer_merge;
+mod layer_reads;
+mod layer_templates;
+mod name_set;
 mod scopes;
+mod scopes_templates;
+mod templates;
+mod undo;
 mod variable;
 
 pub use env::Env;
 pub use error::{AssignError, ElementAssignError, ScopeError};
-pub use fixed::Fixed;
+pub use forwarding::{ForwardError, Origin};
+pub use imports::MergeError;
 pub use layer::Layer;
 pub use scopes::Scopes;
+pub use templates::GiveError;
 pub use variable::Variable;
 
 #[cfg(test)]
 mod tests;
+#[cfg(test)]
+mod tests_forwarding;
+#[cfg(test)]
+mod tests_imports;
+#[cfg(test)]
+mod tests_templates;

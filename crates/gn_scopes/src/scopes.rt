@@ -1,7 +1,7 @@
 // The layers of the scopes that are open.
 
 ghost use types.Logic.{sem};
-ghost use Rattle.std.specs.Prelude.{◌≡◌, ◌+◌, ◌≢◌, ℕ, List, ◌<◌, [], OnOk, OnErr, IfOk, IfErr, IfSome, IfNone, Some, None, length, option_map};
+ghost use Rattle.std.specs.Prelude.{◌≡◌, ◌≢◌, ℕ, List, [], OnOk, OnErr, IfOk, IfErr, IfSome, IfNone, Some, None, option_map};
 ghost use Rattle.gn_values.specs.View.{val_of};
 ghost use Rattle.gn_scopes.specs.Layers.{empty_layer};
 ghost use Rattle.gn_scopes.specs.Chains.{variable_in, set_in, variable_of, further_value, marked, IsFirstAt, chain_value, chain_read, chain_entered, chain_left};
@@ -37,9 +37,9 @@ pub(crate) enum Found {
 /// The layers of the scopes that are open, the innermost first.
 #[derive(Debug, Drop)]
 pub struct Scopes {
-    alloc: Global,
-    inner: Layer,
-    outer: VecDeque<Layer>,
+    pub(crate) alloc: Global,
+    pub(crate) inner: Layer,
+    pub(crate) outer: VecDeque<Layer>,
 }
 
 impl Model for Scopes {
@@ -69,7 +69,6 @@ impl Scopes {
     pub fn enter(&mut self, checked: bool) -> Result<(), AllocError>
         ensures ok { OnOk result (self.new ≡ chain_entered checked self.old) }
         ensures err { OnErr result (self.new ≡ self.old) }
-        ensures outer { OnOk result (length self.new.outer ≡ length self.old.outer + 1) }
     {
         self.outer.reserve(1)?;
         let inner = mem::replace(&mut self.inner, Layer::new(self.alloc, checked));
@@ -77,28 +76,26 @@ impl Scopes {
         Ok(())
     }
 
-    /// Ends the innermost scope, and gives its layer. It takes no memory.
+    /// Ends the innermost scope, and gives its layer; behind the outermost one an empty one begins, which isn't checked. It
+    /// takes no memory.
     pub(crate) fn end(&mut self) -> Layer
-        requires { 0 < length self.old.outer }
         ensures layer { result ≡ self.old.inner }
         ensures new { self.new ≡ chain_left self.old }
     {
         match self.outer.pop_front() {
             Some(next) => mem::replace(&mut self.inner, next),
-            None => unreachable!(),
+            None => mem::replace(&mut self.inner, Layer::new(self.alloc, false)),
         }
     }
 
-    /// Ends the innermost scope, and gives its layer. `NoEffect` comes exactly where the scope is checked and has a
-    /// name that nothing read, and names the one whose last assignment stands first. The scope ends whatever the
-    /// answer. It takes no memory.
+    /// Ends the innermost scope, and gives its layer; behind the outermost one an empty one begins, which isn't checked.
+    /// `NoEffect` comes exactly where the scope is checked and has a name that nothing read, and names the one whose last
+    /// assignment stands first. The scope ends whatever the answer. It takes no memory.
     pub fn leave(&mut self) -> Result<Layer, ScopeError>
-        requires { 0 < length self.old.outer }
         ensures ok { IfOk result (λ layer. layer ≡ self.old.inner) }
         ensures read { OnOk result (reported self.old.inner ≡ None) }
         ensures unread { IfErr result (λ e. IsReport e (reported self.old.inner)) }
         ensures new { self.new ≡ chain_left self.old }
-        ensures outer { length self.new.outer + 1 ≡ length self.old.outer }
     {
         let layer = self.end();
         if layer.unread().is_none() {
@@ -139,7 +136,6 @@ impl Scopes {
     #[tactic(auto, unfolding(crate::specs::Chains::chain_read))]
     pub(crate) fn mark(&mut self, name: &Text) -> Found
         ensures new { self.new ≡ chain_read name.now self.old }
-        ensures outer { length self.new.outer ≡ length self.old.outer }
         ensures found { IsFound name.now self.new result }
     {
         if self.inner.mark(name) {
@@ -168,8 +164,7 @@ impl Scopes {
     /// memory.
     pub fn get(&mut self, name: &Text) -> Option<&Value>
         ensures* read { sem 𝓛 (Ends the_row self.entry
-            (λ chain. (chain ≡ chain_read name.now self.old)
-            × (length chain.outer ≡ length self.old.outer))) }
+            (λ chain. chain ≡ chain_read name.now self.old)) }
         ensures value { option_map (λ v. val_of v.now) result ≡ chain_value name.now self.old }
     {
         let found = self.mark(name);
@@ -208,7 +203,6 @@ impl Scopes {
         ensures ok { OnOk result
             (self.new ≡ put_and_read name.now (val_of value) position self.old) }
         ensures err { OnErr result (self.new ≡ self.old) }
-        ensures outer { length self.new.outer ≡ length self.old.outer }
     {
         self.inner.put_assigned(alloc, name, value, position)?;
         let _found = mark_first(&mut self.outer, name);
@@ -235,7 +229,6 @@ impl Scopes {
             name.now position (option_map (λ v. val_of v.now) beneath.entry) self.old
             ≡ Err r)) }
         ensures err { OnErr result (self.new ≡ self.old) }
-        ensures outer { length self.new.outer ≡ length self.old.outer }
     {
         if self.inner.has(name) {
             return self.inner.combine(alloc, name, op, value, position);
@@ -270,7 +263,6 @@ impl Scopes {
             (λ r. assigned name.now op (val_of value) position
             (option_map (λ v. val_of v.now) beneath.entry) self.old ≡ Err r)) }
         ensures err { OnErr result (self.new ≡ self.old) }
-        ensures outer { length self.new.outer ≡ length self.old.outer }
     {
         match op {
             AssignOp::Set => self.inner.overwrite(alloc, name, value, position),
@@ -302,7 +294,6 @@ impl Scopes {
             (λ r. element_changed name.now (val_of at.now) op (val_of value) position
             (option_map (λ v. val_of v.now) beneath.entry) self.old ≡ Err r)) }
         ensures err { OnErr result (self.new ≡ self.old) }
-        ensures outer { length self.new.outer ≡ length self.old.outer }
     {
         if self.inner.has(name) {
             return self
@@ -338,7 +329,6 @@ impl Scopes {
             (λ r. assigned name.now op (val_of value) position None self.old ≡ Err r)) }
         ensures assigning { IfErr result (λ e. (n : List ℕ) (p : Position) → e ≢ ScopeError.NoEffect n p) }
         ensures err { OnErr result (self.new ≡ self.old) }
-        ensures outer { length self.new.outer ≡ length self.old.outer }
     {
         match self.assign(alloc, name, op, value, position, None) {
             Ok(()) => Ok(()),
@@ -361,10 +351,8 @@ fn find(layers: &VecDeque<Layer>, name: &Text) -> Option<usize>
 }
 
 // A read of a name that the layers may have, and the first that has it.
-#[tactic(auto, using(crate::proofs::Levels::marked_length))]
 fn mark_first(layers: &mut VecDeque<Layer>, name: &Text) -> Option<usize>
     ensures marked { layers.new.items ≡ marked name.now layers.old.items }
-    ensures len { length layers.new.items ≡ length layers.old.items }
     ensures some { IfSome result (λ i. IsFirstAt name.now layers.new.items i) }
     ensures none { IfNone result (variable_of name.now layers.new.items ≡ None) }
 {
@@ -375,7 +363,8 @@ fn mark_first(layers: &mut VecDeque<Layer>, name: &Text) -> Option<usize>
     Some(i)
 }
 
-fn outer_value<'a>(layers: &'a VecDeque<Layer>, name: &Text) -> Option<&'a Value>
+/// The value that the first of the layers that has a name has at it. It takes no memory.
+pub(crate) fn outer_value<'a>(layers: &'a VecDeque<Layer>, name: &Text) -> Option<&'a Value>
     ensures { option_map (λ v. val_of v.now) result
         ≡ option_map (λ v. v.value) (variable_of name.now layers.now.items) }
 {

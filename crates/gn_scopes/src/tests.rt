@@ -1,10 +1,7 @@
 // Each call once, with ample memory, and the rules of names that nothing reads.
 
-ghost use Rattle.std.specs.Prelude.{◌≡◌};
-ghost use Rattle.gn_scopes.specs.Environment.{levels};
-
-use crate::{AssignError, ElementAssignError, Env, Fixed, ScopeError, Scopes};
-use gn_items::{Code, Stage};
+use crate::{AssignError, ElementAssignError, Env, ScopeError, Scopes};
+use gn_items::{Code, FileKind, Stage};
 use gn_paths::{Path, Text, Texts};
 use gn_tree::{AssignOp, Position};
 use gn_values::{Bindings, Entries, Items, KeptScope, Value, ValueError};
@@ -27,11 +24,11 @@ fn list(alloc: Global, number: i64) -> Result<Value, ValueError> {
     Ok(Value::List(items))
 }
 
-// A fixed layer in which `host_os` is 7.
-fn built_in(alloc: Global) -> Result<Fixed, AllocError> {
+// A scope beneath in which `host_os` is 7.
+fn built_in(alloc: Global) -> Result<KeptScope, AllocError> {
     let mut values = Bindings::new(alloc);
     values.set(text(alloc, b"host_os")?, Value::Int(7))?;
-    Ok(Fixed::new(KeptScope::new(values, BTreeMap::new(alloc), BTreeMap::new(alloc))))
+    Ok(KeptScope::new(values, BTreeMap::new(alloc), BTreeMap::new(alloc)))
 }
 
 fn environment(alloc: Global, checked: bool) -> Result<Env, AllocError> {
@@ -43,15 +40,15 @@ fn environment(alloc: Global, checked: bool) -> Result<Env, AllocError> {
         text(alloc, b"//t:t")?,
         text(alloc, b"//BUILD.gn")?,
         Path::root(alloc)?,
+        FileKind::BuildFile,
+        text(alloc, b"")?,
         checked,
         beneath,
     ))
 }
 
 // The integer that a name has, or -1 where it has none.
-fn read(env: &mut Env, alloc: Global, name: &[u8]) -> Result<i64, AllocError>
-    ensures { levels env.new ≡ levels env.old }
-{
+fn read(env: &mut Env, alloc: Global, name: &[u8]) -> Result<i64, AllocError> {
     let name = text(alloc, name)?;
     match env.look(&name) {
         Some(Value::Int(n)) => Ok(*n),
@@ -66,9 +63,7 @@ fn assign(
     op: AssignOp,
     value: Value,
     column: u32,
-) -> Result<(), AssignError>
-    ensures { levels env.new ≡ levels env.old }
-{
+) -> Result<(), AssignError> {
     let name = text(alloc, name)?;
     env.assign(alloc, &name, op, value, at(column))
 }
@@ -80,9 +75,7 @@ fn assign_item(
     index: i64,
     value: Value,
     column: u32,
-) -> Result<(), ElementAssignError>
-    ensures { levels env.new ≡ levels env.old }
-{
+) -> Result<(), ElementAssignError> {
     let name = text(alloc, name)?;
     let index = Value::Int(index);
     env.assign_element(alloc, &name, &index, AssignOp::Add, value, at(column))
@@ -97,9 +90,7 @@ enum Step {
     Element,
 }
 
-fn run(env: &mut Env, alloc: Global, step: Step, column: u32) -> Result<(), Fail>
-    ensures { levels env.new ≡ levels env.old }
-{
+fn run(env: &mut Env, alloc: Global, step: Step, column: u32) -> Result<(), Fail> {
     match step {
         Step::Nothing => {}
         Step::Set => assign(env, alloc, b"x", AssignOp::Set, Value::Int(1), column)?,
@@ -259,6 +250,7 @@ fn the_setting(rt: HostRuntime) -> Result<(), Fail> {
     env.set_in_item(true);
     assert!(rt; env.in_item() && env.depth() == 0);
     assert!(rt; matches!(env.stage(), Stage::Loading));
+    assert!(rt; env.kind() == FileKind::BuildFile);
     assert_eq!(rt; env.toolchain().as_bytes(), &b"//t:t"[..]);
     assert_eq!(rt; env.file().as_bytes(), &b"//BUILD.gn"[..]);
     assert_eq!(rt; env.directory().as_bytes(), &b"//"[..]);
@@ -311,6 +303,41 @@ fn a_scope_literal(rt: HostRuntime) -> Result<(), Fail> {
     assert!(rt; entries.len() == 1);
     assert!(rt; matches!(entries.get(b"host_os"), Some(Value::Int(8))));
     assert_eq!(rt; read(&mut env, alloc, b"host_os")?, 7);
+    Ok(())
+}
+
+// The integer that a name has after an assignment over 5, or -1 where it has none.
+fn assigned_over(alloc: Global, op: AssignOp) -> Result<i64, Fail> {
+    let mut env = environment(alloc, false)?;
+    let name = text(alloc, b"x")?;
+    env.assign_over(alloc, &Value::Int(5), &name, op, Value::Int(1), at(1))?;
+    Ok(read(&mut env, alloc, b"x")?)
+}
+
+// Adds 2 to the element of this number of `[ 1 ]`, which stands behind the scopes.
+fn element_over(alloc: Global, index: i64) -> Result<(), Fail> {
+    let mut env = environment(alloc, false)?;
+    let name = text(alloc, b"x")?;
+    let index = Value::Int(index);
+    let old = list(alloc, 1)?;
+    env.assign_element_over(
+        alloc,
+        &old,
+        &name,
+        &index,
+        AssignOp::Add,
+        Value::Int(2),
+        at(1),
+    )?;
+    Ok(())
+}
+
+#[test]
+fn names_that_others_give(rt: HostRuntime) -> Result<(), Fail> {
+    let alloc = rt.alloc();
+    assert_eq!(rt; assigned_over(alloc, AssignOp::Add)?, 6);
+    assert_eq!(rt; assigned_over(alloc, AssignOp::Set)?, 1);
+    element_over(alloc, 0)?;
     Ok(())
 }
 

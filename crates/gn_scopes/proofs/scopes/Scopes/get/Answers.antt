@@ -5,4 +5,4 @@ use Rattle.gn_scopes.proofs.scopes.Scopes.get.Goals as goal
 
 pub returns : goal.returns
 returns c =
-    ((refl, (λ _. tt), (c.mark-found.ensures.new, c.mark-found.ensures.outer)), record { read = tt; value = c.value_at.ensures ∙ ap (chain_value c.args.name.now) c.mark-found.ensures.new ∙ chain_value-chain_read c.args.name.now c.args.self.now })
+    ((refl, (λ _. tt), c.mark-found.ensures.new), record { read = tt; value = c.value_at.ensures ∙ ap (chain_value c.args.name.now) c.mark-found.ensures.new ∙ chain_value-chain_read c.args.name.now c.args.self.now })

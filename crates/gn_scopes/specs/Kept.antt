@@ -1,0 +1,44 @@
+-- What a definition keeps, as layers laid over one another.
+use Rattle.std.specs.Prelude.{ℕ, List, [], ◌∷◌, Option, Some, None}
+use Rattle.std.specs.Ordering.{nat_cmp}
+use Rattle.std.specs.Cmp.Lexicographic.{slice_cmp}
+use Rattle.std.specs.Map.{set_value}
+use Rattle.std.specs.BTreeMap.{is_at}
+use Rattle.gn_values.specs.Tables.{with_names, without_name}
+use Rattle.gn_values.specs.declared.kept.DefinitionName.{DefinitionName}
+use Rattle.gn_values.specs.Imported.{ScopeState}
+use Rattle.gn_scopes.specs.Layers.{LayerState, values_in}
+use Rattle.gn_scopes.specs.Templates.{kept_variables, kept_templates, kept_defaults}
+use Rattle.gn_scopes.specs.declared.templates.GiveError.{GiveError}
+use Rattle.gn_scopes.specs.declared.templates.GiveError.TheVariants.{AlreadySet, Memory}
+
+-- the layer in which a name has the template that it had before, or none
+abbrev pub template_restored : List ℕ → Option DefinitionName → LayerState → LayerState
+template_restored name None layer = record layer { templates = without_name name layer.templates }
+template_restored name (Some before) layer = record layer { templates = set_value (is_at (slice_cmp nat_cmp name)) layer.templates before }
+
+-- what a layer has, as a scope that is kept
+abbrev pub scope_of : LayerState → ScopeState
+scope_of layer = record { variables = values_in layer; templates = layer.templates; defaults = layer.defaults }
+
+-- a scope with the names of another one laid over it
+abbrev pub scope_over : ScopeState → ScopeState → ScopeState
+scope_over upper lower = record {
+  variables = with_names upper.variables lower.variables;
+  templates = with_names upper.templates lower.templates;
+  defaults = with_names upper.defaults lower.defaults;
+}
+
+-- layers, the innermost first, laid over a scope
+abbrev pub layers_over : List LayerState → ScopeState → ScopeState
+layers_over [] base = base
+layers_over (l ∷ ls) base = scope_over (scope_of l) (layers_over ls base)
+
+-- what the body's definition keeps, or nothing
+abbrev pub kept_scope : List ScopeState → ScopeState
+kept_scope scopes = record { variables = kept_variables scopes; templates = kept_templates scopes; defaults = kept_defaults scopes }
+
+-- the name that a refused giving finds set; want of memory finds none
+abbrev pub already_set : GiveError → Option (List ℕ)
+already_set (AlreadySet name) = Some name
+already_set Memory = None

@@ -1,0 +1,47 @@
+// A list of names in which a name is found fast.
+
+ghost use Rattle.std.specs.Prelude.{◌≡◌, IfOk};
+ghost use Rattle.gn_scopes.specs.Chains.{is_one_of};
+
+use gn_paths::{Text, Texts};
+use std::alloc::{AllocError, Global};
+use std::collections::BTreeSet;
+use std::marker::Model;
+
+/// A list of names. Whether a name is one of them takes a number of comparisons that is logarithmic in their number.
+#[derive(Drop)]
+pub(crate) struct NameSet<'a> {
+    names: &'a Texts,
+    set: BTreeSet<Text>,
+}
+
+impl<'a> Model for NameSet<'a> {
+    ghost use Rattle.std.specs.Prelude.{List, ℕ};
+    ghost use Rattle.gn_scopes.specs.NameSets.{HasAll};
+
+    ghost Value = { List (List ℕ) };
+
+    ghost view = { λ a. a.names.now };
+
+    ghost invariant = { λ a. HasAll a.set a.names.now };
+}
+
+impl<'a> NameSet<'a> {
+    /// The set of these names.
+    pub(crate) fn new(alloc: Global, names: &'a Texts) -> Result<NameSet<'a>, AllocError>
+        ensures { IfOk result (λ s. s ≡ names.now) }
+    {
+        let mut set = BTreeSet::new(alloc);
+        for name in names.as_slice() {
+            set.insert(name.copy(alloc)?)?;
+        }
+        Ok(NameSet { names, set })
+    }
+
+    /// Whether a name is one of them. It takes no memory.
+    pub(crate) fn has(&self, name: &Text) -> bool
+        ensures { result ≡ is_one_of name.now self.now }
+    {
+        self.set.contains(name)
+    }
+}
