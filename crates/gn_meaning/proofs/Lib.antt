@@ -1,4 +1,8 @@
-mod Trees
-mod TreeLaws
+mod Steps
 mod Words
+mod Calls
+mod Templates
+mod Selections
+mod Imports
 mod Evaluations
+pub mod ImportTrees

@@ -9,17 +9,16 @@ use Rattle.gn_items.specs.declared.code.Code.TheVariants as code
 use Rattle.gn_items.specs.declared.fault.Fault.{Fault}
 use Rattle.gn_items.specs.declared.item.Item.{Item}
 use Rattle.gn_items.specs.declared.item.ItemKind.{ItemKind}
-use Rattle.gn_items.specs.Effects.{Effects, is_defined, with_item}
-use Rattle.gn_scopes.specs.Environment.{Environment, value_of, after_read, entered, left, reported_here, variable_here, restored, given, in_item}
-use Rattle.gn_meaning.specs.Runs.{Run, then_do, ends, fails}
+use Rattle.gn_items.specs.Effects.{is_defined, with_item}
+use Rattle.gn_runs.specs.Runs.{fails}
+use Rattle.gn_scopes.specs.Environment.{Environment, value_of, after_read, left, reported_here, variable_here, restored, given, in_item}
+use Rattle.gn_scopes.specs.Templates.{block_begins, defaults_given}
+use Rattle.gn_scopes.specs.Invoker.{names_invoker, invoker_entry, after_invoker_entry_read, after_invoker_read}
+use Rattle.gn_meaning.specs.Steps.{Steps, then_do, ends}
 use Rattle.gn_meaning.specs.Words.{fails_at}
 use Rattle.gn_meaning.specs.Items.{defined, label_text}
 use Rattle.gn_meaning.specs.declared.function.Function.{Function}
-use Rattle.gn_meaning.specs.declared.function.Function.TheVariants.{Assert, Defined, Foreach, Print, Item as ItemOf, Excluded, Unknown}
-
--- what is still to be done in an environment
-abbrev pub Steps : Type 0 → Type 0
-Steps A = Environment → Effects → Run A
+use Rattle.gn_meaning.specs.declared.function.Function.TheVariants.{Assert, Defined, Foreach, ForwardVariablesFrom, Import, Item as ItemOf, NotNeeded, Print, SetDefaults, Target, Template, Excluded, Unknown}
 
 -- `assert`: the types from left to right, then the condition
 abbrev pub assertion_runs : Bool → List (List ℕ) → Position → Steps (Option Val)
@@ -48,12 +47,20 @@ has_entry_of (Some (vscope bs)) base (vstr name) position env out = ends (Some (
 has_entry_of (Some _) base at position env out = fails_at code.BadTypes position [] env
 has_entry_of None base at position env out = fails_at code.Undefined position (base ∷ []) env
 
+-- the same at the invoker: this name alone is read
+abbrev pub has_invoker_entry_runs : Val → Position → Steps (Option Val)
+has_invoker_entry_runs (vstr name) position env out = ends (Some (vbool (is_some (invoker_entry name env)))) (after_invoker_entry_read name env) out
+has_invoker_entry_runs _ position env out = fails_at code.BadTypes position [] env
+
 unfoldable pub has_entry_runs : List ℕ → Val → Position → Steps (Option Val)
-has_entry_runs base at position env out = has_entry_of (value_of base env) base at position env out
+has_entry_runs base at position env out =
+    if names_invoker base env then has_invoker_entry_runs at position env out else has_entry_of (value_of base env) base at position env out
 
 -- `defined(name)`
 unfoldable pub has_value_runs : List ℕ → Steps (Option Val)
-has_value_runs name env out = ends (Some (vbool (is_some (value_of name env)))) (after_read name env) out
+has_value_runs name env out =
+    if names_invoker name env then ends (Some (vbool true)) (after_invoker_read env) out
+    else ends (Some (vbool (is_some (value_of name env)))) (after_read name env) out
 
 -- the rounds of a `foreach`: in each the name is given the next item
 abbrev pub turns_run : List ℕ → Steps (Unit {0}) → List Val → Steps (Unit {0})
@@ -81,27 +88,52 @@ item_runs (Ok d) position env out =
 unfoldable pub item_end_runs : ItemKind → List ℕ → Position → Steps (Option Val)
 item_end_runs kind name position env out = item_runs (defined kind name position env) position env out
 
--- the scope in which the block of an item begins
-unfoldable pub item_begins : List ℕ → Environment → Environment
-item_begins name env = given (codes "target_name") (vstr name) (entered true (in_item true env))
+-- the scope in which the block of a call begins: it has the name that is given, and the defaults for calls of this kind
+abbrev pub defaults_taken : Result Environment (List ℕ) → Position → Steps (Unit {0})
+defaults_taken (Ok after) position env out = ends tt after out
+defaults_taken (Err name) position env out = fails_at code.AlreadySet position (name ∷ []) env
 
--- an item's block runs in a scope of its own, which begins with the item's name
-unfoldable pub item_block_runs : ItemKind → Val → Position → Position → Steps (Unit {0}) → Steps (Option Val)
-item_block_runs kind (vstr name) at position block env out =
-    then_do (block (item_begins name env) out) (λ _ env1 out1. item_end_runs kind name position env1 out1)
-item_block_runs kind _ at position block env out = fails_at code.BadTypes at [] env
+unfoldable pub scope_begun_runs : List ℕ → List ℕ → Position → Steps (Unit {0})
+scope_begun_runs kind name position env out = defaults_taken (defaults_given kind (block_begins name env)) position env out
+
+-- an item's block runs in a scope of its own
+unfoldable pub item_block_runs : ItemKind → List ℕ → Val → Position → Position → Steps (Unit {0}) → Steps (Option Val)
+item_block_runs kind kind_name (vstr name) at position block env out =
+    then_do (scope_begun_runs kind_name name position (in_item true env) out)
+    (λ _ env1 out1. then_do (block env1 out1) (λ _ env2 out2. item_end_runs kind name position env2 out2))
+item_block_runs kind kind_name _ at position block env out = fails_at code.BadTypes at [] env
 
 -- the value of a call inside an expression
 unfoldable pub call_value_runs : Option Val → Position → Steps Val
 call_value_runs (Some v) position env out = ends v env out
 call_value_runs None position env out = fails_at code.BadTypes position [] env
 
+-- the built-in calls, each with its arguments and its block
+pub record BuiltIns : Type 0 where
+  pub asserts : Steps (Option Val)
+  pub tests : Steps (Option Val)
+  pub loops : Steps (Option Val)
+  pub prints : Steps (Option Val)
+  pub imports : Steps (Option Val)
+  pub templates : Steps (Option Val)
+  pub targets : Steps (Option Val)
+  pub sets_defaults : Steps (Option Val)
+  pub forwards : Steps (Option Val)
+  pub marks : Steps (Option Val)
+  pub items : ItemKind → Steps (Option Val)
+
 -- what a name calls, of these
-abbrev pub function_runs : Function → (asserts tests loops prints : Steps (Option Val)) → (ItemKind → Steps (Option Val)) → Position → List ℕ → Steps (Option Val)
-function_runs Assert asserts tests loops prints items position name env out = asserts env out
-function_runs Defined asserts tests loops prints items position name env out = tests env out
-function_runs Foreach asserts tests loops prints items position name env out = loops env out
-function_runs Print asserts tests loops prints items position name env out = prints env out
-function_runs (ItemOf kind) asserts tests loops prints items position name env out = items kind env out
-function_runs Excluded asserts tests loops prints items position name env out = fails_at code.Excluded position (name ∷ []) env
-function_runs Unknown asserts tests loops prints items position name env out = fails_at code.UnknownFunction position (name ∷ []) env
+unfoldable pub function_runs : Function → BuiltIns → Position → List ℕ → Steps (Option Val)
+function_runs Assert b position name env out = b.asserts env out
+function_runs Defined b position name env out = b.tests env out
+function_runs Foreach b position name env out = b.loops env out
+function_runs Print b position name env out = b.prints env out
+function_runs Import b position name env out = b.imports env out
+function_runs Template b position name env out = b.templates env out
+function_runs Target b position name env out = b.targets env out
+function_runs SetDefaults b position name env out = b.sets_defaults env out
+function_runs ForwardVariablesFrom b position name env out = b.forwards env out
+function_runs NotNeeded b position name env out = b.marks env out
+function_runs (ItemOf kind) b position name env out = b.items kind env out
+function_runs Excluded b position name env out = fails_at code.Excluded position (name ∷ []) env
+function_runs Unknown b position name env out = fails_at code.UnknownFunction position (name ∷ []) env

@@ -3,20 +3,35 @@ use Rattle.std.specs.Prelude.{ℕ, List, [], ◌∷◌, if◌then◌else◌, cod
 use Rattle.std.specs.List.{list_any}
 use Rattle.std.specs.Str.{bytes_eq}
 use Rattle.gn_items.specs.declared.item.ItemKind.TheVariants.{Group}
+use Rattle.gn_meaning.specs.declared.function.TargetKind.{TargetKind}
+use Rattle.gn_meaning.specs.declared.function.TargetKind.TheVariants.{Built, NotBuilt, NoKind}
 use Rattle.gn_meaning.specs.declared.function.Function.{Function}
-use Rattle.gn_meaning.specs.declared.function.Function.TheVariants.{Assert, Defined, Foreach, Print, Item, Excluded, Unknown}
+use Rattle.gn_meaning.specs.declared.function.Function.TheVariants.{Assert, Defined, Foreach, ForwardVariablesFrom, Import, Item, NotNeeded, Print, SetDefaults, Target, Template, Excluded, Unknown}
 
 -- the functions of GN that are left out: those that the profile leaves out for good, and those that aren't built yet
 unfoldable pub excluded_names : List (List ℕ)
 excluded_names =
     codes "action" ∷ codes "action_foreach" ∷ codes "bundle_data" ∷ codes "config" ∷ codes "copy" ∷ codes "create_bundle" ∷ codes "declare_args"
     ∷ codes "exec_script" ∷ codes "executable" ∷ codes "filter_exclude" ∷ codes "filter_include" ∷ codes "filter_labels_exclude"
-    ∷ codes "filter_labels_include" ∷ codes "forward_variables_from" ∷ codes "generated_file" ∷ codes "get_label_info" ∷ codes "get_path_info"
-    ∷ codes "get_target_outputs" ∷ codes "getenv" ∷ codes "import" ∷ codes "label_matches" ∷ codes "loadable_module" ∷ codes "not_needed"
+    ∷ codes "filter_labels_include" ∷ codes "generated_file" ∷ codes "get_label_info" ∷ codes "get_path_info"
+    ∷ codes "get_target_outputs" ∷ codes "getenv" ∷ codes "label_matches" ∷ codes "loadable_module"
     ∷ codes "path_exists" ∷ codes "pool" ∷ codes "process_file_template" ∷ codes "read_file" ∷ codes "rebase_path" ∷ codes "rust_library"
-    ∷ codes "rust_proc_macro" ∷ codes "set_default_toolchain" ∷ codes "set_defaults" ∷ codes "shared_library" ∷ codes "source_set"
+    ∷ codes "rust_proc_macro" ∷ codes "set_default_toolchain" ∷ codes "shared_library" ∷ codes "source_set"
     ∷ codes "split_list" ∷ codes "static_library" ∷ codes "string_hash" ∷ codes "string_join" ∷ codes "string_replace" ∷ codes "string_split"
-    ∷ codes "target" ∷ codes "template" ∷ codes "tool" ∷ codes "toolchain" ∷ codes "write_file" ∷ []
+    ∷ codes "tool" ∷ codes "toolchain" ∷ codes "write_file" ∷ []
+
+-- the kinds of targets that aren't built yet
+unfoldable pub excluded_kinds : List (List ℕ)
+excluded_kinds =
+    codes "action" ∷ codes "action_foreach" ∷ codes "copy" ∷ codes "executable" ∷ codes "loadable_module" ∷ codes "shared_library"
+    ∷ codes "source_set" ∷ codes "static_library" ∷ []
+
+-- the kind of target that a text names: `target` takes no kinds of other items
+unfoldable pub target_kind_of : List ℕ → TargetKind
+target_kind_of name =
+    if bytes_eq name (codes "group") then Built Group
+    else if list_any (bytes_eq name) excluded_kinds then NotBuilt
+    else NoKind
 
 -- what a name calls
 unfoldable pub function_of : List ℕ → Function
@@ -26,5 +41,11 @@ function_of name =
     else if bytes_eq name (codes "foreach") then Foreach
     else if bytes_eq name (codes "print") then Print
     else if bytes_eq name (codes "group") then Item Group
+    else if bytes_eq name (codes "import") then Import
+    else if bytes_eq name (codes "template") then Template
+    else if bytes_eq name (codes "target") then Target
+    else if bytes_eq name (codes "set_defaults") then SetDefaults
+    else if bytes_eq name (codes "forward_variables_from") then ForwardVariablesFrom
+    else if bytes_eq name (codes "not_needed") then NotNeeded
     else if list_any (bytes_eq name) excluded_names then Excluded
     else Unknown

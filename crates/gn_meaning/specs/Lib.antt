@@ -1,8 +1,11 @@
-pub mod Runs
+pub mod Steps
 pub mod Functions
 pub mod Words
 pub mod Items
 pub mod Calls
 pub mod Pieces
+pub mod Templates
+pub mod Selections
+pub mod Imports
 pub mod Meaning
 pub mod Laws

@@ -7,9 +7,9 @@ use Rattle.gn_tree.specs.declared.piece.Subscript.{Subscript}
 use Rattle.gn_tree.specs.declared.piece.Subscript.TheVariants.{Name as NameSubscript, Integer}
 use Rattle.gn_values.specs.Val.{Val, vint, vstr}
 use Rattle.gn_values.specs.Text.{text_of}
-use Rattle.gn_meaning.specs.Runs.{Run, then_do, ends}
+use Rattle.gn_runs.specs.Runs.{Run}
+use Rattle.gn_meaning.specs.Steps.{Left, Steps, then_do, ends}
 use Rattle.gn_meaning.specs.Words.{name_runs, base_runs, element_runs, text_added_runs}
-use Rattle.gn_meaning.specs.Calls.{Steps}
 
 -- the subscript of an expansion, whose faults stand at its `$`
 abbrev pub subscript_runs : Subscript → Position → Steps Val
@@ -17,7 +17,7 @@ subscript_runs (NameSubscript name) position env out = name_runs name position e
 subscript_runs (Integer n) position env out = ends (vint n) env out
 
 -- the text of a value
-abbrev pub text_runs : Run Val → Run (List ℕ)
+abbrev pub text_runs : Run (Left Val) → Run (Left (List ℕ))
 text_runs run = then_do run (λ v env out. ends (text_of false v) env out)
 
 -- the text of a piece: each fault of an expansion stands at its `$`

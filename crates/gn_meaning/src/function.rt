@@ -1,9 +1,9 @@
-// The calls of the language by their names.
+// The calls of the language by their names, and the kinds of targets.
 
 ghost use Rattle.std.specs.Prelude.{◌≡◌};
 ghost use Rattle.std.specs.List.{list_any};
 ghost use Rattle.std.specs.Str.{bytes_eq};
-ghost use Rattle.gn_meaning.specs.Functions.{excluded_names, function_of};
+ghost use Rattle.gn_meaning.specs.Functions.{excluded_names, excluded_kinds, function_of, target_kind_of};
 
 use gn_items::ItemKind;
 
@@ -16,8 +16,20 @@ pub enum Function {
     Defined,
     /// `foreach`
     Foreach,
+    /// `forward_variables_from`
+    ForwardVariablesFrom,
+    /// `import`
+    Import,
+    /// `not_needed`
+    NotNeeded,
     /// `print`
     Print,
+    /// `set_defaults`
+    SetDefaults,
+    /// `target`
+    Target,
+    /// `template`
+    Template,
     /// The definition of an item of this kind.
     Item(ItemKind),
     /// A function of GN that this program leaves out.
@@ -26,8 +38,19 @@ pub enum Function {
     Unknown,
 }
 
-// The functions of GN that are left out.
-const EXCLUDED: [&[u8]; 45] = [
+/// What the first argument of `target` names, where no template in scope has that name.
+#[derive(Clone, Copy, Debug, PartialEq, Eq)]
+pub enum TargetKind {
+    /// A kind of target.
+    Built(ItemKind),
+    /// A kind of target of GN that this program doesn't build yet.
+    NotBuilt,
+    /// No kind of target.
+    NoKind,
+}
+
+// The functions of GN that are left out: those that the profile leaves out for good, and those that aren't built yet.
+const EXCLUDED: [&[u8]; 39] = [
     b"action",
     b"action_foreach",
     b"bundle_data",
@@ -41,16 +64,13 @@ const EXCLUDED: [&[u8]; 45] = [
     b"filter_include",
     b"filter_labels_exclude",
     b"filter_labels_include",
-    b"forward_variables_from",
     b"generated_file",
     b"get_label_info",
     b"get_path_info",
     b"get_target_outputs",
     b"getenv",
-    b"import",
     b"label_matches",
     b"loadable_module",
-    b"not_needed",
     b"path_exists",
     b"pool",
     b"process_file_template",
@@ -59,7 +79,6 @@ const EXCLUDED: [&[u8]; 45] = [
     b"rust_library",
     b"rust_proc_macro",
     b"set_default_toolchain",
-    b"set_defaults",
     b"shared_library",
     b"source_set",
     b"split_list",
@@ -68,11 +87,21 @@ const EXCLUDED: [&[u8]; 45] = [
     b"string_join",
     b"string_replace",
     b"string_split",
-    b"target",
-    b"template",
     b"tool",
     b"toolchain",
     b"write_file",
+];
+
+// The kinds of targets that aren't built yet.
+const EXCLUDED_KINDS: [&[u8]; 8] = [
+    b"action",
+    b"action_foreach",
+    b"copy",
+    b"executable",
+    b"loadable_module",
+    b"shared_library",
+    b"source_set",
+    b"static_library",
 ];
 
 impl Function {
@@ -91,10 +120,38 @@ impl Function {
             Function::Print
         } else if name == b"group".as_slice() {
             Function::Item(ItemKind::Group)
+        } else if name == b"import".as_slice() {
+            Function::Import
+        } else if name == b"template".as_slice() {
+            Function::Template
+        } else if name == b"target".as_slice() {
+            Function::Target
+        } else if name == b"set_defaults".as_slice() {
+            Function::SetDefaults
+        } else if name == b"forward_variables_from".as_slice() {
+            Function::ForwardVariablesFrom
+        } else if name == b"not_needed".as_slice() {
+            Function::NotNeeded
         } else if is_excluded(name) {
             Function::Excluded
         } else {
             Function::Unknown
+        }
+    }
+}
+
+impl TargetKind {
+    /// The kind of target that the text names. It takes no memory.
+    #[tactic(auto, unfolding(crate::specs::Functions::target_kind_of))]
+    pub fn named(name: &[u8]) -> TargetKind
+        ensures { result ≡ target_kind_of name.now }
+    {
+        if name == b"group".as_slice() {
+            TargetKind::Built(ItemKind::Group)
+        } else if is_excluded_kind(name) {
+            TargetKind::NotBuilt
+        } else {
+            TargetKind::NoKind
         }
     }
 }
@@ -105,6 +162,14 @@ fn is_excluded(name: &[u8]) -> bool
     ensures { result ≡ list_any (bytes_eq name.now) excluded_names }
 {
     is_one_of(name, &EXCLUDED)
+}
+
+// Whether the name is one of a kind of target that isn't built yet.
+#[tactic(auto, unfolding(crate::specs::Functions::excluded_kinds))]
+fn is_excluded_kind(name: &[u8]) -> bool
+    ensures { result ≡ list_any (bytes_eq name.now) excluded_kinds }
+{
+    is_one_of(name, &EXCLUDED_KINDS)
 }
 
 // Whether the name is one of these.

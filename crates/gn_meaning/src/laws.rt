@@ -1,12 +1,14 @@
 // Each evaluation is a tree of questions, and what follows from it.
 
-ghost use Rattle.gn_meaning.specs.Laws.{Evaluation, meaning_of, StaysSettled, StaysInNeed, AsksMore, NeedsUnknown, AsksKnown, SpoiledByUnusable, UnusableSpoils, DependsOnAsked};
-ghost use Rattle.gn_meaning.specs.Runs.{IsTree};
+ghost use Rattle.gn_runs.specs.Laws.{StaysSettled, StaysInNeed, AsksMore, NeedsUnknown, AsksKnown, SpoiledByUnusable, UnusableSpoils, DependsOnAsked};
+ghost use Rattle.gn_runs.specs.Runs.{IsTree};
+ghost use Rattle.gn_meaning.specs.Laws.{Evaluation, meaning_of, ImportsAreTrees};
 
 /// Each evaluation is a tree of questions: what it does next depends on the answers that it got, and on nothing else of
-/// what is known.
+/// what is known. So is that of a file that is imported.
 pub fn evaluations_are_trees()
-    ensures { (e : Evaluation) → IsTree (meaning_of e) }
+    ensures blocks { (e : Evaluation) → IsTree (meaning_of e) }
+    ensures imports { ImportsAreTrees }
 {}
 
 /// More answers change no evaluation but one whose need they meet, and what was asked is asked still.

@@ -4,7 +4,7 @@
 mod function;
 mod laws;
 
-pub use function::Function;
+pub use function::{Function, TargetKind};
 pub use laws::{
     evaluations_are_trees, evaluations_depend_on_what_they_ask, evaluations_stop_at_answers,
     more_answers_keep_evaluations,

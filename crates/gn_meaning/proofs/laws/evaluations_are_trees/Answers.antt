@@ -1,5 +1,8 @@
-use Rattle.gn_meaning.proofs.Evaluations.{evaluation_tree}
+use Rattle.gn_meaning.proofs.ImportTrees.{evaluation_tree, import_file_tree}
 use Rattle.gn_meaning.proofs.laws.evaluations_are_trees.Goals as goal
 
-pub returns : goal.returns
-returns c = evaluation_tree
+pub returns-clause-blocks : goal.returns-clause-blocks
+returns-clause-blocks c = evaluation_tree
+
+pub returns-clause-imports : goal.returns-clause-imports
+returns-clause-imports c = import_file_tree

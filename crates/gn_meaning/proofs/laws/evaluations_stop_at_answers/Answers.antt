@@ -1,5 +1,5 @@
-use Rattle.gn_meaning.proofs.TreeLaws.{tree_needs_unknown, tree_asks_known, tree_spoiled_by_unusable, tree_unusable_spoils}
-use Rattle.gn_meaning.proofs.Evaluations.{evaluation_tree}
+use Rattle.gn_runs.proofs.TreeLaws.{tree_needs_unknown, tree_asks_known, tree_spoiled_by_unusable, tree_unusable_spoils}
+use Rattle.gn_meaning.proofs.ImportTrees.{evaluation_tree}
 use Rattle.gn_meaning.proofs.laws.evaluations_stop_at_answers.Goals as goal
 
 pub returns-clause-needs : goal.returns-clause-needs

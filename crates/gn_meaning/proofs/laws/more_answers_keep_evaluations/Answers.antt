@@ -1,5 +1,5 @@
-use Rattle.gn_meaning.proofs.TreeLaws.{tree_stays_settled, tree_stays_in_need, tree_asks_more}
-use Rattle.gn_meaning.proofs.Evaluations.{evaluation_tree}
+use Rattle.gn_runs.proofs.TreeLaws.{tree_stays_settled, tree_stays_in_need, tree_asks_more}
+use Rattle.gn_meaning.proofs.ImportTrees.{evaluation_tree}
 use Rattle.gn_meaning.proofs.laws.more_answers_keep_evaluations.Goals as goal
 
 pub returns-clause-settled : goal.returns-clause-settled
