@@ -1,54 +1,91 @@
 -- The operators behind an operand, one after another.
-use Rattle.std.proofs.Common.{◌≡◌, ℕ, ◌<◌, ◌≤◌, suc, max, List, [], ◌∷◌, ◌++◌, refl, sym, ap, ◌∙◌, arith}
+use Rattle.std.proofs.Common.{◌≡◌, ℕ, ◌+◌, ◌≤◌, suc, max, List, [], ◌∷◌, ◌++◌, refl, sym, ap, ◌∙◌, arith}
 use Rattle.gn_items.specs.Effects.{Effects}
-use Rattle.gn_tree.specs.Tree.{ExprTree, binary_expr}
+use Rattle.gn_tree.specs.Tree.{ExprTree, name_expr, integer_expr, string_expr, boolean_expr, call_expr, item_expr, entry_expr, scope_expr, parentheses_expr, list_expr, not_expr, binary_expr}
 use Rattle.gn_tree.specs.Depth.{expr_depth}
 use Rattle.gn_values.specs.Val.{Val}
+use Rattle.gn_runs.specs.Runs.{Run}
 use Rattle.gn_scopes.specs.Environment.{Environment}
-use Rattle.gn_meaning.specs.Runs.{Answers, Run, then_do, ends}
-use Rattle.gn_meaning.specs.Calls.{Steps}
-use Rattle.gn_meaning.specs.Meaning.{expr_runs, operator_runs}
+use Rattle.gn_meaning.specs.Steps.{Left, Steps, World, deeper, then_do, ends}
+use Rattle.gn_meaning.specs.Meaning.{expr_runs, operator_runs, operators_in}
 use Rattle.gn_eval.specs.declared.operations.Operation.{Operation}
-use Rattle.gn_eval.specs.Operations.{joined}
-use Rattle.gn_eval.proofs.Sequence.{then_assoc, then_ends}
+use Rattle.gn_eval.specs.Operations.{IsOperand, joined}
+use Rattle.gn_eval.proofs.Sequence.{then_same, then_assoc, then_ends}
 
 -- one operator more inside
 pub joined_more : (e : ExprTree) (os : List Operation) (o : Operation) → joined e (os ++ o ∷ []) ≡ joined (binary_expr o.operator o.position e o.right.now) os
 joined_more e [] o = refl
 joined_more e (p ∷ os) o = ap (λ (x : ExprTree). binary_expr p.operator p.position x p.right.now) (joined_more e os o)
 
--- what one operator does behind its left side
-abbrev pub operation_runs : Answers → Operation → Val → Steps Val
-operation_runs a o x env out = operator_runs o.operator x (expr_runs a o.right.now) o.position env out
+-- how many operators these are, with those of their right sides
+abbrev pub operators_of : List Operation → ℕ
+operators_of [] = 0
+operators_of (o ∷ os) = operators_of os + 1 + operators_in o.right.now
 
--- what operators do behind their innermost left side
-abbrev pub operations_run : Answers → List Operation → Val → Steps Val
-operations_run a [] x env out = ends x env out
-operations_run a (o ∷ os) x env out = then_do (operations_run a os x env out) (λ y env1 out1. operation_runs a o y env1 out1)
+-- an operand has none
+pub operand_alone : (e : ExprTree) → IsOperand e → operators_in e ≡ 0
+operand_alone (name_expr p m) h = refl
+operand_alone (integer_expr p v) h = refl
+operand_alone (string_expr p ps) h = refl
+operand_alone (boolean_expr p b) h = refl
+operand_alone (call_expr c) h = refl
+operand_alone (item_expr p b k i) h = refl
+operand_alone (entry_expr p b d n) h = refl
+operand_alone (scope_expr p b) h = refl
+operand_alone (parentheses_expr p e) h = refl
+operand_alone (list_expr p es) h = refl
+operand_alone (not_expr p e) h = refl
+operand_alone (binary_expr o p l r) h = absurd h
+
+operators_joined : (e : ExprTree) (os : List Operation) → IsOperand e → operators_in (joined e os) ≡ operators_of os
+operators_joined e [] h = operand_alone e h
+operators_joined e (o ∷ os) h = ap (λ n. n + 1 + operators_in o.right.now) (operators_joined e os h)
+
+-- what one operator does behind its left side, where its right side nests so deep
+abbrev pub operation_runs : World → ℕ → Operation → Val → Steps Val
+operation_runs w n o x env out = operator_runs o.operator x (expr_runs w n o.right.now) o.position env out
+
+-- what operators do behind their innermost left side, where the right side of the innermost one nests so deep
+abbrev pub operations_run : World → ℕ → List Operation → Val → Steps Val
+operations_run w n [] x env out = ends x env out
+operations_run w n (o ∷ os) x env out = then_do (operations_run w n os x env out) (λ y env1 out1. operation_runs w (deeper n (operators_of os)) o y env1 out1)
+
+deeper_twice : (n a b : ℕ) → deeper (deeper n a) b ≡ deeper n (b + a)
+deeper_twice n a b = omega arith
 
 -- the leftmost operand comes first
-pub joined_runs : (a : Answers) (e : ExprTree) (os : List Operation) (env : Environment) (out : Effects) → expr_runs a (joined e os) env out ≡ then_do (expr_runs a e env out) (λ x env1 out1. operations_run a os x env1 out1)
+pub joined_runs : (w : World) (n : ℕ) (e : ExprTree) (os : List Operation) (env : Environment) (out : Effects) → IsOperand e → (expr_runs w n (joined e os) env out).end ≡ (then_do (expr_runs w n e env out) (λ x env1 out1. operations_run w (deeper n 1) os x env1 out1)).end
 unfolding expr_runs
-joined_runs a e [] env out = sym (then_ends (expr_runs a e env out))
-joined_runs a e (o ∷ os) env out =
-    ap (λ (r : Run Val). then_do r (λ y env1 out1. operation_runs a o y env1 out1)) (joined_runs a e os env out)
-    ∙ then_assoc (expr_runs a e env out) (λ x env1 out1. operations_run a os x env1 out1) (λ y env1 out1. operation_runs a o y env1 out1)
+joined_runs w n e [] env out h = sym (then_ends (expr_runs w n e env out))
+joined_runs w n e (o ∷ os) env out h =
+    let at : deeper n (operators_in (joined e os) + 1) ≡ deeper (deeper n 1) (operators_of os) = ap (λ k. deeper n (k + 1)) (operators_joined e os h) ∙ sym (deeper_twice n 1 (operators_of os)) in
+    ap (λ m. (then_do (expr_runs w n (joined e os) env out) (λ y env1 out1. operation_runs w m o y env1 out1)).end) at
+    ∙ then_same _ _ (λ y env1 out1. operation_runs w (deeper (deeper n 1) (operators_of os)) o y env1 out1) (joined_runs w n e os env out h)
+    ∙ then_assoc (expr_runs w n e env out) (λ x env1 out1. operations_run w (deeper n 1) os x env1 out1) (λ y env1 out1. operation_runs w (deeper (deeper n 1) (operators_of os)) o y env1 out1)
+
+operators_more : (os : List Operation) (o : Operation) → operators_of (os ++ o ∷ []) ≡ operators_of os + (1 + operators_in o.right.now)
+operators_more [] o = omega arith
+operators_more (p ∷ os) o = omega (arith, operators_more os o)
 
 -- the innermost operator comes next
-pub operations_more : (a : Answers) (os : List Operation) (o : Operation) (x : Val) (env : Environment) (out : Effects) → operations_run a (os ++ o ∷ []) x env out ≡ then_do (operation_runs a o x env out) (λ y env1 out1. operations_run a os y env1 out1)
-operations_more a [] o x env out = sym (then_ends (operation_runs a o x env out))
-operations_more a (p ∷ os) o x env out =
-    ap (λ (r : Run Val). then_do r (λ y env1 out1. operation_runs a p y env1 out1)) (operations_more a os o x env out)
-    ∙ then_assoc (operation_runs a o x env out) (λ y env1 out1. operations_run a os y env1 out1) (λ y env1 out1. operation_runs a p y env1 out1)
+pub operations_more : (w : World) (n : ℕ) (os : List Operation) (o : Operation) (x : Val) (env : Environment) (out : Effects) → n ≤ 400 → (operations_run w n (os ++ o ∷ []) x env out).end ≡ (then_do (operation_runs w n o x env out) (λ y env1 out1. operations_run w (deeper n (1 + operators_in o.right.now)) os y env1 out1)).end
+operations_more w n [] o x env out h =
+    let at : deeper n 0 ≡ n = omega arith in
+    ap (λ m. (operation_runs w m o x env out).end) at ∙ sym (then_ends (operation_runs w n o x env out))
+operations_more w n (p ∷ os) o x env out h =
+    let at : deeper n (operators_of (os ++ o ∷ [])) ≡ deeper (deeper n (1 + operators_in o.right.now)) (operators_of os) = ap (deeper n) (operators_more os o) ∙ sym (deeper_twice n (1 + operators_in o.right.now) (operators_of os)) in
+    ap (λ m. (then_do (operations_run w n (os ++ o ∷ []) x env out) (λ y env1 out1. operation_runs w m p y env1 out1)).end) at
+    ∙ then_same _ _ (λ y env1 out1. operation_runs w (deeper (deeper n (1 + operators_in o.right.now)) (operators_of os)) p y env1 out1) (operations_more w n os o x env out h)
+    ∙ then_assoc (operation_runs w n o x env out) (λ y env1 out1. operations_run w (deeper n (1 + operators_in o.right.now)) os y env1 out1) (λ y env1 out1. operation_runs w (deeper (deeper n (1 + operators_in o.right.now)) (operators_of os)) p y env1 out1)
 
-module _ (a : Answers) (whole : Run Val) (all rest : List Operation) (o : Operation) (x : Val) (env : Environment) (out : Effects) (runs : whole ≡ operations_run a all x env out) (last : all ≡ rest ++ o ∷ []) where
+module _ (w : World) (n : ℕ) (whole : Run (Left Val)) (all rest : List Operation) (o : Operation) (x : Val) (env : Environment) (out : Effects) (capped : n ≤ 400) (runs : whole.end ≡ (operations_run w n all x env out).end) (last : all ≡ rest ++ o ∷ []) where
   -- the innermost operator is taken from the others
-  pub operation_taken : whole ≡ then_do (operation_runs a o x env out) (λ y env1 out1. operations_run a rest y env1 out1)
-  operation_taken = runs ∙ ap (λ (os : List Operation). operations_run a os x env out) last ∙ operations_more a rest o x env out
+  pub operation_taken : whole.end ≡ (then_do (operation_runs w n o x env out) (λ y env1 out1. operations_run w (deeper n (1 + operators_in o.right.now)) rest y env1 out1)).end
+  operation_taken = runs ∙ ap (λ (os : List Operation). (operations_run w n os x env out).end) last ∙ operations_more w n rest o x env out capped
 
   -- and has its value
-  pub operation_done : (y : Val) (env1 : Environment) (out1 : Effects) → operation_runs a o x env out ≡ ends y env1 out1 → whole ≡ operations_run a rest y env1 out1
-  operation_done y env1 out1 h = operation_taken ∙ ap (λ (r : Run Val). then_do r (λ z env2 out2. operations_run a rest z env2 out2)) h
+  pub operation_done : (y : Val) (env1 : Environment) (out1 : Effects) → (operation_runs w n o x env out).end ≡ (ends y env1 out1).end → whole.end ≡ (operations_run w (deeper n (1 + operators_in o.right.now)) rest y env1 out1).end
+  operation_done y env1 out1 h = operation_taken ∙ then_same (operation_runs w n o x env out) (ends y env1 out1) (λ z env2 out2. operations_run w (deeper n (1 + operators_in o.right.now)) rest z env2 out2) h
 
 -- the operand and the right sides are less deep than the whole
 abbrev pub right_depth : List Operation → ℕ

@@ -1,6 +1,6 @@
 -- An expression as its leftmost operand and the operators behind it.
 use Rattle.std.specs.Prelude.{List, [], ◌∷◌}
-use Rattle.gn_tree.specs.Tree.{ExprTree, name_expr, integer_expr, string_expr, boolean_expr, call_expr, item_expr, entry_expr, scope_expr, parentheses_expr, list_expr, not_expr, binary_expr}
+use Rattle.gn_tree.specs.Tree.{ExprTree, binary_expr}
 use Rattle.gn_eval.specs.declared.operations.Operation.{Operation}
 
 -- an operator is the outermost part of no operand

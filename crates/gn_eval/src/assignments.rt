@@ -3,12 +3,12 @@
 ghost use Rattle.std.specs.Prelude.{◌≡◌};
 ghost use Rattle.gn_items.specs.Effects.{Effects};
 ghost use Rattle.gn_values.specs.View.{val_of};
-ghost use Rattle.gn_scopes.specs.Environment.{levels, after_assignment, after_element_assignment};
-ghost use Rattle.gn_meaning.specs.Words.{assigned_to, element_assigned_to};
-ghost use Rattle.gn_eval.specs.Ends.{IsRun};
+ghost use Rattle.gn_scopes.specs.Environment.{after_assignment, after_assignment_over, after_element_assignment, after_element_assignment_over};
+ghost use Rattle.gn_meaning.specs.Words.{changes_value, over_invoker, assigned_to, element_assigned_to, name_assigned_runs, element_assigned_runs};
+ghost use Rattle.gn_eval.specs.Ends.{IsStep};
 
-use crate::ending::EvalEnd;
 use crate::faults::{refused, refused_element, wrong_with};
+use crate::step::StepEnd;
 use gn_items::Code;
 use gn_paths::Text;
 use gn_scopes::{AssignError, ElementAssignError, Env};
@@ -16,10 +16,8 @@ use gn_tree::{AssignOp, Position};
 use gn_values::Value;
 use std::alloc::Global;
 
-/// `name = value`, `name += value` or `name -= value`. What would be replaced stands at the operator, a missing value at
-/// the name.
 #[tactic(auto, unfolding(gn_meaning::specs::Words::assigned_to))]
-pub(crate) fn assign_name(
+fn assign_variable(
     alloc: Global,
     name: &Text,
     at: Position,
@@ -27,9 +25,8 @@ pub(crate) fn assign_name(
     position: Position,
     value: Value,
     env: &mut Env,
-) -> Result<(), EvalEnd>
-    ensures runs { (out : Effects) → IsRun (λ u. u) result env.new out (assigned_to (after_assignment name.now operator (val_of value) position env.old) name.now at position env.old out) }
-    ensures levels { levels env.new ≡ levels env.old }
+) -> Result<(), StepEnd>
+    ensures runs { (out : Effects) → IsStep (λ u. u) result env.new out (assigned_to (after_assignment name.now operator (val_of value) position env.old) name.now at position env.old out) }
 {
     match env.assign(alloc, name, operator, value, position) {
         Ok(()) => Ok(()),
@@ -38,14 +35,88 @@ pub(crate) fn assign_name(
         }
         Err(AssignError::Undefined) => Err(wrong_with(alloc, env, Code::Undefined, at, name)),
         Err(AssignError::Value(error)) => Err(refused(alloc, env, error, position)),
-        Err(AssignError::Memory) => Err(EvalEnd::Memory),
+        Err(AssignError::Memory) => Err(StepEnd::Memory),
     }
 }
 
-/// `base[at] = value`, `base.at = value` and their kin. A base without a value stands at the base, what the subscript
-/// doesn't find at the subscript, and what the operator refuses at the operator.
+#[tactic(auto, unfolding(gn_meaning::specs::Words::assigned_to))]
+fn assign_over(
+    alloc: Global,
+    old: &Value,
+    name: &Text,
+    at: Position,
+    operator: AssignOp,
+    position: Position,
+    value: Value,
+    env: &mut Env,
+) -> Result<(), StepEnd>
+    ensures runs { (out : Effects) → IsStep (λ u. u) result env.new out (assigned_to (after_assignment_over (val_of old.now) name.now operator (val_of value) position env.old) name.now at position env.old out) }
+{
+    match env.assign_over(alloc, old, name, operator, value, position) {
+        Ok(()) => Ok(()),
+        Err(AssignError::Overwrite) => {
+            Err(wrong_with(alloc, env, Code::Overwrite, position, name))
+        }
+        Err(AssignError::Undefined) => Err(wrong_with(alloc, env, Code::Undefined, at, name)),
+        Err(AssignError::Value(error)) => Err(refused(alloc, env, error, position)),
+        Err(AssignError::Memory) => Err(StepEnd::Memory),
+    }
+}
+
+// `+=` and `-=` on the invoker, named at `at`, which is read as a value.
+fn assign_over_invoker(
+    alloc: Global,
+    name: &Text,
+    at: Position,
+    operator: AssignOp,
+    position: Position,
+    value: Value,
+    env: &mut Env,
+) -> Result<(), StepEnd>
+    ensures runs { (out : Effects) → IsStep (λ u. u) result env.new out (over_invoker at (λ old env1. assigned_to (after_assignment_over old name.now operator (val_of value) position env1) name.now at position env1 out) env.old) }
+{
+    match env.invoker_value(alloc) {
+        Ok(old) => {
+            env.read_invoker();
+            assign_over(alloc, &old, name, at, operator, position, value, env)
+        }
+        Err(error) => Err(refused(alloc, env, error, at)),
+    }
+}
+
+fn changes_value(operator: AssignOp) -> bool
+    ensures { result ≡ changes_value operator }
+{
+    match operator {
+        AssignOp::Set => false,
+        AssignOp::Add | AssignOp::Subtract => true,
+    }
+}
+
+/// `name = value`, `name += value` or `name -= value`. What would be replaced stands at the operator, a missing value at
+/// the name. `+=` and `-=` on the invoker read it as a value, and set a variable of its name.
+#[tactic(auto, unfolding(gn_meaning::specs::Words::name_assigned_runs))]
+pub(crate) fn assign_name(
+    alloc: Global,
+    name: &Text,
+    at: Position,
+    operator: AssignOp,
+    position: Position,
+    value: Value,
+    env: &mut Env,
+) -> Result<(), StepEnd>
+    ensures runs { (out : Effects) → IsStep (λ u. u) result env.new out (name_assigned_runs name.now at operator position (val_of value) env.old out) }
+{
+    let over = changes_value(operator) && env.is_invoker(name);
+    if over {
+        assign_over_invoker(alloc, name, at, operator, position, value, env)
+    } else {
+        assign_variable(alloc, name, at, operator, position, value, env)
+    }
+}
+
 #[tactic(auto, unfolding(gn_meaning::specs::Words::element_assigned_to))]
-pub(crate) fn assign_element(
+fn assign_variable_element(
     alloc: Global,
     base: &Text,
     base_position: Position,
@@ -55,9 +126,8 @@ pub(crate) fn assign_element(
     position: Position,
     value: Value,
     env: &mut Env,
-) -> Result<(), EvalEnd>
-    ensures runs { (out : Effects) → IsRun (λ u. u) result env.new out (element_assigned_to (after_element_assignment base.now (val_of at.now) operator (val_of value) position env.old) base.now base_position (val_of at.now) subscript position env.old out) }
-    ensures levels { levels env.new ≡ levels env.old }
+) -> Result<(), StepEnd>
+    ensures runs { (out : Effects) → IsStep (λ u. u) result env.new out (element_assigned_to (after_element_assignment base.now (val_of at.now) operator (val_of value) position env.old) base.now base_position (val_of at.now) subscript position env.old out) }
 {
     match env.assign_element(alloc, base, at, operator, value, position) {
         Ok(()) => Ok(()),
@@ -68,6 +138,112 @@ pub(crate) fn assign_element(
             Err(refused_element(alloc, env, error, at, subscript))
         }
         Err(ElementAssignError::Operator(error)) => Err(refused(alloc, env, error, position)),
-        Err(ElementAssignError::Memory) => Err(EvalEnd::Memory),
+        Err(ElementAssignError::Memory) => Err(StepEnd::Memory),
+    }
+}
+
+#[tactic(auto, unfolding(gn_meaning::specs::Words::element_assigned_to))]
+fn assign_element_over(
+    alloc: Global,
+    old: &Value,
+    base: &Text,
+    base_position: Position,
+    at: &Value,
+    subscript: Position,
+    operator: AssignOp,
+    position: Position,
+    value: Value,
+    env: &mut Env,
+) -> Result<(), StepEnd>
+    ensures runs { (out : Effects) → IsStep (λ u. u) result env.new out (element_assigned_to (after_element_assignment_over (val_of old.now) base.now (val_of at.now) operator (val_of value) position env.old) base.now base_position (val_of at.now) subscript position env.old out) }
+{
+    match env.assign_element_over(alloc, old, base, at, operator, value, position) {
+        Ok(()) => Ok(()),
+        Err(ElementAssignError::Undefined) => {
+            Err(wrong_with(alloc, env, Code::Undefined, base_position, base))
+        }
+        Err(ElementAssignError::Subscript(error)) => {
+            Err(refused_element(alloc, env, error, at, subscript))
+        }
+        Err(ElementAssignError::Operator(error)) => Err(refused(alloc, env, error, position)),
+        Err(ElementAssignError::Memory) => Err(StepEnd::Memory),
+    }
+}
+
+// The same of an element of the invoker, which is named at `base_position`.
+fn assign_element_over_invoker(
+    alloc: Global,
+    base: &Text,
+    base_position: Position,
+    at: &Value,
+    subscript: Position,
+    operator: AssignOp,
+    position: Position,
+    value: Value,
+    env: &mut Env,
+) -> Result<(), StepEnd>
+    ensures runs { (out : Effects) → IsStep (λ u. u) result env.new out (over_invoker base_position (λ old env1. element_assigned_to (after_element_assignment_over old base.now (val_of at.now) operator (val_of value) position env1) base.now base_position (val_of at.now) subscript position env1 out) env.old) }
+{
+    match env.invoker_value(alloc) {
+        Ok(old) => {
+            env.read_invoker();
+            assign_element_over(
+                alloc,
+                &old,
+                base,
+                base_position,
+                at,
+                subscript,
+                operator,
+                position,
+                value,
+                env,
+            )
+        }
+        Err(error) => Err(refused(alloc, env, error, base_position)),
+    }
+}
+
+/// `base[at] = value`, `base.at = value` and their kin. A base without a value stands at the base, what the subscript
+/// doesn't find at the subscript, and what the operator refuses at the operator. The invoker is read as a value, and a
+/// variable of its name is set.
+#[tactic(auto, unfolding(gn_meaning::specs::Words::element_assigned_runs))]
+pub(crate) fn assign_element(
+    alloc: Global,
+    base: &Text,
+    base_position: Position,
+    at: &Value,
+    subscript: Position,
+    operator: AssignOp,
+    position: Position,
+    value: Value,
+    env: &mut Env,
+) -> Result<(), StepEnd>
+    ensures runs { (out : Effects) → IsStep (λ u. u) result env.new out (element_assigned_runs base.now base_position (val_of at.now) subscript operator position (val_of value) env.old out) }
+{
+    if env.is_invoker(base) {
+        assign_element_over_invoker(
+            alloc,
+            base,
+            base_position,
+            at,
+            subscript,
+            operator,
+            position,
+            value,
+            env,
+        )
+    } else {
+        assign_variable_element(
+            alloc,
+            base,
+            base_position,
+            at,
+            subscript,
+            operator,
+            position,
+            value,
+            env,
+        )
     }
 }

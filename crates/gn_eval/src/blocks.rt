@@ -1,52 +1,96 @@
 // Whole blocks and files.
 
-ghost use Rattle.std.specs.Prelude.{◌≡◌, OnOk};
-ghost use Rattle.gn_scopes.specs.Environment.{levels};
-ghost use Rattle.gn_meaning.specs.Runs.{Answers};
-ghost use Rattle.gn_meaning.specs.Meaning.{block_runs, file_runs};
-ghost use Rattle.gn_eval.specs.Ends.{IsRun};
+ghost use Rattle.std.specs.Prelude.{◌≡◌, ◌<◌};
+ghost use Rattle.gn_tree.specs.Depth.{IsShallow};
+ghost use Rattle.gn_runs.specs.Runs.{Answers};
+ghost use Rattle.gn_meaning.specs.Meaning.{whole_block_runs, file_runs, import_file_runs};
+ghost use Rattle.gn_items.specs.Effects.{Effects};
+ghost use Rattle.gn_scopes.specs.Environment.{reported_here};
+ghost use Rattle.gn_meaning.specs.Calls.{checked_end};
+ghost use Rattle.gn_eval.specs.Ends.{Covers, IsStep, IsRun};
+ghost use Rattle.gn_eval.specs.Spent.{IsSpentRun};
+ghost use Rattle.gn_eval.specs.Library.{GoesOn};
 
 use crate::definer::Definer;
 use crate::ending::EvalEnd;
 use crate::faults::wrong_with;
+use crate::level::Level;
+use crate::library::Library;
 use crate::statements::run_statements;
+use crate::step::StepEnd;
 use gn_items::{Code, Outcome};
 use gn_scopes::Env;
 use gn_tree::Block;
+use gn_values::ImportValue;
 use std::alloc::Global;
 
 /// Runs the statements of a block in the innermost scope of the environment. What they define and print is added to
 /// `out`. `Wrong` has the first fault from left to right, and comes exactly where there is one, but for want of memory.
+/// `Spoiled` comes exactly where the first thing that goes wrong is an import that the library can't use, and has its
+/// path and where its call stands. `Stopped` comes where the library has stopped: it lacks the answer that it has noted.
 /// After an error the environment and `out` are spent.
-pub fn run_block<D: Definer>(
+#[tactic(auto, unfolding(gn_meaning::specs::Meaning::whole_block_runs))]
+pub fn run_block<L: Library + Definer>(
     alloc: Global,
     block: &Block,
     env: &mut Env,
     out: &mut Outcome,
-    definer: &mut D,
+    library: &mut L,
 ) -> Result<(), EvalEnd>
-    ensures runs { (a : Answers) → IsRun (λ u. u) result env.new out.new (block_runs a block.now env.old out.old) }
-    ensures levels { OnOk result (levels env.new ≡ levels env.old) }
+    requires shallow { IsShallow block.now }
+    ensures runs { (a : Answers) → Covers (L.state library.new).told result a → IsRun (λ u. u) (L.state library.new).need result env.new out.new (whole_block_runs a block.now env.old out.old) }
+    ensures goes { GoesOn (L.state library.old) (L.state library.new) }
+    ensures rose { result ≡ Err EvalEnd.Stopped → (L.state library.old).stops < (L.state library.new).stops }
 {
-    run_statements(alloc, block, env, out, definer)
+    run_statements(alloc, Level::outermost(), block, env, out, library)
+}
+
+// The end of a file whose scope is checked: the name that nothing read and whose last assignment stands first is a fault
+// there.
+fn end_file(alloc: Global, env: &Env) -> Result<(), StepEnd>
+    ensures runs { (out : Effects) → IsStep (λ u. u) result env.now out (checked_end (reported_here env.now) tt env.now env.now out) }
+{
+    match env.unread() {
+        Some((name, position)) => Err(wrong_with(alloc, env, Code::NoEffect, position, name)),
+        None => Ok(()),
+    }
 }
 
 /// Runs a whole file in the innermost scope of the environment: its block, and then, where that scope is checked, the
 /// name that nothing read and whose last assignment stands first is a fault there. Else it is as `run_block`.
 #[tactic(auto, unfolding(gn_meaning::specs::Meaning::file_runs))]
-pub fn run_file<D: Definer>(
+pub fn run_file<L: Library + Definer>(
     alloc: Global,
     block: &Block,
     env: &mut Env,
     out: &mut Outcome,
-    definer: &mut D,
+    library: &mut L,
 ) -> Result<(), EvalEnd>
-    ensures runs { (a : Answers) → IsRun (λ u. u) result env.new out.new (file_runs a block.now env.old out.old) }
-    ensures levels { OnOk result (levels env.new ≡ levels env.old) }
+    requires shallow { IsShallow block.now }
+    ensures runs { (a : Answers) → Covers (L.state library.new).told result a → IsRun (λ u. u) (L.state library.new).need result env.new out.new (file_runs a block.now env.old out.old) }
+    ensures goes { GoesOn (L.state library.old) (L.state library.new) }
+    ensures rose { result ≡ Err EvalEnd.Stopped → (L.state library.old).stops < (L.state library.new).stops }
 {
-    run_block(alloc, block, env, out, definer)?;
-    match env.unread() {
-        Some((name, position)) => Err(wrong_with(alloc, env, Code::NoEffect, position, name)),
-        None => Ok(()),
-    }
+    run_block(alloc, block, env, out, library)?;
+    end_file(alloc, env)?;
+    Ok(())
+}
+
+/// Runs a whole file that is imported, in the innermost scope of the environment: its block, and then what it leaves for
+/// those who import it, for which the environment is spent. No name has to be read. Else it is as `run_block`.
+#[tactic(auto, unfolding(gn_meaning::specs::Meaning::import_file_runs))]
+pub fn run_import_file<L: Library + Definer>(
+    alloc: Global,
+    block: &Block,
+    mut env: Env,
+    out: &mut Outcome,
+    library: &mut L,
+) -> Result<ImportValue, EvalEnd>
+    requires shallow { IsShallow block.now }
+    ensures runs { (a : Answers) → Covers (L.state library.new).told result a → IsSpentRun (λ v. v) (L.state library.new).need result out.new (import_file_runs a block.now env out.old) }
+    ensures goes { GoesOn (L.state library.old) (L.state library.new) }
+    ensures rose { result ≡ Err EvalEnd.Stopped → (L.state library.old).stops < (L.state library.new).stops }
+{
+    run_block(alloc, block, &mut env, out, library)?;
+    Ok(env.import_value(alloc)?)
 }

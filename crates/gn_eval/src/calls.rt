@@ -4,10 +4,10 @@ ghost use Rattle.std.specs.Prelude.{◌≡◌, ◌∷◌, IfOk, map, option_map}
 ghost use Rattle.gn_items.specs.Effects.{Effects};
 ghost use Rattle.gn_values.specs.View.{val_of};
 ghost use Rattle.gn_meaning.specs.Calls.{asserted_runs, asserted_with_message_runs, line_of, call_value_runs};
-ghost use Rattle.gn_eval.specs.Ends.{IsRun};
+ghost use Rattle.gn_eval.specs.Ends.{IsStep};
 
-use crate::ending::EvalEnd;
 use crate::faults::{wrong, wrong_with};
+use crate::step::StepEnd;
 use gn_items::Code;
 use gn_paths::Text;
 use gn_scopes::Env;
@@ -23,8 +23,8 @@ pub(crate) fn assert_true(
     at: Position,
     position: Position,
     env: &Env,
-) -> Result<Option<Value>, EvalEnd>
-    ensures { (out : Effects) → IsRun (option_map val_of) result env.now out (asserted_runs (val_of condition.now) at position env.now out) }
+) -> Result<Option<Value>, StepEnd>
+    ensures { (out : Effects) → IsStep (option_map val_of) result env.now out (asserted_runs (val_of condition.now) at position env.now out) }
 {
     match condition {
         Value::Bool(true) => Ok(None),
@@ -43,8 +43,8 @@ pub(crate) fn assert_with_message(
     message_at: Position,
     position: Position,
     env: &Env,
-) -> Result<Option<Value>, EvalEnd>
-    ensures { (out : Effects) → IsRun (option_map val_of) result env.now out (asserted_with_message_runs (val_of condition.now) (val_of message.now) at message_at position env.now out) }
+) -> Result<Option<Value>, StepEnd>
+    ensures { (out : Effects) → IsStep (option_map val_of) result env.now out (asserted_with_message_runs (val_of condition.now) (val_of message.now) at message_at position env.now out) }
 {
     match (condition, message) {
         (Value::Bool(true), Value::Str(_)) => Ok(None),
@@ -77,8 +77,8 @@ pub(crate) fn value_of_call(
     value: Option<Value>,
     position: Position,
     env: &Env,
-) -> Result<Value, EvalEnd>
-    ensures { (out : Effects) → IsRun val_of result env.now out (call_value_runs (option_map val_of value) position env.now out) }
+) -> Result<Value, StepEnd>
+    ensures { (out : Effects) → IsStep val_of result env.now out (call_value_runs (option_map val_of value) position env.now out) }
 {
     match value {
         Some(value) => Ok(value),

@@ -3,12 +3,11 @@
 ghost use Rattle.std.specs.Prelude.{◌≡◌, ◌+◌, ◌++◌, [], ◌∷◌, OnOk, map};
 ghost use Rattle.gn_items.specs.Effects.{Effects};
 ghost use Rattle.gn_values.specs.View.{val_of};
-ghost use Rattle.gn_scopes.specs.Environment.{levels, IsEntered};
 ghost use Rattle.gn_meaning.specs.Words.{item_added_runs, scope_runs};
-ghost use Rattle.gn_eval.specs.Ends.{IsRun};
+ghost use Rattle.gn_eval.specs.Ends.{IsStep};
 
-use crate::ending::EvalEnd;
 use crate::faults::refused;
+use crate::step::StepEnd;
 use gn_scopes::Env;
 use gn_tree::Position;
 use gn_values::{Items, Value};
@@ -22,8 +21,8 @@ pub(crate) fn add_item(
     value: Value,
     position: Position,
     env: &Env,
-) -> Result<(), EvalEnd>
-    ensures { (out : Effects) → IsRun (λ _. items.new) result env.now out (item_added_runs items.old (val_of value) position env.now out) }
+) -> Result<(), StepEnd>
+    ensures { (out : Effects) → IsStep (λ _. items.new) result env.now out (item_added_runs items.old (val_of value) position env.now out) }
 {
     match items.push(value) {
         Ok(()) => Ok(()),
@@ -33,10 +32,8 @@ pub(crate) fn add_item(
 
 /// The end of a scope literal whose brace stands at the position: its value is what was set in it.
 #[tactic(auto, unfolding(gn_meaning::specs::Words::scope_runs, gn_scopes::specs::Environment::left))]
-pub(crate) fn end_scope(alloc: Global, position: Position, env: &mut Env) -> Result<Value, EvalEnd>
-    requires { IsEntered env.old }
-    ensures runs { (out : Effects) → IsRun val_of result env.new out (scope_runs position env.old out) }
-    ensures levels { levels env.new + 1 ≡ levels env.old }
+pub(crate) fn end_scope(alloc: Global, position: Position, env: &mut Env) -> Result<Value, StepEnd>
+    ensures runs { (out : Effects) → IsStep val_of result env.new out (scope_runs position env.old out) }
 {
     match env.leave_with_entries(alloc) {
         Ok(entries) => Ok(Value::Scope(entries)),

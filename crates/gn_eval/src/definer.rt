@@ -1,7 +1,6 @@
 // What makes an item of the scope of its block.
 
 ghost use Rattle.std.specs.Prelude.{◌≡◌, Ok, Err, IfOk, IfErr};
-ghost use Rattle.gn_scopes.specs.Environment.{levels};
 ghost use Rattle.gn_meaning.specs.Items.{defined};
 ghost use Rattle.gn_eval.specs.Definitions.{IfWrong};
 
@@ -46,6 +45,5 @@ pub trait Definer {
     ) -> Result<Item, DefineError>
         ensures same { self.new ≡ self.old }
         ensures item { IfOk result (λ item. defined kind name.now position env.old ≡ Ok (item, env.new)) }
-        ensures wrong { IfErr result (λ e. IfWrong e (λ fault. defined kind name.now position env.old ≡ Err fault)) }
-        ensures levels { levels env.new ≡ levels env.old };
+        ensures wrong { IfErr result (λ e. IfWrong e (λ fault. defined kind name.now position env.old ≡ Err fault)) };
 }

@@ -1,6 +1,8 @@
 // How an evaluation ends where it has no value.
 
+use crate::step::StepEnd;
 use gn_items::Fault;
+use gn_paths::{Path, Place};
 use std::alloc::AllocError;
 
 /// Why an evaluation has no value.
@@ -8,6 +10,10 @@ use std::alloc::AllocError;
 pub enum EvalEnd {
     /// The first fault, from left to right.
     Wrong(Fault),
+    /// The first import that can't be used: the path of the file, and where the call stands.
+    Spoiled(Path, Place),
+    /// The library has stopped: it lacks the answer that it has noted.
+    Stopped,
     /// Want of memory.
     Memory,
 }
@@ -20,5 +26,19 @@ impl From<AllocError> for EvalEnd {
 
     fn from(_error: AllocError) -> EvalEnd {
         EvalEnd::Memory
+    }
+}
+
+impl From<StepEnd> for EvalEnd {
+    ghost use Rattle.std.specs.Prelude.{◌≡◌};
+    ghost use Rattle.gn_eval.specs.Ends.{end_of_step};
+
+    ghost from_gives = { λ s e. e ≡ end_of_step s };
+
+    fn from(end: StepEnd) -> EvalEnd {
+        match end {
+            StepEnd::Wrong(fault) => EvalEnd::Wrong(fault),
+            StepEnd::Memory => EvalEnd::Memory,
+        }
     }
 }

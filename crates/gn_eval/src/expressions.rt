@@ -1,14 +1,17 @@
 // Expressions.
 
-ghost use Rattle.std.specs.Prelude.{◌≡◌, OnOk, [], false, map};
+ghost use Rattle.std.specs.Prelude.{◌≡◌, ◌<◌, ◌≤◌, OnOk, [], false, map};
+ghost use Rattle.gn_tree.specs.Depth.{max_depth, expr_depth, exprs_depth, call_depth, block_depth};
 ghost use Rattle.gn_tree.specs.Views.{expr_of, exprs_of, call_of};
 ghost use Rattle.gn_values.specs.View.{val_of};
-ghost use Rattle.gn_scopes.specs.Environment.{levels, entered};
-ghost use Rattle.gn_meaning.specs.Runs.{Answers, then_do};
+ghost use Rattle.gn_scopes.specs.Environment.{entered};
+ghost use Rattle.gn_runs.specs.Runs.{Answers};
+ghost use Rattle.gn_meaning.specs.Steps.{deeper, then_do};
 ghost use Rattle.gn_meaning.specs.Words.{base_runs, element_runs, scope_runs, negation_runs};
 ghost use Rattle.gn_meaning.specs.Calls.{call_value_runs};
-ghost use Rattle.gn_meaning.specs.Meaning.{expr_runs, operator_runs, items_run, values_run, call_runs, block_runs};
-ghost use Rattle.gn_eval.specs.Ends.{IsRun};
+ghost use Rattle.gn_meaning.specs.Meaning.{world, expr_runs, operator_runs, items_run, values_run, call_runs, block_runs};
+ghost use Rattle.gn_eval.specs.Ends.{Covers, IsRun};
+ghost use Rattle.gn_eval.specs.Library.{GoesOn};
 ghost use Rattle.gn_eval.specs.Operations.{IsOperand};
 
 use crate::calls::value_of_call;
@@ -17,8 +20,10 @@ use crate::definer::Definer;
 use crate::ending::EvalEnd;
 use crate::faults::wrong;
 use crate::functions::run_call;
+use crate::level::Level;
+use crate::library::Library;
 use crate::names::{read_base, read_element, read_entry, read_name};
-use crate::operations::{Operation, left_operand};
+use crate::operations::{Operation, left_operand, operators_in};
 use crate::operators::{boolean, negate, operate};
 use crate::statements::run_statements;
 use crate::strings::expand;
@@ -31,20 +36,25 @@ use std::alloc::Global;
 
 /// The value of an expression.
 #[cycle(eval)]
-pub(crate) fn eval_expr<D: Definer>(
+pub(crate) fn eval_expr<L: Library + Definer>(
     alloc: Global,
+    level: Level,
     expr: &Expr,
     env: &mut Env,
     out: &mut Outcome,
-    definer: &mut D,
+    library: &mut L,
 ) -> Result<Value, EvalEnd>
-    ensures runs { (a : Answers) → IsRun val_of result env.new out.new (expr_runs a (expr_of expr.now) env.old out.old) }
-    ensures levels { OnOk result (levels env.new ≡ levels env.old) }
+    requires shallow { expr_depth (expr_of expr.now) ≤ max_depth }
+    ensures runs { (a : Answers) → Covers (L.state library.new).told result a → IsRun val_of (L.state library.new).need result env.new out.new (expr_runs (world level.room a) level.nesting (expr_of expr.now) env.old out.old) }
+    ensures goes { GoesOn (L.state library.old) (L.state library.new) }
+    ensures rose { result ≡ Err EvalEnd.Stopped → (L.state library.old).stops < (L.state library.new).stops }
 {
     let (leftmost, mut operations) = left_operand(alloc, expr)?;
-    let mut value = eval_operand(alloc, leftmost, env, out, definer)?;
+    let mut value = eval_operand(alloc, level, leftmost, env, out, library)?;
+    let mut inner = level.deeper(1);
     'operators: while let Some(operation) = operations.pop() {
-        value = apply(alloc, operation, value, env, out, definer)?;
+        value = apply(alloc, inner, operation, value, env, out, library)?;
+        inner = inner.deeper(operators_in(operation.right.get()).saturating_add(1));
     }
     Ok(value)
 }
@@ -52,45 +62,73 @@ pub(crate) fn eval_expr<D: Definer>(
 // The value of an expression whose outermost part is no operator.
 #[cycle(eval)]
 #[tactic(auto, unfolding(gn_meaning::specs::Meaning::expr_runs))]
-fn eval_operand<D: Definer>(
+fn eval_operand<L: Library + Definer>(
     alloc: Global,
+    level: Level,
     expr: &Expr,
     env: &mut Env,
     out: &mut Outcome,
-    definer: &mut D,
+    library: &mut L,
 ) -> Result<Value, EvalEnd>
-    requires { IsOperand (expr_of expr.now) }
-    ensures runs { (a : Answers) → IsRun val_of result env.new out.new (expr_runs a (expr_of expr.now) env.old out.old) }
-    ensures levels { OnOk result (levels env.new ≡ levels env.old) }
+    requires operand { IsOperand (expr_of expr.now) }
+    requires shallow { expr_depth (expr_of expr.now) ≤ max_depth }
+    ensures runs { (a : Answers) → Covers (L.state library.new).told result a → IsRun val_of (L.state library.new).need result env.new out.new (expr_runs (world level.room a) level.nesting (expr_of expr.now) env.old out.old) }
+    ensures goes { GoesOn (L.state library.old) (L.state library.new) }
+    ensures rose { result ≡ Err EvalEnd.Stopped → (L.state library.old).stops < (L.state library.new).stops }
 {
     match expr {
-        Expr::Name { position, name } => read_name(alloc, name, *position, env),
+        Expr::Name { position, name } => Ok(read_name(alloc, name, *position, env)?),
         Expr::Integer { value, .. } => Ok(Value::Int(*value)),
         Expr::String { position, pieces } => {
             Ok(Value::Str(expand(alloc, pieces.as_slice(), *position, env)?))
         }
         Expr::Boolean { value, .. } => Ok(Value::Bool(*value)),
-        Expr::Call(call) => eval_call(alloc, call, env, out, definer),
+        Expr::Call(call) => eval_call(alloc, level, call, env, out, library),
         Expr::Item {
             position,
             base,
             bracket,
             index,
-        } => eval_item(alloc, base, *position, index, *bracket, env, out, definer),
+        } => eval_item(
+            alloc, level, base, *position, index, *bracket, env, out, library,
+        ),
         Expr::Entry {
             position,
             base,
             dot,
             entry,
-        } => read_entry(alloc, base, *position, entry, *dot, env),
-        Expr::Scope { position, block } => eval_scope(alloc, block, *position, env, out, definer),
-        Expr::Parentheses { inner, .. } => eval_expr(alloc, inner.get(), env, out, definer),
+        } => Ok(read_entry(alloc, base, *position, entry, *dot, env)?),
+        Expr::Scope { position, block } => eval_scope(
+            alloc,
+            level.deeper(1),
+            block,
+            *position,
+            env,
+            out,
+            library,
+        ),
+        Expr::Parentheses { inner, .. } => eval_expr(
+            alloc,
+            level.deeper(1),
+            inner.get(),
+            env,
+            out,
+            library,
+        ),
         Expr::List { position, items } => {
-            Ok(Value::List(eval_items(alloc, items, *position, env, out, definer)?))
+            Ok(Value::List(eval_items(
+                alloc,
+                level.deeper(1),
+                items,
+                *position,
+                env,
+                out,
+                library,
+            )?))
         }
         Expr::Not { position, operand } => {
-            let value = eval_expr(alloc, operand.get(), env, out, definer)?;
-            negate(alloc, &value, *position, env)
+            let value = eval_expr(alloc, level.deeper(1), operand.get(), env, out, library)?;
+            Ok(negate(alloc, &value, *position, env)?)
         }
         Expr::Binary { .. } => unreachable!(),
     }
@@ -98,53 +136,62 @@ fn eval_operand<D: Definer>(
 
 // The value of a call, which has to have one.
 #[cycle(eval)]
-fn eval_call<D: Definer>(
+fn eval_call<L: Library + Definer>(
     alloc: Global,
+    level: Level,
     call: &Call,
     env: &mut Env,
     out: &mut Outcome,
-    definer: &mut D,
+    library: &mut L,
 ) -> Result<Value, EvalEnd>
-    ensures runs { (a : Answers) → IsRun val_of result env.new out.new (then_do (call_runs a (call_of call.now) env.old out.old) (λ v env1 out1. call_value_runs v call.now.position env1 out1)) }
-    ensures levels { OnOk result (levels env.new ≡ levels env.old) }
+    requires shallow { call_depth (call_of call.now) ≤ max_depth }
+    ensures runs { (a : Answers) → Covers (L.state library.new).told result a → IsRun val_of (L.state library.new).need result env.new out.new (then_do (call_runs (world level.room a) level.nesting (call_of call.now) env.old out.old) (λ v env1 out1. call_value_runs v call.now.position env1 out1)) }
+    ensures goes { GoesOn (L.state library.old) (L.state library.new) }
+    ensures rose { result ≡ Err EvalEnd.Stopped → (L.state library.old).stops < (L.state library.new).stops }
 {
-    let value = run_call(alloc, call, env, out, definer)?;
-    value_of_call(alloc, value, call.position, env)
+    let value = run_call(alloc, level, call, env, out, library)?;
+    Ok(value_of_call(alloc, value, call.position, env)?)
 }
 
 // `base[index]`: the base has to have a value before the index is evaluated.
 #[cycle(eval)]
-fn eval_item<D: Definer>(
+fn eval_item<L: Library + Definer>(
     alloc: Global,
+    level: Level,
     base: &Text,
     position: Position,
     index: &SubExpr,
     bracket: Position,
     env: &mut Env,
     out: &mut Outcome,
-    definer: &mut D,
+    library: &mut L,
 ) -> Result<Value, EvalEnd>
-    ensures runs { (a : Answers) → IsRun val_of result env.new out.new (then_do (base_runs base.now position env.old out.old) (λ _ env1 out1. then_do (expr_runs a index.now env1 out1) (λ at env2 out2. element_runs base.now position at bracket env2 out2))) }
-    ensures levels { OnOk result (levels env.new ≡ levels env.old) }
+    requires shallow { expr_depth index.now ≤ max_depth }
+    ensures runs { (a : Answers) → Covers (L.state library.new).told result a → IsRun val_of (L.state library.new).need result env.new out.new (then_do (base_runs base.now position env.old out.old) (λ _ env1 out1. then_do (expr_runs (world level.room a) (deeper level.nesting 1) index.now env1 out1) (λ at env2 out2. element_runs base.now position at bracket env2 out2))) }
+    ensures goes { GoesOn (L.state library.old) (L.state library.new) }
+    ensures rose { result ≡ Err EvalEnd.Stopped → (L.state library.old).stops < (L.state library.new).stops }
 {
     read_base(alloc, base, position, env)?;
-    let at = eval_expr(alloc, index.get(), env, out, definer)?;
-    read_element(alloc, base, position, &at, bracket, env)
+    let at = eval_expr(alloc, level.deeper(1), index.get(), env, out, library)?;
+    Ok(read_element(alloc, base, position, &at, bracket, env)?)
 }
 
 // An operator behind its left side: `&&` and `||` look at its type first and stop early, all others evaluate the right
 // side first.
 #[cycle(eval)]
-fn apply<D: Definer>(
+fn apply<L: Library + Definer>(
     alloc: Global,
+    level: Level,
     operation: Operation<'_>,
     left: Value,
     env: &mut Env,
     out: &mut Outcome,
-    definer: &mut D,
+    library: &mut L,
 ) -> Result<Value, EvalEnd>
-    ensures runs { (a : Answers) → IsRun val_of result env.new out.new (operator_runs operation.entry.operator (val_of left) (expr_runs a operation.entry.right.now) operation.entry.position env.old out.old) }
-    ensures levels { OnOk result (levels env.new ≡ levels env.old) }
+    requires shallow { expr_depth operation.right.now ≤ max_depth }
+    ensures runs { (a : Answers) → Covers (L.state library.new).told result a → IsRun val_of (L.state library.new).need result env.new out.new (operator_runs operation.entry.operator (val_of left) (expr_runs (world level.room a) level.nesting operation.entry.right.now) operation.entry.position env.old out.old) }
+    ensures goes { GoesOn (L.state library.old) (L.state library.new) }
+    ensures rose { result ≡ Err EvalEnd.Stopped → (L.state library.old).stops < (L.state library.new).stops }
 {
     let Operation {
         operator,
@@ -155,61 +202,67 @@ fn apply<D: Definer>(
         BinaryOp::And => match left {
             Value::Bool(false) => Ok(Value::Bool(false)),
             Value::Bool(true) => {
-                let right = eval_expr(alloc, right.get(), env, out, definer)?;
-                boolean(alloc, right, position, env)
+                let right = eval_expr(alloc, level, right.get(), env, out, library)?;
+                Ok(boolean(alloc, right, position, env)?)
             }
-            _ => Err(wrong(alloc, env, Code::BadTypes, position)),
+            _ => Err(wrong(alloc, env, Code::BadTypes, position).into()),
         },
         BinaryOp::Or => match left {
             Value::Bool(true) => Ok(Value::Bool(true)),
             Value::Bool(false) => {
-                let right = eval_expr(alloc, right.get(), env, out, definer)?;
-                boolean(alloc, right, position, env)
+                let right = eval_expr(alloc, level, right.get(), env, out, library)?;
+                Ok(boolean(alloc, right, position, env)?)
             }
-            _ => Err(wrong(alloc, env, Code::BadTypes, position)),
+            _ => Err(wrong(alloc, env, Code::BadTypes, position).into()),
         },
         _ => {
-            let right = eval_expr(alloc, right.get(), env, out, definer)?;
-            operate(alloc, operator, left, right, position, env)
+            let right = eval_expr(alloc, level, right.get(), env, out, library)?;
+            Ok(operate(alloc, operator, left, right, position, env)?)
         }
     }
 }
 
 // The value of a scope literal: what its block sets.
 #[cycle(eval)]
-fn eval_scope<D: Definer>(
+fn eval_scope<L: Library + Definer>(
     alloc: Global,
+    level: Level,
     block: &Block,
     position: Position,
     env: &mut Env,
     out: &mut Outcome,
-    definer: &mut D,
+    library: &mut L,
 ) -> Result<Value, EvalEnd>
-    ensures runs { (a : Answers) → IsRun val_of result env.new out.new (then_do (block_runs a block.now (entered false env.old) out.old) (λ _ env1 out1. scope_runs position env1 out1)) }
-    ensures levels { OnOk result (levels env.new ≡ levels env.old) }
+    requires shallow { block_depth block.now ≤ max_depth }
+    ensures runs { (a : Answers) → Covers (L.state library.new).told result a → IsRun val_of (L.state library.new).need result env.new out.new (then_do (block_runs (world level.room a) level.nesting block.now (entered false env.old) out.old) (λ _ env1 out1. scope_runs position env1 out1)) }
+    ensures goes { GoesOn (L.state library.old) (L.state library.new) }
+    ensures rose { result ≡ Err EvalEnd.Stopped → (L.state library.old).stops < (L.state library.new).stops }
 {
     env.enter(false)?;
-    run_statements(alloc, block, env, out, definer)?;
-    end_scope(alloc, position, env)
+    run_statements(alloc, level, block, env, out, library)?;
+    Ok(end_scope(alloc, position, env)?)
 }
 
 // The items of a list whose bracket stands at the position.
 #[cycle(eval)]
 #[tactic(auto, unfolding(gn_meaning::specs::Meaning::items_run))]
-fn eval_items<D: Definer>(
+fn eval_items<L: Library + Definer>(
     alloc: Global,
+    level: Level,
     items: &Exprs,
     position: Position,
     env: &mut Env,
     out: &mut Outcome,
-    definer: &mut D,
+    library: &mut L,
 ) -> Result<Items, EvalEnd>
-    ensures runs { (a : Answers) → IsRun (λ vs. vs) result env.new out.new (items_run a items.now [] position env.old out.old) }
-    ensures levels { OnOk result (levels env.new ≡ levels env.old) }
+    requires shallow { exprs_depth items.now ≤ max_depth }
+    ensures runs { (a : Answers) → Covers (L.state library.new).told result a → IsRun (λ vs. vs) (L.state library.new).need result env.new out.new (items_run (world level.room a) level.nesting items.now [] position env.old out.old) }
+    ensures goes { GoesOn (L.state library.old) (L.state library.new) }
+    ensures rose { result ≡ Err EvalEnd.Stopped → (L.state library.old).stops < (L.state library.new).stops }
 {
     let mut values = Items::new(alloc);
     for item in items.as_slice() {
-        let value = eval_expr(alloc, item, env, out, definer)?;
+        let value = eval_expr(alloc, level, item, env, out, library)?;
         add_item(alloc, &mut values, value, position, env)?;
     }
     Ok(values)
@@ -218,19 +271,22 @@ fn eval_items<D: Definer>(
 /// The values of arguments, in order.
 #[cycle(eval)]
 #[tactic(auto, unfolding(gn_meaning::specs::Meaning::values_run))]
-pub(crate) fn eval_values<D: Definer>(
+pub(crate) fn eval_values<L: Library + Definer>(
     alloc: Global,
+    level: Level,
     arguments: &[Expr],
     env: &mut Env,
     out: &mut Outcome,
-    definer: &mut D,
+    library: &mut L,
 ) -> Result<Vec<Value>, EvalEnd>
-    ensures runs { (a : Answers) → IsRun (λ vs. map val_of vs.items) result env.new out.new (values_run a (exprs_of arguments.now) env.old out.old) }
-    ensures levels { OnOk result (levels env.new ≡ levels env.old) }
+    requires shallow { exprs_depth (exprs_of arguments.now) ≤ max_depth }
+    ensures runs { (a : Answers) → Covers (L.state library.new).told result a → IsRun (λ vs. map val_of vs.items) (L.state library.new).need result env.new out.new (values_run (world level.room a) level.nesting (exprs_of arguments.now) env.old out.old) }
+    ensures goes { GoesOn (L.state library.old) (L.state library.new) }
+    ensures rose { result ≡ Err EvalEnd.Stopped → (L.state library.old).stops < (L.state library.new).stops }
 {
     let mut values = Vec::new(alloc);
     for argument in arguments {
-        let value = eval_expr(alloc, argument, env, out, definer)?;
+        let value = eval_expr(alloc, level, argument, env, out, library)?;
         add_value(&mut values, value)?;
     }
     Ok(values)

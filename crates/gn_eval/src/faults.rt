@@ -6,9 +6,9 @@ ghost use Rattle.gn_meaning.specs.Words.{code_of, element_detail};
 ghost use Rattle.gn_values.specs.View.{val_of};
 ghost use Rattle.gn_eval.specs.Ends.{IsFault, IsRefusal};
 
-use crate::ending::EvalEnd;
+use crate::step::StepEnd;
 use gn_items::{Code, Fault};
-use gn_paths::{Text, Texts};
+use gn_paths::{Place, Text, Texts};
 use gn_scopes::Env;
 use gn_tree::Position;
 use gn_values::{Value, ValueError, print_text};
@@ -30,12 +30,12 @@ fn fault_with(
 }
 
 /// The end of an evaluation with a fault without details.
-pub(crate) fn wrong(alloc: Global, env: &Env, code: Code, position: Position) -> EvalEnd
+pub(crate) fn wrong(alloc: Global, env: &Env, code: Code, position: Position) -> StepEnd
     ensures { IsFault result (fault_in env.now.setting position code []) }
 {
     match env.fault(alloc, code, position, Texts::new(alloc)) {
-        Ok(fault) => EvalEnd::Wrong(fault),
-        Err(_) => EvalEnd::Memory,
+        Ok(fault) => StepEnd::Wrong(fault),
+        Err(_) => StepEnd::Memory,
     }
 }
 
@@ -46,12 +46,49 @@ pub(crate) fn wrong_with(
     code: Code,
     position: Position,
     detail: &Text,
-) -> EvalEnd
+) -> StepEnd
     ensures { IsFault result (fault_in env.now.setting position code (detail.now ∷ [])) }
 {
     match fault_with(alloc, env, code, position, detail) {
-        Ok(fault) => EvalEnd::Wrong(fault),
-        Err(_) => EvalEnd::Memory,
+        Ok(fault) => StepEnd::Wrong(fault),
+        Err(_) => StepEnd::Memory,
+    }
+}
+
+// The same at a position of another file.
+fn fault_elsewhere(
+    alloc: Global,
+    env: &Env,
+    file: &Text,
+    code: Code,
+    position: Position,
+    detail: &Text,
+) -> Result<Fault, AllocError>
+    ensures { IfOk result (λ f. f ≡ fault_in (record env.now.setting { file = file.now }) position code (detail.now ∷ [])) }
+{
+    let mut fault = fault_with(alloc, env, code, position, detail)?;
+    fault.place = Some(Place {
+        file: file.copy(alloc)?,
+        line: position.line,
+        column: position.column,
+    });
+    Ok(fault)
+}
+
+/// The same at a position of another file.
+pub(crate) fn wrong_in(
+    alloc: Global,
+    env: &Env,
+    file: &Text,
+    code: Code,
+    position: Position,
+    detail: &Text,
+) -> StepEnd
+    ensures { IsFault result (fault_in (record env.now.setting { file = file.now }) position code (detail.now ∷ [])) }
+{
+    match fault_elsewhere(alloc, env, file, code, position, detail) {
+        Ok(fault) => StepEnd::Wrong(fault),
+        Err(_) => StepEnd::Memory,
     }
 }
 
@@ -70,22 +107,22 @@ fn code_of(error: ValueError) -> Code
 }
 
 /// The end of an evaluation whose operator refuses, at its position.
-pub(crate) fn refused(alloc: Global, env: &Env, error: ValueError, position: Position) -> EvalEnd
+pub(crate) fn refused(alloc: Global, env: &Env, error: ValueError, position: Position) -> StepEnd
     ensures { IsRefusal error result (fault_in env.now.setting position (code_of error) []) }
 {
     match error {
-        ValueError::Memory => EvalEnd::Memory,
+        ValueError::Memory => StepEnd::Memory,
         _ => wrong(alloc, env, code_of(error), position),
     }
 }
 
 // An absent entry of the scope, with the subscript as its name.
-fn absent(alloc: Global, env: &Env, at: &Value, position: Position) -> EvalEnd
+fn absent(alloc: Global, env: &Env, at: &Value, position: Position) -> StepEnd
     ensures { IsFault result (fault_in env.now.setting position (code_of ValueError.Undefined) (element_detail ValueError.Undefined (val_of at.now))) }
 {
     match print_text(alloc, at, false) {
         Ok(name) => wrong_with(alloc, env, Code::Undefined, position, &name),
-        Err(_) => EvalEnd::Memory,
+        Err(_) => StepEnd::Memory,
     }
 }
 
@@ -96,7 +133,7 @@ pub(crate) fn refused_element(
     error: ValueError,
     at: &Value,
     position: Position,
-) -> EvalEnd
+) -> StepEnd
     ensures { IsRefusal error result (fault_in env.now.setting position (code_of error) (element_detail error (val_of at.now))) }
 {
     match error {

@@ -1,44 +1,82 @@
-// The blocks of items.
+// The blocks of items, and the scopes in which the blocks of calls begin.
 
-ghost use Rattle.std.specs.Prelude.{◌≡◌, ◌+◌, [], ◌∷◌, OnOk, IfOk, IfErr, Ok, Err, option_map};
+ghost use Rattle.std.specs.Prelude.{◌≡◌, true, [], ◌∷◌, IfOk, IfErr, Ok, Err, option_map};
+ghost use Rattle.gn_items.specs.Effects.{Effects};
 ghost use Rattle.gn_values.specs.View.{val_of};
-ghost use Rattle.gn_scopes.specs.Environment.{levels, IsEntered};
+ghost use Rattle.gn_scopes.specs.Environment.{in_item};
 ghost use Rattle.gn_scopes.specs.Faults.{fault_in};
-ghost use Rattle.gn_meaning.specs.Calls.{item_begins, item_end_runs};
+ghost use Rattle.gn_meaning.specs.Calls.{scope_begun_runs, item_end_runs};
+ghost use Rattle.gn_meaning.specs.Templates.{is_build_file, allows_items};
 ghost use Rattle.gn_meaning.specs.Items.{defined, label_text};
-ghost use Rattle.gn_eval.specs.Ends.{IsFault, IfFault, IsRun};
+ghost use Rattle.gn_eval.specs.Ends.{IsFault, IfFault, IsStep};
 
 use crate::definer::{DefineError, Definer};
-use crate::ending::EvalEnd;
 use crate::faults::wrong_with;
-use gn_items::{Code, Item, ItemKind, Outcome};
+use crate::step::StepEnd;
+use gn_items::{Code, FileKind, Item, ItemKind, Outcome};
 use gn_labels::Label;
 use gn_paths::Text;
-use gn_scopes::Env;
+use gn_scopes::{Env, GiveError};
 use gn_tree::Position;
 use gn_values::Value;
-use std::alloc::{AllocError, Global};
+use std::alloc::Global;
 
-/// Opens the scope in which the block of an item runs: it has the item's name as `target_name`.
-#[tactic(auto, unfolding(gn_meaning::specs::Calls::item_begins))]
-pub(crate) fn begin_item(alloc: Global, name: &Text, env: &mut Env) -> Result<(), AllocError>
-    ensures new { OnOk result (env.new ≡ item_begins name.now env.old) }
-    ensures levels { OnOk result (levels env.new ≡ levels env.old + 1) }
-    ensures entered { OnOk result (IsEntered env.new) }
+/// Opens the scope in which the block of a call runs: it has the name given to the call as `target_name`, and the
+/// defaults for calls of this kind.
+#[tactic(auto, unfolding(gn_meaning::specs::Calls::scope_begun_runs, gn_scopes::specs::Templates::block_begins, gn_scopes::specs::Environment::given, gn_scopes::specs::Environment::restored, gn_scopes::specs::Environment::entered))]
+pub(crate) fn begin_scope(
+    alloc: Global,
+    kind: &Text,
+    name: &Text,
+    position: Position,
+    env: &mut Env,
+) -> Result<(), StepEnd>
+    ensures runs { (out : Effects) → IsStep (λ u. u) result env.new out (scope_begun_runs kind.now name.now position env.old out) }
+{
+    env.begin_block(alloc, name)?;
+    match env.give_defaults(alloc, kind) {
+        Ok(()) => Ok(()),
+        Err(GiveError::AlreadySet(set)) => {
+            Err(wrong_with(alloc, env, Code::AlreadySet, position, &set))
+        }
+        Err(GiveError::Memory) => Err(StepEnd::Memory),
+    }
+}
+
+/// The same for the block of an item.
+pub(crate) fn begin_item(
+    alloc: Global,
+    kind: &Text,
+    name: &Text,
+    position: Position,
+    env: &mut Env,
+) -> Result<(), StepEnd>
+    ensures runs { (out : Effects) → IsStep (λ u. u) result env.new out (scope_begun_runs kind.now name.now position (in_item true env.old) out) }
 {
     env.set_in_item(true);
-    env.enter(true)?;
-    let target_name = Text::from_bytes(alloc, b"target_name")?;
-    env.give(alloc, &target_name, Value::Str(name.copy(alloc)?))
+    begin_scope(alloc, kind, name, position, env)
+}
+
+/// Whether items may be defined here: in a build file, outside the blocks of other items.
+pub(crate) fn allows_items(env: &Env) -> bool
+    ensures { result ≡ allows_items env.now }
+{
+    !env.in_item() && is_build_file(env.kind())
+}
+
+fn is_build_file(kind: FileKind) -> bool
+    ensures { result ≡ is_build_file kind }
+{
+    matches!(kind, FileKind::BuildFile)
 }
 
 // The end of an evaluation in which two items have the label.
-fn duplicate(alloc: Global, env: &Env, position: Position, label: &Label) -> EvalEnd
+fn duplicate(alloc: Global, env: &Env, position: Position, label: &Label) -> StepEnd
     ensures { IsFault result (fault_in env.now.setting position Code.DuplicateItem (label_text label.now ∷ [])) }
 {
     match label.print(alloc, &Text::new(alloc)) {
         Ok(text) => wrong_with(alloc, env, Code::DuplicateItem, position, &text),
-        Err(_) => EvalEnd::Memory,
+        Err(_) => StepEnd::Memory,
     }
 }
 
@@ -50,16 +88,15 @@ fn define<D: Definer>(
     position: Position,
     env: &mut Env,
     definer: &mut D,
-) -> Result<Item, EvalEnd>
+) -> Result<Item, StepEnd>
     ensures item { IfOk result (λ item. defined kind name.now position env.old ≡ Ok (item, env.new)) }
     ensures wrong { IfErr result (λ e. IfFault e (λ fault. defined kind name.now position env.old ≡ Err fault)) }
-    ensures levels { levels env.new ≡ levels env.old }
     ensures same { definer.new ≡ definer.old }
 {
     match definer.define(alloc, kind, name, env, position) {
         Ok(item) => Ok(item),
-        Err(DefineError::Wrong(fault)) => Err(EvalEnd::Wrong(fault)),
-        Err(DefineError::Memory) => Err(EvalEnd::Memory),
+        Err(DefineError::Wrong(fault)) => Err(StepEnd::Wrong(fault)),
+        Err(DefineError::Memory) => Err(StepEnd::Memory),
     }
 }
 
@@ -74,10 +111,8 @@ pub(crate) fn end_item<D: Definer>(
     env: &mut Env,
     out: &mut Outcome,
     definer: &mut D,
-) -> Result<Option<Value>, EvalEnd>
-    requires { IsEntered env.old }
-    ensures runs { IsRun (option_map val_of) result env.new out.new (item_end_runs kind name.now position env.old out.old) }
-    ensures levels { OnOk result (levels env.new + 1 ≡ levels env.old) }
+) -> Result<Option<Value>, StepEnd>
+    ensures runs { IsStep (option_map val_of) result env.new out.new (item_end_runs kind name.now position env.old out.old) }
     ensures same { definer.new ≡ definer.old }
 {
     let item = define(alloc, kind, name, position, env, definer)?;

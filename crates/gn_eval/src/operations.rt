@@ -1,7 +1,8 @@
 // An expression as its leftmost operand and the operators behind it. Left operands can be nested far deeper than all
 // else, so they are walked in a loop.
 
-ghost use Rattle.std.specs.Prelude.{◌≡◌, IfOk};
+ghost use Rattle.std.specs.Prelude.{◌≡◌, min, IfOk};
+ghost use Rattle.gn_meaning.specs.Meaning.{operators_in};
 ghost use Rattle.gn_tree.specs.Views.{expr_of};
 ghost use Rattle.gn_eval.specs.Operations.{IsOperand, joined};
 
@@ -45,4 +46,19 @@ pub(crate) fn left_operand<'a>(
         leftmost = left.get();
     }
     Ok((leftmost, operations))
+}
+
+/// How many operators between operands an expression has outside its brackets, or as many as the type has room for.
+pub(crate) fn operators_in(expr: &Expr) -> u32
+    ensures { result ≡ min (operators_in (expr_of expr.now)) u32.MAX }
+{
+    let mut count: u32 = 0;
+    let mut rest = expr;
+    'left: while let Expr::Binary { left, right, .. } = rest {
+        count = count
+            .saturating_add(1)
+            .saturating_add(operators_in(right.get()));
+        rest = left.get();
+    }
+    count
 }

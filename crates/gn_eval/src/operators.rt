@@ -6,10 +6,10 @@ ghost use Rattle.gn_values.specs.View.{val_of};
 ghost use Rattle.gn_values.specs.Operators.{comparison_of};
 ghost use Rattle.gn_values.specs.Equal.{equals};
 ghost use Rattle.gn_meaning.specs.Words.{value_or_fault, boolean_result, negation_runs, boolean_runs, operated};
-ghost use Rattle.gn_eval.specs.Ends.{IsRun};
+ghost use Rattle.gn_eval.specs.Ends.{IsStep};
 
-use crate::ending::EvalEnd;
 use crate::faults::{refused, wrong};
+use crate::step::StepEnd;
 use gn_items::Code;
 use gn_scopes::Env;
 use gn_tree::{AssignOp, BinaryOp, Position};
@@ -23,8 +23,8 @@ pub(crate) fn negate(
     operand: &Value,
     position: Position,
     env: &Env,
-) -> Result<Value, EvalEnd>
-    ensures { (out : Effects) → IsRun val_of result env.now out (negation_runs (val_of operand.now) position env.now out) }
+) -> Result<Value, StepEnd>
+    ensures { (out : Effects) → IsStep val_of result env.now out (negation_runs (val_of operand.now) position env.now out) }
 {
     match operand {
         Value::Bool(truth) => Ok(Value::Bool(!*truth)),
@@ -39,8 +39,8 @@ pub(crate) fn boolean(
     right: Value,
     position: Position,
     env: &Env,
-) -> Result<Value, EvalEnd>
-    ensures { (out : Effects) → IsRun val_of result env.now out (boolean_runs (val_of right) position env.now out) }
+) -> Result<Value, StepEnd>
+    ensures { (out : Effects) → IsStep val_of result env.now out (boolean_runs (val_of right) position env.now out) }
 {
     match right {
         Value::Bool(truth) => Ok(Value::Bool(truth)),
@@ -97,8 +97,8 @@ pub(crate) fn operate(
     right: Value,
     position: Position,
     env: &Env,
-) -> Result<Value, EvalEnd>
-    ensures { (out : Effects) → IsRun val_of result env.now out (value_or_fault (operated operator (val_of left) (val_of right)) position env.now out) }
+) -> Result<Value, StepEnd>
+    ensures { (out : Effects) → IsStep val_of result env.now out (value_or_fault (operated operator (val_of left) (val_of right)) position env.now out) }
 {
     match operated(alloc, operator, left, right) {
         Ok(value) => Ok(value),

@@ -1,12 +1,13 @@
 // Statements and blocks.
 
-ghost use Rattle.std.specs.Prelude.{◌≡◌, OnOk};
+ghost use Rattle.std.specs.Prelude.{◌≡◌, ◌<◌, ◌≤◌, OnOk};
+ghost use Rattle.gn_tree.specs.Depth.{max_depth, target_depth, statement_depth, condition_depth, otherwise_depth, block_depth};
 ghost use Rattle.gn_tree.specs.Views.{target_of, statement_of, condition_of, otherwise_of};
 ghost use Rattle.gn_values.specs.View.{val_of};
-ghost use Rattle.gn_scopes.specs.Environment.{levels};
-ghost use Rattle.gn_meaning.specs.Runs.{Answers};
-ghost use Rattle.gn_meaning.specs.Meaning.{assignment_runs, statement_runs, condition_runs, otherwise_runs, block_runs};
-ghost use Rattle.gn_eval.specs.Ends.{IsRun};
+ghost use Rattle.gn_runs.specs.Runs.{Answers};
+ghost use Rattle.gn_meaning.specs.Meaning.{world, assignment_runs, statement_runs, condition_runs, otherwise_runs, block_runs};
+ghost use Rattle.gn_eval.specs.Ends.{Covers, IsRun};
+ghost use Rattle.gn_eval.specs.Library.{GoesOn};
 
 use crate::assignments::{assign_element, assign_name};
 use crate::definer::Definer;
@@ -14,6 +15,8 @@ use crate::ending::EvalEnd;
 use crate::expressions::eval_expr;
 use crate::faults::wrong;
 use crate::functions::run_call;
+use crate::level::Level;
+use crate::library::Library;
 use gn_items::{Code, Outcome};
 use gn_scopes::Env;
 use gn_tree::{AssignOp, Block, Condition, Otherwise, Position, Statement, Target};
@@ -23,18 +26,21 @@ use std::alloc::Global;
 /// The statements of a block, in order.
 #[cycle(eval)]
 #[tactic(auto, unfolding(gn_meaning::specs::Meaning::block_runs))]
-pub(crate) fn run_statements<D: Definer>(
+pub(crate) fn run_statements<L: Library + Definer>(
     alloc: Global,
+    level: Level,
     block: &Block,
     env: &mut Env,
     out: &mut Outcome,
-    definer: &mut D,
+    library: &mut L,
 ) -> Result<(), EvalEnd>
-    ensures runs { (a : Answers) → IsRun (λ u. u) result env.new out.new (block_runs a block.now env.old out.old) }
-    ensures levels { OnOk result (levels env.new ≡ levels env.old) }
+    requires shallow { block_depth block.now ≤ max_depth }
+    ensures runs { (a : Answers) → Covers (L.state library.new).told result a → IsRun (λ u. u) (L.state library.new).need result env.new out.new (block_runs (world level.room a) level.nesting block.now env.old out.old) }
+    ensures goes { GoesOn (L.state library.old) (L.state library.new) }
+    ensures rose { result ≡ Err EvalEnd.Stopped → (L.state library.old).stops < (L.state library.new).stops }
 {
     for statement in block.statements() {
-        run_statement(alloc, statement, env, out, definer)?;
+        run_statement(alloc, level, statement, env, out, library)?;
     }
     Ok(())
 }
@@ -42,15 +48,18 @@ pub(crate) fn run_statements<D: Definer>(
 // A statement.
 #[cycle(eval)]
 #[tactic(auto, unfolding(gn_meaning::specs::Meaning::statement_runs))]
-fn run_statement<D: Definer>(
+fn run_statement<L: Library + Definer>(
     alloc: Global,
+    level: Level,
     statement: &Statement,
     env: &mut Env,
     out: &mut Outcome,
-    definer: &mut D,
+    library: &mut L,
 ) -> Result<(), EvalEnd>
-    ensures runs { (a : Answers) → IsRun (λ u. u) result env.new out.new (statement_runs a (statement_of statement.now) env.old out.old) }
-    ensures levels { OnOk result (levels env.new ≡ levels env.old) }
+    requires shallow { statement_depth (statement_of statement.now) ≤ max_depth }
+    ensures runs { (a : Answers) → Covers (L.state library.new).told result a → IsRun (λ u. u) (L.state library.new).need result env.new out.new (statement_runs (world level.room a) level.nesting (statement_of statement.now) env.old out.old) }
+    ensures goes { GoesOn (L.state library.old) (L.state library.new) }
+    ensures rose { result ≡ Err EvalEnd.Stopped → (L.state library.old).stops < (L.state library.new).stops }
 {
     match statement {
         Statement::Assignment {
@@ -59,38 +68,44 @@ fn run_statement<D: Definer>(
             position,
             value,
         } => {
-            let value = eval_expr(alloc, value, env, out, definer)?;
+            let value = eval_expr(alloc, level, value, env, out, library)?;
             assign(
-                alloc, target, *operator, *position, value, env, out, definer,
+                alloc, level, target, *operator, *position, value, env, out, library,
             )
         }
         Statement::Call(call) => {
-            run_call(alloc, call, env, out, definer)?;
+            run_call(alloc, level, call, env, out, library)?;
             Ok(())
         }
-        Statement::Condition(condition) => run_condition(alloc, condition, env, out, definer),
+        Statement::Condition(condition) => run_condition(
+            alloc, level, condition, env, out, library,
+        ),
     }
 }
 
 // An assignment whose right side is evaluated.
 #[cycle(eval)]
 #[tactic(auto, unfolding(gn_meaning::specs::Meaning::assignment_runs))]
-fn assign<D: Definer>(
+fn assign<L: Library + Definer>(
     alloc: Global,
+    level: Level,
     target: &Target,
     operator: AssignOp,
     position: Position,
     value: Value,
     env: &mut Env,
     out: &mut Outcome,
-    definer: &mut D,
+    library: &mut L,
 ) -> Result<(), EvalEnd>
-    ensures runs { (a : Answers) → IsRun (λ u. u) result env.new out.new (assignment_runs a (target_of target.now) operator position (val_of value) env.old out.old) }
-    ensures levels { OnOk result (levels env.new ≡ levels env.old) }
+    requires shallow { target_depth (target_of target.now) ≤ max_depth }
+    ensures runs { (a : Answers) → Covers (L.state library.new).told result a → IsRun (λ u. u) (L.state library.new).need result env.new out.new (assignment_runs (world level.room a) level.nesting (target_of target.now) operator position (val_of value) env.old out.old) }
+    ensures goes { GoesOn (L.state library.old) (L.state library.new) }
+    ensures rose { result ≡ Err EvalEnd.Stopped → (L.state library.old).stops < (L.state library.new).stops }
 {
     match target {
         Target::Name { position: at, name } => {
-            assign_name(alloc, name, *at, operator, position, value, env)
+            assign_name(alloc, name, *at, operator, position, value, env)?;
+            Ok(())
         }
         Target::Item {
             position: base_at,
@@ -98,10 +113,11 @@ fn assign<D: Definer>(
             bracket,
             index,
         } => {
-            let at = eval_expr(alloc, index, env, out, definer)?;
+            let at = eval_expr(alloc, level.deeper(1), index, env, out, library)?;
             assign_element(
                 alloc, base, *base_at, &at, *bracket, operator, position, value, env,
-            )
+            )?;
+            Ok(())
         }
         Target::Entry {
             position: base_at,
@@ -112,7 +128,8 @@ fn assign<D: Definer>(
             let at = Value::Str(entry.copy(alloc)?);
             assign_element(
                 alloc, base, *base_at, &at, *dot, operator, position, value, env,
-            )
+            )?;
+            Ok(())
         }
     }
 }
@@ -120,44 +137,60 @@ fn assign<D: Definer>(
 // A condition, and the block that it picks.
 #[cycle(eval)]
 #[tactic(auto, unfolding(gn_meaning::specs::Meaning::condition_runs))]
-fn run_condition<D: Definer>(
+fn run_condition<L: Library + Definer>(
     alloc: Global,
+    level: Level,
     condition: &Condition,
     env: &mut Env,
     out: &mut Outcome,
-    definer: &mut D,
+    library: &mut L,
 ) -> Result<(), EvalEnd>
-    ensures runs { (a : Answers) → IsRun (λ u. u) result env.new out.new (condition_runs a (condition_of condition.now) env.old out.old) }
-    ensures levels { OnOk result (levels env.new ≡ levels env.old) }
+    requires shallow { condition_depth (condition_of condition.now) ≤ max_depth }
+    ensures runs { (a : Answers) → Covers (L.state library.new).told result a → IsRun (λ u. u) (L.state library.new).need result env.new out.new (condition_runs (world level.room a) level.nesting (condition_of condition.now) env.old out.old) }
+    ensures goes { GoesOn (L.state library.old) (L.state library.new) }
+    ensures rose { result ≡ Err EvalEnd.Stopped → (L.state library.old).stops < (L.state library.new).stops }
 {
-    match eval_expr(alloc, &condition.test, env, out, definer)? {
-        Value::Bool(true) => run_statements(alloc, &condition.block, env, out, definer),
-        Value::Bool(false) => run_otherwise(alloc, &condition.otherwise, env, out, definer),
+    match eval_expr(alloc, level.deeper(1), &condition.test, env, out, library)? {
+        Value::Bool(true) => run_statements(
+            alloc,
+            level.deeper(1),
+            &condition.block,
+            env,
+            out,
+            library,
+        ),
+        Value::Bool(false) => run_otherwise(alloc, level, &condition.otherwise, env, out, library),
         _ => Err(wrong(
             alloc,
             env,
             Code::NotBoolean,
             condition.test.first_position(),
-        )),
+        )
+        .into()),
     }
 }
 
 // What stands behind the block of a condition.
 #[cycle(eval)]
 #[tactic(auto, unfolding(gn_meaning::specs::Meaning::otherwise_runs))]
-fn run_otherwise<D: Definer>(
+fn run_otherwise<L: Library + Definer>(
     alloc: Global,
+    level: Level,
     otherwise: &Otherwise,
     env: &mut Env,
     out: &mut Outcome,
-    definer: &mut D,
+    library: &mut L,
 ) -> Result<(), EvalEnd>
-    ensures runs { (a : Answers) → IsRun (λ u. u) result env.new out.new (otherwise_runs a (otherwise_of otherwise.now) env.old out.old) }
-    ensures levels { OnOk result (levels env.new ≡ levels env.old) }
+    requires shallow { otherwise_depth (otherwise_of otherwise.now) ≤ max_depth }
+    ensures runs { (a : Answers) → Covers (L.state library.new).told result a → IsRun (λ u. u) (L.state library.new).need result env.new out.new (otherwise_runs (world level.room a) level.nesting (otherwise_of otherwise.now) env.old out.old) }
+    ensures goes { GoesOn (L.state library.old) (L.state library.new) }
+    ensures rose { result ≡ Err EvalEnd.Stopped → (L.state library.old).stops < (L.state library.new).stops }
 {
     match otherwise {
         Otherwise::Nothing => Ok(()),
-        Otherwise::Else(block) => run_statements(alloc, block, env, out, definer),
-        Otherwise::ElseIf(condition) => { run_condition(alloc, condition.get(), env, out, definer) }
+        Otherwise::Else(block) => run_statements(alloc, level.deeper(1), block, env, out, library),
+        Otherwise::ElseIf(condition) => {
+            run_condition(alloc, level.deeper(1), condition.get(), env, out, library)
+        }
     }
 }

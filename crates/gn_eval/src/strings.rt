@@ -6,15 +6,15 @@ ghost use Rattle.gn_values.specs.Val.{vstr};
 ghost use Rattle.gn_values.specs.View.{val_of};
 ghost use Rattle.gn_values.specs.Limits.{text_fits};
 ghost use Rattle.gn_values.specs.Text.{text_of};
-ghost use Rattle.gn_scopes.specs.Environment.{levels};
-ghost use Rattle.gn_meaning.specs.Runs.{then_do};
-ghost use Rattle.gn_meaning.specs.Words.{name_runs, element_runs, text_added_runs};
+ghost use Rattle.gn_meaning.specs.Steps.{then_do};
+ghost use Rattle.gn_scopes.specs.Environment.{value_of};
+ghost use Rattle.gn_meaning.specs.Words.{value_or_undefined, name_runs, element_of_base, element_runs, text_added_runs};
 ghost use Rattle.gn_meaning.specs.Pieces.{subscript_runs, text_runs, piece_runs, pieces_run};
-ghost use Rattle.gn_eval.specs.Ends.{IsRun};
+ghost use Rattle.gn_eval.specs.Ends.{IsStep};
 
-use crate::ending::EvalEnd;
 use crate::faults::{refused, refused_element, wrong_with};
-use crate::names::{read_base, read_name};
+use crate::names::{read_base, read_invoker, read_invoker_element, read_name};
+use crate::step::StepEnd;
 use gn_items::Code;
 use gn_paths::Text;
 use gn_scopes::Env;
@@ -46,8 +46,8 @@ fn add_bytes(
     quote: Position,
     env: &Env,
     text: &mut Text,
-) -> Result<(), EvalEnd>
-    ensures { (out : Effects) → IsRun (λ _. text.new) result env.now out (text_added_runs text.old bytes.now quote env.now out) }
+) -> Result<(), StepEnd>
+    ensures { (out : Effects) → IsStep (λ _. text.new) result env.now out (text_added_runs text.old bytes.now quote env.now out) }
 {
     match append_text(text, bytes.as_bytes()) {
         Ok(()) => Ok(()),
@@ -55,18 +55,34 @@ fn add_bytes(
     }
 }
 
-// The text of a name's value.
-#[tactic(auto, unfolding(gn_meaning::specs::Words::text_added_runs, gn_meaning::specs::Words::name_runs, gn_scopes::specs::Environment::after_read))]
-fn add_name(
+// The text of a value.
+#[tactic(auto, unfolding(gn_meaning::specs::Words::text_added_runs))]
+fn add_value(
+    alloc: Global,
+    value: &Value,
+    quote: Position,
+    env: &Env,
+    text: &mut Text,
+) -> Result<(), StepEnd>
+    ensures { (out : Effects) → IsStep (λ _. text.new) result env.now out (text_added_runs text.old (text_of false (val_of value.now)) quote env.now out) }
+{
+    match append_value(alloc, value, text) {
+        Ok(()) => Ok(()),
+        Err(error) => Err(refused(alloc, env, error, quote)),
+    }
+}
+
+// The text of a variable's value.
+#[tactic(auto, unfolding(gn_meaning::specs::Words::text_added_runs, gn_scopes::specs::Environment::after_read))]
+fn add_variable(
     alloc: Global,
     name: &Text,
     position: Position,
     quote: Position,
     env: &mut Env,
     text: &mut Text,
-) -> Result<(), EvalEnd>
-    ensures runs { (out : Effects) → IsRun (λ _. text.new) result env.new out (then_do (text_runs (name_runs name.now position env.old out)) (λ more env1 out1. text_added_runs text.old more quote env1 out1)) }
-    ensures levels { levels env.new ≡ levels env.old }
+) -> Result<(), StepEnd>
+    ensures runs { (out : Effects) → IsStep (λ _. text.new) result env.new out (then_do (text_runs (value_or_undefined (value_of name.now env.old) name.now position env.old out)) (λ more env1 out1. text_added_runs text.old more quote env1 out1)) }
 {
     match env.look(name) {
         Some(value) => match append_value(alloc, value, text) {
@@ -77,9 +93,29 @@ fn add_name(
     }
 }
 
-// The text of an element, whose faults stand at one position.
-#[tactic(auto, unfolding(gn_meaning::specs::Words::text_added_runs, gn_meaning::specs::Words::element_runs, gn_scopes::specs::Environment::after_read))]
-fn add_element(
+// The text of a name's value.
+#[tactic(auto, unfolding(gn_meaning::specs::Words::name_runs))]
+fn add_name(
+    alloc: Global,
+    name: &Text,
+    position: Position,
+    quote: Position,
+    env: &mut Env,
+    text: &mut Text,
+) -> Result<(), StepEnd>
+    ensures runs { (out : Effects) → IsStep (λ _. text.new) result env.new out (then_do (text_runs (name_runs name.now position env.old out)) (λ more env1 out1. text_added_runs text.old more quote env1 out1)) }
+{
+    if env.is_invoker(name) {
+        let value = read_invoker(alloc, position, env)?;
+        add_value(alloc, &value, quote, env, text)
+    } else {
+        add_variable(alloc, name, position, quote, env, text)
+    }
+}
+
+// The text of an element of a variable's value, whose faults stand at one position.
+#[tactic(auto, unfolding(gn_meaning::specs::Words::text_added_runs, gn_scopes::specs::Environment::after_read))]
+fn add_variable_element(
     alloc: Global,
     base: &Text,
     at: &Value,
@@ -87,9 +123,8 @@ fn add_element(
     quote: Position,
     env: &mut Env,
     text: &mut Text,
-) -> Result<(), EvalEnd>
-    ensures runs { (out : Effects) → IsRun (λ _. text.new) result env.new out (then_do (text_runs (element_runs base.now position (val_of at.now) position env.old out)) (λ more env1 out1. text_added_runs text.old more quote env1 out1)) }
-    ensures levels { levels env.new ≡ levels env.old }
+) -> Result<(), StepEnd>
+    ensures runs { (out : Effects) → IsStep (λ _. text.new) result env.new out (then_do (text_runs (element_of_base (value_of base.now env.old) base.now position (val_of at.now) position env.old out)) (λ more env1 out1. text_added_runs text.old more quote env1 out1)) }
 {
     match env.look(base) {
         Some(value) => match index(value, at) {
@@ -103,15 +138,35 @@ fn add_element(
     }
 }
 
+// The text of an element, whose faults stand at one position.
+#[tactic(auto, unfolding(gn_meaning::specs::Words::element_runs))]
+fn add_element(
+    alloc: Global,
+    base: &Text,
+    at: &Value,
+    position: Position,
+    quote: Position,
+    env: &mut Env,
+    text: &mut Text,
+) -> Result<(), StepEnd>
+    ensures runs { (out : Effects) → IsStep (λ _. text.new) result env.new out (then_do (text_runs (element_runs base.now position (val_of at.now) position env.old out)) (λ more env1 out1. text_added_runs text.old more quote env1 out1)) }
+{
+    if env.is_invoker(base) {
+        let value = read_invoker_element(alloc, at, position, env)?;
+        add_value(alloc, &value, quote, env, text)
+    } else {
+        add_variable_element(alloc, base, at, position, quote, env, text)
+    }
+}
+
 // The value of what stands between the square brackets of an expansion.
 fn read_subscript(
     alloc: Global,
     subscript: &Subscript,
     position: Position,
     env: &mut Env,
-) -> Result<Value, EvalEnd>
-    ensures runs { (out : Effects) → IsRun val_of result env.new out (subscript_runs subscript.now position env.old out) }
-    ensures levels { levels env.new ≡ levels env.old }
+) -> Result<Value, StepEnd>
+    ensures runs { (out : Effects) → IsStep val_of result env.new out (subscript_runs subscript.now position env.old out) }
 {
     match subscript {
         Subscript::Name(name) => read_name(alloc, name, position, env),
@@ -127,9 +182,8 @@ fn add_piece(
     quote: Position,
     env: &mut Env,
     text: &mut Text,
-) -> Result<(), EvalEnd>
-    ensures runs { (out : Effects) → IsRun (λ _. text.new) result env.new out (then_do (piece_runs piece.now env.old out) (λ more env1 out1. text_added_runs text.old more quote env1 out1)) }
-    ensures levels { levels env.new ≡ levels env.old }
+) -> Result<(), StepEnd>
+    ensures runs { (out : Effects) → IsStep (λ _. text.new) result env.new out (then_do (piece_runs piece.now env.old out) (λ more env1 out1. text_added_runs text.old more quote env1 out1)) }
 {
     match piece {
         Piece::Bytes(bytes) => add_bytes(alloc, bytes, quote, env, text),
@@ -160,9 +214,8 @@ pub(crate) fn expand(
     pieces: &[Piece],
     quote: Position,
     env: &mut Env,
-) -> Result<Text, EvalEnd>
-    ensures runs { (out : Effects) → IsRun (λ t. t) result env.new out (pieces_run pieces.now [] quote env.old out) }
-    ensures levels { levels env.new ≡ levels env.old }
+) -> Result<Text, StepEnd>
+    ensures runs { (out : Effects) → IsStep (λ t. t) result env.new out (pieces_run pieces.now [] quote env.old out) }
 {
     let mut text = Text::new(alloc);
     for piece in pieces {

@@ -6,7 +6,7 @@ use Rattle.gn_items.specs.declared.item.ItemKind.{ItemKind}
 use Rattle.gn_items.specs.declared.item.ItemKind.TheVariants.{Group}
 use Rattle.gn_scopes.specs.Environment.{Environment, value_of, after_read}
 use Rattle.gn_meaning.specs.Items.{defined, item_here, deps_name}
-use Rattle.gn_eval.proofs.tests.GroupsDefiner.define.Goals as goal
+use Rattle.gn_eval.proofs.tests.FilesDefiner.define.Goals as goal
 
 -- a group without `deps`
 group_made : (kind : ItemKind) (name : List ℕ) (position : Position) (env : Environment) → is_name name ≡ true → value_of deps_name env ≡ None → defined kind name position env ≡ Ok (item_here env.setting kind name position, after_read deps_name env)
