@@ -1,0 +1,11 @@
+use Rattle.gn_unit.proofs.ExecutionTrees.{import_meaning_tree, load_execution_tree, absent_import}
+use Rattle.gn_unit.proofs.laws.executions_are_trees.Goals as goal
+
+pub returns-clause-imports : goal.returns-clause-imports
+returns-clause-imports c = import_meaning_tree
+
+pub returns-clause-loads : goal.returns-clause-loads
+returns-clause-loads c = load_execution_tree
+
+pub returns-clause-absent : goal.returns-clause-absent
+returns-clause-absent c = absent_import

@@ -1,0 +1,87 @@
+// The faults of a file that are found before it runs.
+
+ghost use Rattle.std.specs.Prelude.{◌≡◌, ◌≢◌, ◌≤◌, [], Some, length, IfOk};
+ghost use Rattle.gn_syntax.specs.Position.{position_of};
+ghost use Rattle.gn_items.specs.declared.file_kind.FileKind.{FileKind as Kind};
+ghost use Rattle.gn_unit.specs.Faults.{whole_file_fault, syntax_fault};
+ghost use Rattle.gn_unit.specs.Units.{setting_of};
+
+use gn_items::{Code, Fault, Stage};
+use gn_paths::{Path, Place, Text, Texts};
+use gn_syntax::{SyntaxError, place_of};
+use gn_tokens::TokenError;
+use gn_tree::Position;
+use std::alloc::{AllocError, Global};
+
+// A fault of the file at a path.
+fn fault(
+    alloc: Global,
+    path: &Path,
+    code: Code,
+    position: Position,
+    detail: Texts,
+) -> Result<Fault, AllocError>
+    ensures { IfOk result (λ f. f ≡ record {
+      stage = Stage.Loading;
+      place = Some (record { file = path.now; line = position.line; column = position.column });
+      toolchain = [];
+      code = code;
+      detail = detail;
+    }) }
+{
+    let file = path.as_text().copy(alloc)?;
+    Ok(Fault {
+        stage: Stage::Loading,
+        place: Some(Place {
+            file,
+            line: position.line,
+            column: position.column,
+        }),
+        toolchain: Text::new(alloc),
+        code,
+        detail,
+    })
+}
+
+/// A fault of the whole file at a path, which stands at its beginning and shows its path.
+pub(crate) fn whole_file_fault(alloc: Global, path: &Path, code: Code) -> Result<Fault, AllocError>
+    ensures { IfOk result (λ f. (kind : Kind) → f ≡ whole_file_fault (setting_of kind path.now) code) }
+{
+    let mut detail = Texts::new(alloc);
+    detail.push(path.as_text().copy(alloc)?)?;
+    let beginning = Position { line: 1, column: 1 };
+    fault(alloc, path, code, beginning, detail)
+}
+
+/// The fault of a syntax error of the bytes of the file at a path, or want of memory.
+pub(crate) fn syntax_fault(
+    alloc: Global,
+    path: &Path,
+    bytes: &[u8],
+    error: SyntaxError,
+) -> Result<Fault, AllocError>
+    requires { length bytes.now ≤ 16777216 }
+    ensures { IfOk result (λ f. (error ≢ SyntaxError.Memory)
+        × ((kind : Kind) → f ≡ syntax_fault (setting_of kind path.now) bytes.now error)) }
+{
+    let (code, offset) = match error {
+        SyntaxError::Token(TokenError::BadByte(offset)) => (Code::BadByte, offset),
+        SyntaxError::Token(TokenError::BadNumber(offset)) => (Code::BadNumber, offset),
+        SyntaxError::Token(TokenError::OpenString(offset)) => (Code::OpenString, offset),
+        SyntaxError::Token(TokenError::BadDollar(offset)) => (Code::BadDollar, offset),
+        SyntaxError::Unexpected(offset) => (Code::Unexpected, offset),
+        SyntaxError::TooDeep(offset) => (Code::TooDeep, offset),
+        SyntaxError::Memory => return Err(AllocError),
+    };
+    let position = position_of(bytes, offset);
+    fault(alloc, path, code, position, Texts::new(alloc))
+}
+
+// The line and column of an offset. One behind the end of the file counts as the end.
+fn position_of(bytes: &[u8], offset: usize) -> Position
+    requires { length bytes.now ≤ 16777216 }
+    ensures { result ≡ position_of bytes.now offset }
+{
+    let (line, column) = place_of(bytes, offset.min(bytes.len()));
+    Position { line, column }
+}

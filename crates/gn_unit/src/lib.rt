@@ -1,0 +1,15 @@
+//! Units: the execution of a whole file, by the name of what is asked for.
+#![tactic(auto)]
+
+mod evaluation;
+mod execution;
+mod faults;
+mod laws;
+mod unit;
+
+pub use evaluation::evaluate;
+pub use laws::executions_are_trees;
+pub use unit::{EvalStop, Unit};
+
+#[cfg(test)]
+mod tests;
