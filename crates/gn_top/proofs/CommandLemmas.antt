@@ -1,28 +1,36 @@
--- The only command so far lists the labels of the build file.
-use Rattle.std.proofs.Common.{◌≡◌, [], ◌∷◌, refl, ap, ◌∙◌, true≢false}
-use Rattle.std.specs.Prelude.{Option, None, Some, is_some, Ok, Err}
+-- The only command so far lists the labels of a build.
+use Rattle.std.proofs.Common.{◌≡◌, refl, ◌∙◌, ap, arith, true≢false}
+use Rattle.std.specs.Prelude.{Option, None, Some, Result, Ok, Err, is_some}
+use Rattle.gn_outside.specs.Tree.{Tree}
+use Rattle.gn_items.specs.declared.code.Code.{Code}
+use Rattle.gn_items.specs.declared.code.Code.TheVariants.{TooLarge}
+use Rattle.gn_items.specs.declared.fault.Fault.{Fault}
+use Rattle.gn_imports.specs.Asked.{contents_asked}
 use Rattle.gn_top.specs.Words.{Command}
-use Rattle.gn_outside.specs.Tree.{Tree, Answer, Bytes, Absent, TooBig, read_of}
 use Rattle.gn_top.specs.declared.words.Command.{Command as Parsed}
 use Rattle.gn_top.specs.declared.words.Command.TheVariants.{Ls as ParsedLs}
 use Rattle.gn_top.specs.Commands.{command_view}
-use Rattle.gn_top.specs.Said.{command_said, command_asked, file_said, loaded_said, Exactly}
-use Rattle.gn_top.specs.Loading.{file_loaded}
-use Rattle.gn_top.specs.Texts.{build_file}
+use Rattle.gn_top.specs.Loading.{Build, loaded, questions}
+use Rattle.gn_top.specs.Said.{command_said, command_asked, loaded_said, units_before}
+use Rattle.gn_top.specs.Run.{IsCount}
 
-pub command_said-view : (command : Parsed) (tree : Tree) → command_said (Some (command_view command)) tree ≡ file_said (read_of tree build_file)
+pub command_said-view : (command : Parsed) (tree : Tree) → command_said (Some (command_view command)) tree ≡ loaded_said (loaded tree)
 command_said-view (ParsedLs name) tree = refl
 
-pub command_asked-view : (command : Parsed) → command_asked (Some (command_view command)) ≡ build_file ∷ []
-command_asked-view (ParsedLs name) = refl
+pub command_asked-view : (command : Parsed) (tree : Tree) → command_asked (Some (command_view command)) tree ≡ contents_asked (questions tree)
+command_asked-view (ParsedLs name) tree = refl
 
-one_unit : (found : Answer) → (file_said found).units ≡ Exactly 1
-one_unit Absent = refl
-one_unit TooBig = refl
-one_unit (Bytes bytes) = elim (file_loaded bytes) as (λ loaded. (loaded_said loaded).units ≡ Exactly 1) [ Ok effects ↦ refl | Err fault ↦ refl ]
+-- a fault comes after one build file at most
+pub one_before : (code : Code) → IsCount 1 (units_before code)
+one_before TooLarge = omega arith
+one_before _ = refl
 
-pub units-view : (command : Parsed) (tree : Tree) → (command_said (Some (command_view command)) tree).units ≡ Exactly 1
-units-view (ParsedLs name) tree = one_unit (read_of tree build_file)
+one_unit : (loaded : Result Build Fault) → IsCount 1 (loaded_said loaded).units
+one_unit (Ok build) = refl
+one_unit (Err fault) = one_before fault.code
+
+pub units-view : (command : Parsed) (tree : Tree) → IsCount 1 (command_said (Some (command_view command)) tree).units
+units-view (ParsedLs name) tree = one_unit (loaded tree)
 
 -- words that are a command have a form
 pub has_form : (command : Command) (found : Option Command) → Some command ≡ found → found ≡ None → ⊥

@@ -1,15 +1,12 @@
 -- What the end of a group's block defines, case by case.
-use Rattle.std.proofs.Common.{◌≡◌, ℕ, Bool, true, false, cond, List, [], ◌∷◌, refl, sym, ap, ◌∙◌}
-use Rattle.std.specs.Prelude.{Option, None, Some, Result, Ok, Err, if◌then◌else◌, map}
+use Rattle.std.proofs.Common.{◌≡◌, ℕ, true, false, List, [], ◌∷◌, refl, sym, ap, ◌∙◌}
+use Rattle.std.specs.Prelude.{Some, Ok, Err}
 use Rattle.std.specs.List.{list_all}
 use Rattle.gn_tree.specs.declared.position.Position.{Position}
-use Rattle.gn_values.specs.Val.{Val, Vals, vlist, vals_of, list_of}
+use Rattle.gn_values.specs.Val.{Val, vlist, vals_of, list_of}
 use Rattle.gn_labels.specs.Names.{is_name}
 use Rattle.gn_items.specs.declared.code.Code.TheVariants as code
-use Rattle.gn_items.specs.declared.fault.Fault.{Fault}
-use Rattle.gn_items.specs.declared.item.Item.{Item}
 use Rattle.gn_items.specs.declared.item.ItemKind.TheVariants.{Group}
-use Rattle.gn_scopes.specs.Layers.{VariableState}
 use Rattle.gn_scopes.specs.Environment.{Environment, value_of, after_read}
 use Rattle.gn_scopes.specs.Faults.{fault_in}
 use Rattle.gn_meaning.specs.Items.{defined, item_here, may_be_strings, is_string, deps_name}

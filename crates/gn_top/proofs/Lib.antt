@@ -1,5 +1,13 @@
 pub mod CommandLemmas
 pub mod DefinedLemmas
 pub mod OrderLemmas
-pub mod LoadingLemmas
 pub mod RunLemmas
+pub mod NameLemmas
+pub mod StoreLemmas
+pub mod ProjectLemmas
+pub mod LoadingLemmas
+pub mod EndingLemmas
+pub mod ReadLemmas
+pub mod LibraryLemmas
+pub mod StepLemmas
+pub mod AnswerLemmas

@@ -1,88 +1,70 @@
--- What the build file of the source root means: its items and the lines that it prints, or its first fault.
-use Rattle.std.specs.Prelude.{ℕ, true, List, [], ◌∷◌, Option, Some, None, Result, Ok, Err, codes}
-use Rattle.gn_paths.specs.declared.place.Place.{Place}
-use Rattle.gn_tokens.specs.declared.token.TokenError.TheVariants.{BadByte, BadNumber, OpenString, BadDollar}
-use Rattle.gn_tree.specs.declared.position.Position.{Position}
-use Rattle.gn_tree.specs.Tree.{BlockTree}
-use Rattle.gn_syntax.specs.declared.error.SyntaxError.{SyntaxError}
-use Rattle.gn_syntax.specs.declared.error.SyntaxError.TheVariants.{Token, Unexpected, TooDeep, Memory}
-use Rattle.gn_syntax.specs.Position.{position_of}
-use Rattle.gn_items.specs.declared.code.Code.{Code}
+-- What the build file of the source root means in a tree: what it and its imports leave, or its error.
+use Rattle.std.specs.Prelude.{ℕ, List, [], map, nat_lt, if◌then◌else◌, length, None, Result, Ok, Err, codes}
+use Rattle.std.specs.FinMap.{keys}
+use Rattle.gn_outside.specs.Tree.{Tree, Answer, Bytes, Absent, TooBig, read_of}
 use Rattle.gn_items.specs.declared.code.Code.TheVariants as code
 use Rattle.gn_items.specs.declared.fault.Fault.{Fault}
 use Rattle.gn_items.specs.declared.stage.Stage.TheVariants.{Loading}
 use Rattle.gn_items.specs.Effects.{Effects, no_effects}
-use Rattle.gn_scopes.specs.Environment.{Environment, new_environment}
-use Rattle.gn_scopes.specs.Faults.{fault_in}
-use Rattle.gn_meaning.specs.Runs.{Question, content_of, import_of, Answers, End, ended, wrong, spoiled, needs}
-use Rattle.gn_meaning.specs.Meaning.{file_runs}
-use Rattle.gn_top.specs.Texts.{build_file}
-use Rattle.gn_top.specs.Reading.{reading}
+use Rattle.gn_runs.specs.Runs.{Question, Content, has_bytes, is_absent, is_too_big, End, ended, wrong, spoiled, needs, Run}
+use Rattle.gn_imports.specs.Rounds.{Project, final}
+use Rattle.gn_imports.specs.Causes.{cause}
+use Rattle.gn_imports.specs.Asked.{all_asked, contents_asked, imports_asked, in_path_order}
+use Rattle.gn_meaning.specs.Steps.{Left}
+use Rattle.gn_unit.specs.Units.{import_execution, import_meaning, load_execution}
 
--- where the run of the build file begins: in the directory of the source root, under the default toolchain, in one checked scope without names
-abbrev pub build_environment : Environment
-build_environment = new_environment Loading [] build_file (codes "//") true []
+-- what a read answers, as an answer to an evaluation
+abbrev pub content_in : Answer → Content
+content_in (Bytes bytes) = has_bytes bytes
+content_in Absent = is_absent
+content_in TooBig = is_too_big
 
--- a fault of the build file
-abbrev pub build_fault : Position → Code → List (List ℕ) → Fault
-build_fault position code detail = fault_in build_environment.setting position code detail
+-- the files of a tree and their executions
+abbrev pub project_of : Tree → Project
+project_of tree = record { content = λ path. content_in (read_of tree path); paths = keys tree; execute = import_meaning }
 
--- line 1, column 1
-abbrev pub beginning : Position
-beginning = record { line = 1; column = 1 }
+-- the run of the build file of the source root, over all answers
+unfoldable pub build_run : Tree → Run (Left (Unit {0}))
+build_run tree = load_execution (codes "//") (final (project_of tree))
 
--- the code of a syntax error; of want of memory nothing is asked
-abbrev pub syntax_code : SyntaxError → Code
-syntax_code (Token (BadByte offset)) = code.BadByte
-syntax_code (Token (BadNumber offset)) = code.BadNumber
-syntax_code (Token (OpenString offset)) = code.OpenString
-syntax_code (Token (BadDollar offset)) = code.BadDollar
-syntax_code (Unexpected offset) = code.Unexpected
-syntax_code (TooDeep offset) = code.TooDeep
-syntax_code Memory = code.TooLarge
+-- all that it asks, directly or through imports
+unfoldable pub questions : Tree → List Question
+questions tree = all_asked (project_of tree) (build_run tree).asked
 
--- the offset at which a syntax error stands
-abbrev pub syntax_offset : SyntaxError → ℕ
-syntax_offset (Token (BadByte offset)) = offset
-syntax_offset (Token (BadNumber offset)) = offset
-syntax_offset (Token (OpenString offset)) = offset
-syntax_offset (Token (BadDollar offset)) = offset
-syntax_offset (Unexpected offset) = offset
-syntax_offset (TooDeep offset) = offset
-syntax_offset Memory = 0
+-- no build asks for more paths
+abbrev pub max_paths : ℕ
+max_paths = 2097152
 
--- a syntax error of these bytes as a fault
-abbrev pub syntax_fault : List ℕ → SyntaxError → Fault
-syntax_fault bytes error = build_fault (position_of bytes (syntax_offset error)) (syntax_code error) []
+-- the error of a build that is larger than a limit
+abbrev pub too_large : Fault
+too_large = record { stage = Loading; place = None; toolchain = []; code = code.TooLarge; detail = [] }
 
--- nothing is known while the build file runs
-abbrev pub no_answers : Answers
-no_answers question = None
+-- what the execution of an import leaves beside its variables
+abbrev pub effects_of : {A : Type 0} → End (Left A) → Effects
+effects_of (ended l) = l.effects
+effects_of (wrong fault) = no_effects
+effects_of (spoiled path place) = no_effects
+effects_of (needs question place) = no_effects
 
--- the file that a question asks for
-abbrev pub file_asked : Question → List ℕ
-file_asked (content_of path) = path
-file_asked (import_of path) = path
+abbrev pub import_effects : Tree → List ℕ → Effects
+import_effects tree path = effects_of (import_execution path (final (project_of tree))).end
 
--- a file that isn't known isn't there. Nothing in a build file asks for one yet, so no run ends like this
-abbrev pub unknown_file : Question → Place → Fault
-unknown_file question place = record { stage = Loading; place = Some place; toolchain = []; code = code.NoFile; detail = file_asked question ∷ [] }
+-- what a build leaves: what each import of it leaves, in the order of their paths, and then the build file
+pub record Build : Type 0 where
+  pub imports : List Effects
+  pub file : Effects
 
--- what a run leaves, or the fault with which it ends
-abbrev pub run_end : End (Unit {0}) → Result Effects Fault
-run_end (ended value env effects) = Ok effects
-run_end (wrong fault) = Err fault
-run_end (spoiled question place) = Err (unknown_file question place)
-run_end (needs question place) = Err (unknown_file question place)
+abbrev pub imports_left : Tree → List Effects
+imports_left tree = map (import_effects tree) (in_path_order (imports_asked (questions tree)))
 
--- what the run of a tree leaves, or its first fault
-unfoldable pub tree_loaded : BlockTree → Result Effects Fault
-tree_loaded tree = run_end (file_runs no_answers tree build_environment no_effects).end
+-- what a run leaves, or its error: its own fault, or that to which the import leads that spoils it. All answers are known, so no run needs one
+abbrev pub run_end : Tree → End (Left (Unit {0})) → Result Build Fault
+run_end tree (ended l) = Ok (record { imports = imports_left tree; file = l.effects })
+run_end tree (wrong fault) = Err fault
+run_end tree (spoiled path place) = Err (cause (project_of tree) path)
+run_end tree (needs question place) = Err too_large
 
--- what a build file of these bytes leaves, or its first fault: one of its syntax, before anything is run, or one of its run
-abbrev pub reading_loaded : List ℕ → Result BlockTree SyntaxError → Result Effects Fault
-reading_loaded bytes (Ok tree) = tree_loaded tree
-reading_loaded bytes (Err error) = Err (syntax_fault bytes error)
-
-unfoldable pub file_loaded : List ℕ → Result Effects Fault
-file_loaded bytes = reading_loaded bytes (reading bytes)
+-- what a build leaves, or its error: that it is larger than a limit stands before all others
+unfoldable pub loaded : Tree → Result Build Fault
+loaded tree =
+    if nat_lt max_paths (length (in_path_order (contents_asked (questions tree)))) then Err too_large else run_end tree (build_run tree).end

@@ -1,18 +1,20 @@
 -- The sequential meaning of a command line over a tree.
-use Rattle.std.specs.Prelude.{ℕ, List, [], ◌∷◌, ◌++◌, Option, None, Some, Result, Ok, Err, map, string_bytes}
+use Rattle.std.specs.Prelude.{ℕ, List, [], ◌++◌, Option, None, Some, Result, Ok, Err, map, string_bytes}
 use Rattle.std.specs.List.{flat_map}
 use Rattle.std.specs.declared.string.String.{String}
 use Rattle.std.specs.declared.alloc.Global.{Global}
-use Rattle.gn_outside.specs.Tree.{Tree, Answer, Bytes, Absent, TooBig, read_of}
+use Rattle.gn_outside.specs.Tree.{Tree}
 use Rattle.gn_outside.specs.States.{PutFile}
-use Rattle.gn_items.specs.declared.code.Code.TheVariants.{NoFile, FileTooBig}
+use Rattle.gn_items.specs.declared.code.Code.{Code}
+use Rattle.gn_items.specs.declared.code.Code.TheVariants.{TooLarge}
 use Rattle.gn_items.specs.declared.fault.Fault.{Fault}
 use Rattle.gn_items.specs.Effects.{Effects}
 use Rattle.gn_items.specs.Printed.{printed}
 use Rattle.gn_top.specs.Exported.{Exported}
 use Rattle.gn_top.specs.Words.{Command, Ls, command_of}
-use Rattle.gn_top.specs.Texts.{usage_line, build_file}
-use Rattle.gn_top.specs.Loading.{build_fault, beginning, file_loaded}
+use Rattle.gn_top.specs.Texts.{usage_line}
+use Rattle.gn_imports.specs.Asked.{contents_asked}
+use Rattle.gn_top.specs.Loading.{Build, loaded, questions}
 use Rattle.gn_top.specs.Labels.{listing}
 use Rattle.gn_top.specs.Hosts.{HostTexts}
 
@@ -36,43 +38,46 @@ texts words = map string_bytes words
 abbrev pub usage_said : Said
 usage_said = record { status = 2; text = usage_line; files = []; units = Exactly 0 }
 
--- the line of a fault that was found while the build was loaded
-abbrev pub fault_said : Fault → Said
-fault_said fault = record { status = 1; text = printed fault; files = []; units = Exactly 1 }
+-- how many build files are loaded before this error: of one that is larger than a limit perhaps none
+abbrev pub units_before : Code → UnitCount
+units_before TooLarge = AtMost 1
+units_before _ = Exactly 1
 
--- the lines printed, in order, then the labels of the items in label order, one a line
-abbrev pub answer_text : Effects → List ℕ
-answer_text effects = flat_map (λ text. text) effects.prints ++ listing effects.items
+-- the line of an error that was found while the build was loaded
+abbrev pub fault_said : Fault → Said
+fault_said fault = record { status = 1; text = printed fault; files = []; units = units_before fault.code }
+
+-- lines, one behind the other
+abbrev pub lines : Effects → List ℕ
+lines effects = flat_map (λ text. text) effects.prints
+
+-- the lines printed by the imports, in the order of their paths, then those of the build file, then the labels of the items in label order, one a line
+abbrev pub answer_text : Build → List ℕ
+answer_text build = flat_map lines build.imports ++ (lines build.file ++ listing build.file.items)
 
 -- the answer of a build that was loaded
-abbrev pub answer_said : Effects → Said
-answer_said effects = record { status = 0; text = answer_text effects; files = []; units = Exactly 1 }
+abbrev pub answer_said : Build → Said
+answer_said build = record { status = 0; text = answer_text build; files = []; units = Exactly 1 }
 
--- what is said of what a build file leaves, or of its fault
-abbrev pub loaded_said : Result Effects Fault → Said
-loaded_said (Ok effects) = answer_said effects
+-- what is said of what a build leaves, or of its error
+abbrev pub loaded_said : Result Build Fault → Said
+loaded_said (Ok build) = answer_said build
 loaded_said (Err fault) = fault_said fault
-
--- what is said of what a read of the build file answers
-abbrev pub file_said : Answer → Said
-file_said Absent = fault_said (build_fault beginning NoFile (build_file ∷ []))
-file_said TooBig = fault_said (build_fault beginning FileTooBig (build_file ∷ []))
-file_said (Bytes bytes) = loaded_said (file_loaded bytes)
 
 -- what a command says over a tree
 abbrev pub command_said : Option Command → Tree → Said
 command_said None tree = usage_said
-command_said (Some (Ls name)) tree = file_said (read_of tree build_file)
+command_said (Some (Ls name)) tree = loaded_said (loaded tree)
 
 -- the meaning of words: what a run over this tree says and puts
 unfoldable pub said : List (List ℕ) → HostTexts → List Exported → Tree → Said
 said words host exporters tree = command_said (command_of words) tree
 
 -- the paths that a command reads
-abbrev pub command_asked : Option Command → List (List ℕ)
-command_asked None = []
-command_asked (Some (Ls name)) = build_file ∷ []
+abbrev pub command_asked : Option Command → Tree → List (List ℕ)
+command_asked None tree = []
+command_asked (Some (Ls name)) tree = contents_asked (questions tree)
 
 -- the paths that the meaning of words reads
 unfoldable pub asked : List (List ℕ) → HostTexts → List Exported → Tree → List (List ℕ)
-asked words host exporters tree = command_asked (command_of words)
+asked words host exporters tree = command_asked (command_of words) tree

@@ -1,57 +1,38 @@
 // What a run is to say.
-ghost use Rattle.std.specs.Prelude.{◌≡◌, ◌≤◌, [], ◌∷◌, ◌++◌, length, IfOk, OnOk, IsErrOf};
+ghost use Rattle.std.specs.Prelude.{◌≡◌, ◌≤◌, [], ◌∷◌, ◌++◌, map, IfOk, OnOk, Some};
 ghost use Rattle.std.specs.List.{flat_map};
-ghost use Rattle.gn_outside.specs.Tree.{Tree, read_of};
+ghost use Rattle.std.specs.Map.{values_of};
+ghost use Rattle.gn_outside.specs.Tree.{Tree};
 ghost use Rattle.gn_outside.specs.Lists.{AllDiffer, Each, EachPair, OneOf};
 ghost use Rattle.gn_outside.specs.Sources.{AllTell, AllTellReads, GoesOn, IsLeastFailure, joined_reads};
-ghost use Rattle.gn_top.specs.Texts.{build_file};
 ghost use Rattle.gn_top.specs.Words.{HasNoForm};
 ghost use Rattle.gn_top.specs.Hosts.{host_texts};
-ghost use Rattle.gn_top.specs.Loading.{beginning, build_fault, file_loaded};
-ghost use Rattle.gn_top.specs.Said.{said, asked, texts, fault_said, answer_said, loaded_said, file_said, Exactly};
-ghost use Rattle.gn_top.specs.Steps.{answered_said, AnswersUsage, CountsFault, TakesRead, ReadsLast};
+ghost use Rattle.gn_top.specs.Loading.{loaded};
+ghost use Rattle.gn_top.specs.Said.{said, asked, texts, lines, fault_said, answer_said, loaded_said};
+ghost use Rattle.gn_top.specs.Run.{IsCount};
+ghost use Rattle.gn_top.specs.Steps.{IsSaying, IfCannotRead, CountsFault, AnswersUsage};
+ghost use Rattle.gn_top.specs.Store.{effects_view};
+ghost use Rattle.gn_top.specs.Progress.{ReadsAsked, FailsAt, loaded_view};
 
 use crate::answered::{Answered, RunStop};
-use crate::faults::whole_file_fault;
 use crate::host::Host;
 use crate::labels::append_labels;
-use crate::loading::load_file;
-use crate::texts::{BUILD_FILE, USAGE};
+use crate::loading::{Loaded, load};
+use crate::store::{Kept, Store};
+use crate::texts::USAGE;
 use crate::words::{Command, read_words};
-use gn_eval::EvalEnd;
-use gn_items::{Code, Fault, Outcome};
-use gn_outside::{ReadStop, Source};
+use gn_items::{Fault, Outcome};
+use gn_outside::Source;
 use gn_paths::Text;
 use std::alloc::{AllocError, Global};
 
 // The line of a fault that was found while the build was loaded.
 fn fault_answer(alloc: Global, fault: &Fault) -> Result<Answered, AllocError>
-    ensures { IfOk result (λ a. answered_said a ≡ fault_said fault.now) }
+    ensures { IfOk result (λ a. IsSaying a (fault_said fault.now)) }
 {
     Ok(Answered {
         status: 1,
         text: fault.print(alloc)?.into_vec(),
-        units: 1,
-    })
-}
-
-// A fault of the whole build file.
-fn whole_file_answer(alloc: Global, code: Code) -> Result<Answered, AllocError>
-    ensures { IfOk result (λ a. answered_said a ≡ fault_said (build_fault beginning code (build_file ∷ []))) }
-{
-    fault_answer(alloc, &whole_file_fault(alloc, code)?)
-}
-
-// The lines printed, and the labels of the items.
-fn loaded_answer(alloc: Global, outcome: &Outcome) -> Result<Answered, AllocError>
-    ensures { IfOk result (λ a. answered_said a ≡ answer_said outcome.now) }
-{
-    let mut text = Vec::new(alloc);
-    append_lines(&mut text, outcome.prints())?;
-    append_labels(alloc, &mut text, outcome.items())?;
-    Ok(Answered {
-        status: 0,
-        text,
         units: 1,
     })
 }
@@ -66,35 +47,61 @@ fn append_lines(text: &mut Vec<u8>, lines: &[Text]) -> Result<(), AllocError>
     Ok(())
 }
 
-// The answer for the bytes of the build file.
-fn file_answer(alloc: Global, bytes: &[u8]) -> Result<Answered, AllocError>
-    requires { length bytes.now ≤ 16777216 }
-    ensures { IfOk result (λ a. answered_said a ≡ loaded_said (file_loaded bytes.now)) }
+// Puts the lines at the end that an import has printed.
+fn append_import(text: &mut Vec<u8>, kept: &Kept) -> Result<(), AllocError>
+    ensures { OnOk result (text.new.items ≡ text.old.items ++ lines (effects_view kept.now)) }
 {
-    match load_file(alloc, bytes) {
-        Ok(outcome) => loaded_answer(alloc, &outcome),
-        Err(EvalEnd::Wrong(fault)) => fault_answer(alloc, &fault),
-        Err(EvalEnd::Memory) => Err(AllocError),
+    match kept {
+        Kept::Usable(_, outcome) => append_lines(text, outcome.prints()),
+        Kept::Unusable(_) => Ok(()),
     }
 }
 
-// The answer for the build file of a source.
-fn read_build<S: Source>(alloc: Global, source: &mut S) -> Result<Answered, RunStop>
-    ensures meaning { IfOk result (λ a. (tree : Tree) → AllTell tree (S.state source.old ∷ []) →
-        answered_said a ≡ file_said (read_of tree build_file)) }
-    ensures range { IfOk result (λ a. a.status ≤ 1) }
-    ensures units { IfOk result (λ a. a.units ≡ 1) }
-    ensures faults { CountsFault (S.state source.old).faults (S.state source.new).faults result }
-    ensures reads { TakesRead build_file (S.state source.old) (S.state source.new) }
-    ensures failure { IsErrOf result RunStop.CannotRead → ReadsLast build_file (S.state source.old) (S.state source.new) }
+// Puts the lines at the end that the imports have printed, in the order of their paths.
+fn append_imports(text: &mut Vec<u8>, store: &Store) -> Result<(), AllocError>
+    ensures { OnOk result (text.new.items ≡ text.old.items ++ flat_map lines (map effects_view (values_of store.now.imports.entries))) }
 {
-    match source.read(alloc, BUILD_FILE) {
-        Ok(None) => Ok(whole_file_answer(alloc, Code::NoFile)?),
-        Ok(Some(bytes)) => Ok(file_answer(alloc, &bytes)?),
-        Err(ReadStop::TooBig(_)) => Ok(whole_file_answer(alloc, Code::FileTooBig)?),
-        Err(ReadStop::Failed) => Err(RunStop::CannotRead),
-        Err(ReadStop::Memory) => Err(RunStop::Memory),
+    for (_, kept) in &store.imports {
+        append_import(text, kept)?;
     }
+    Ok(())
+}
+
+// The lines printed, and the labels of the items.
+fn built_answer(alloc: Global, store: &Store, outcome: &Outcome) -> Result<Answered, AllocError>
+    ensures { IfOk result (λ a. IsSaying a (answer_said (record { imports = map effects_view (values_of store.now.imports.entries); file = outcome.now }))) }
+{
+    let mut text = Vec::new(alloc);
+    append_imports(&mut text, store)?;
+    append_lines(&mut text, outcome.prints())?;
+    append_labels(alloc, &mut text, outcome.items())?;
+    Ok(Answered {
+        status: 0,
+        text,
+        units: 1,
+    })
+}
+
+// The answer for what a build leaves, or for its fault.
+fn loaded_answer(alloc: Global, loaded: &Loaded) -> Result<Answered, AllocError>
+    ensures { IfOk result (λ a. IsSaying a (loaded_said (loaded_view loaded.now))) }
+{
+    match loaded {
+        Loaded::Built(store, outcome) => built_answer(alloc, store, outcome),
+        Loaded::Failed(fault) => fault_answer(alloc, fault),
+    }
+}
+
+// The answer for the build of a source.
+fn read_build<S: Source>(alloc: Global, source: &mut S) -> Result<Answered, RunStop>
+    ensures meaning { IfOk result (λ a. (tree : Tree) → (S.state source.old).tree ≡ Some tree → IsSaying a (loaded_said (loaded tree))) }
+    ensures range { IfOk result (λ a. a.status ≤ 1) }
+    ensures reads { ReadsAsked (S.state source.old) (S.state source.new) }
+    ensures faults { CountsFault (S.state source.old).faults (S.state source.new).faults result }
+    ensures failure { IfCannotRead result (λ path. FailsAt path (S.state source.old) (S.state source.new)) }
+{
+    let loaded = load(alloc, source)?;
+    Ok(loaded_answer(alloc, &loaded)?)
 }
 
 /// What these words say over the source's tree, or why nothing can be said.
@@ -105,14 +112,14 @@ pub fn answer<S: Source>(
     source: &mut S,
 ) -> Result<Answered, RunStop>
     ensures meaning { IfOk result (λ a. (tree : Tree) → AllTell tree (S.state source.old ∷ []) →
-        answered_said a ≡ said (texts words.now) (host_texts host.now) [] tree) }
+        IsSaying a (said (texts words.now) (host_texts host.now) [] tree)) }
     ensures range { IfOk result (λ a. a.status ≤ 2) }
     ensures usage { IfOk result (λ a. a.status ≡ 2 → HasNoForm (texts words.now) []) }
     ensures no_form { HasNoForm (texts words.now) [] → AnswersUsage (S.state source.old) (S.state source.new) result }
-    ensures failed_units { IsErrOf result RunStop.CannotRead → (tree : Tree) → (said (texts words.now) (host_texts host.now) [] tree).units ≡ Exactly 1 }
+    ensures failed_units { IfCannotRead result (λ path. (tree : Tree) → IsCount 1 (said (texts words.now) (host_texts host.now) [] tree).units) }
     ensures faults { CountsFault (S.state source.old).faults (S.state source.new).faults result }
-    ensures failure { IsErrOf result RunStop.CannotRead → AllTellReads (S.state source.old ∷ []) →
-        IsLeastFailure (S.state source.old ∷ []) (S.state source.new ∷ []) build_file }
+    ensures failure { IfCannotRead result (λ path. AllTellReads (S.state source.old ∷ []) →
+        IsLeastFailure (S.state source.old ∷ []) (S.state source.new ∷ []) path) }
     ensures reads_once { AllTellReads (S.state source.old ∷ []) →
         AllDiffer (joined_reads (S.state source.old ∷ []) (S.state source.new ∷ [])) }
     ensures reads_asked { (tree : Tree) → AllTell tree (S.state source.old ∷ []) → AllTellReads (S.state source.old ∷ []) →

@@ -1,4 +1,5 @@
 // What a run is to say, or why there is nothing to say.
+use gn_paths::Path;
 use std::alloc::AllocError;
 
 /// An answer, an error in the build or the usage line.
@@ -13,9 +14,10 @@ pub struct Answered {
 }
 
 /// Why there is nothing to say.
+#[derive(Drop)]
 pub enum RunStop {
-    /// The read of the build file has failed.
-    CannotRead,
+    /// The read of the file at this path has failed.
+    CannotRead(Path),
     /// Want of memory.
     Memory,
 }

@@ -3,12 +3,11 @@
 ghost use Rattle.std.specs.Prelude.{◌≡◌, [], ◌∷◌, IfOk, IfErr, Ok, Err, option_map};
 ghost use Rattle.std.specs.List.{list_all};
 ghost use Rattle.gn_values.specs.View.{val_of};
-ghost use Rattle.gn_scopes.specs.Environment.{levels};
 ghost use Rattle.gn_scopes.specs.Faults.{fault_in};
 ghost use Rattle.gn_meaning.specs.Items.{defined, item_here, may_be_strings, is_string, deps_name};
 ghost use Rattle.gn_eval.specs.Definitions.{IfWrong};
 
-use gn_eval::{DefineError, Definer};
+use gn_eval::DefineError;
 use gn_items::{Code, Fault, Item, ItemKind};
 use gn_labels::{Label, is_name};
 use gn_paths::{Place, Text, Texts};
@@ -17,31 +16,16 @@ use gn_tree::Position;
 use gn_values::Value;
 use std::alloc::{AllocError, Global};
 
-/// Defines the items of a build file, which are groups.
-#[derive(Drop)]
-pub struct Groups;
-
-impl Definer for Groups {
-    fn define(
-        &mut self,
-        alloc: Global,
-        kind: ItemKind,
-        name: &Text,
-        env: &mut Env,
-        position: Position,
-    ) -> Result<Item, DefineError> {
-        match kind {
-            ItemKind::Group => group(alloc, name, env, position),
-        }
-    }
-}
-
-// The group whose block has ended: its name has to be one of a label, and its `deps`, which are read, a list of strings
-// or without a value.
-fn group(alloc: Global, name: &Text, env: &mut Env, position: Position) -> Result<Item, DefineError>
+/// The group whose block has ended: its name has to be one of a label, and its `deps`, which are read, a list of strings or
+/// without a value. `Wrong` has the first fault, and comes exactly where there is one, but for want of memory.
+pub(crate) fn group(
+    alloc: Global,
+    name: &Text,
+    env: &mut Env,
+    position: Position,
+) -> Result<Item, DefineError>
     ensures ok { IfOk result (λ item. defined ItemKind.Group name.now position env.old ≡ Ok (item, env.new)) }
     ensures wrong { IfErr result (λ e. IfWrong e (λ fault. defined ItemKind.Group name.now position env.old ≡ Err fault)) }
-    ensures levels { levels env.new ≡ levels env.old }
 {
     if !is_name(name.as_bytes()) {
         let fault = env.fault(alloc, Code::BadLabel, position, Texts::new(alloc))?;

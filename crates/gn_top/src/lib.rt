@@ -3,16 +3,20 @@
 
 mod answer;
 mod answered;
-mod faults;
 mod groups;
 mod host;
 mod labels;
+mod library;
 mod loading;
 mod many;
 mod one;
+mod settling;
+mod starts;
+mod store;
 #[cfg(test)]
 mod tests;
 mod texts;
+mod waiting;
 mod words;
 
 pub use host::{Ended, Host, One};

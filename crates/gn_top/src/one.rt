@@ -1,5 +1,5 @@
 // The whole run over one source.
-ghost use Rattle.std.specs.Prelude.{◌≡◌, ◌<◌, ◌≤◌, [], ◌∷◌, string_bytes};
+ghost use Rattle.std.specs.Prelude.{◌≡◌, ◌<◌, ◌≤◌, [], ◌∷◌, IfOk, string_bytes};
 ghost use Rattle.gn_outside.specs.Tree.{Tree};
 ghost use Rattle.gn_outside.specs.Lists.{AllDiffer, Each, EachPair, OneOf};
 ghost use Rattle.gn_outside.specs.Sources.{AllTell, AllTellReads, GoesOn, joined_reads};
@@ -7,6 +7,7 @@ ghost use Rattle.gn_top.specs.Hosts.{IsRoot, host_texts};
 ghost use Rattle.gn_top.specs.Words.{HasNoForm};
 ghost use Rattle.gn_top.specs.Said.{said, asked, texts};
 ghost use Rattle.gn_top.specs.Run.{EndsAs, NoFault, EndsWithUsage, CannotRead, IsCutShort, LoadsUnits};
+ghost use Rattle.gn_top.specs.Texts.{cannot_read_line};
 ghost use Rattle.gn_top.specs.Steps.{SaysUnder};
 
 use crate::answer::answer;
@@ -14,7 +15,8 @@ use crate::answered::RunStop;
 use crate::host::{Host, One};
 use crate::texts::CANNOT_READ;
 use gn_outside::{Sink, SinkStop, Source};
-use std::alloc::Global;
+use gn_paths::Path;
+use std::alloc::{AllocError, Global};
 use std::thread::Threads;
 
 // Says a text under a status from 0 to 3, unless the sink fails or lacks memory. An empty text isn't said.
@@ -29,6 +31,26 @@ fn say_under<K: Sink>(sink: &mut K, text: &[u8], status: u8) -> u8
         Ok(()) => status,
         Err(SinkStop::Failed) => 4,
         Err(SinkStop::Memory) => 5,
+    }
+}
+
+// The line on the failed read of the file at a path.
+fn failure_line(alloc: Global, path: &Path) -> Result<Vec<u8>, AllocError>
+    ensures { IfOk result (λ line. line.items ≡ cannot_read_line path.now) }
+{
+    let mut line = CANNOT_READ.as_bytes().to_vec(alloc)?;
+    line.extend_from_slice(path.as_bytes())?;
+    line.push(b'\n')?;
+    Ok(line)
+}
+
+// Says the line on a failed read. Want of memory for it is that of the run.
+fn say_failure<K: Sink>(alloc: Global, sink: &mut K, path: &Path) -> u8
+    ensures { SaysUnder (K.state sink.old) (K.state sink.new) (cannot_read_line path.now) 3 result }
+{
+    match failure_line(alloc, path) {
+        Ok(line) => say_under(sink, &line, 3),
+        Err(_) => 5,
     }
 }
 
@@ -85,8 +107,8 @@ pub fn run_one<R: Threads + Sync, S: Source, K: Sink>(
             status: say_under(sink, &answered.text, answered.status),
             units: answered.units,
         },
-        Err(RunStop::CannotRead) => One {
-            status: say_under(sink, CANNOT_READ.as_bytes(), 3),
+        Err(RunStop::CannotRead(path)) => One {
+            status: say_failure(alloc, sink, &path),
             units: 1,
         },
         Err(RunStop::Memory) => One {

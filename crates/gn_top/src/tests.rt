@@ -30,13 +30,18 @@ fn words(alloc: Global, line: &str) -> Result<Vec<String>, AllocError> {
     Ok(words)
 }
 
-// A source over a tree with this build file, which fails at the calls of these numbers.
-fn source(alloc: Global, file: Option<&[u8]>, failing: Vec<u64>) -> Result<TreeSource, AllocError> {
+// A tree with this build file.
+fn tree_with(alloc: Global, file: Option<&[u8]>) -> Result<Tree, AllocError> {
     let mut tree = Tree::new(alloc);
     if let Some(bytes) = file {
         tree.put("//BUILD.gn", bytes)?;
     }
-    Ok(TreeSource::new(alloc, tree, failing))
+    Ok(tree)
+}
+
+// A source over a tree with this build file, which fails at the calls of these numbers.
+fn source(alloc: Global, file: Option<&[u8]>, failing: Vec<u64>) -> Result<TreeSource, AllocError> {
+    Ok(TreeSource::new(alloc, tree_with(alloc, file)?, failing))
 }
 
 // The status and the count of build files that a run ends with, and what it read, said and put.
@@ -54,9 +59,19 @@ fn run_over<R: Threads + Sync>(
     line: &str,
     file: Option<&[u8]>,
 ) -> Result<Run, AllocError> {
+    run_over_tree(rt, alloc, line, tree_with(alloc, file)?)
+}
+
+// A run over a tree.
+fn run_over_tree<R: Threads + Sync>(
+    rt: &R,
+    alloc: Global,
+    line: &str,
+    tree: Tree,
+) -> Result<Run, AllocError> {
     let host = host(alloc)?;
     let words = words(alloc, line)?;
-    let mut source = source(alloc, file, Vec::new(alloc))?;
+    let mut source = TreeSource::new(alloc, tree, Vec::new(alloc));
     let mut sink = TreeSink::new(alloc, Vec::new(alloc));
     let one = run_one(rt, alloc, &words, &host, &mut source, &mut sink);
     Ok(Run { one, source, sink })
@@ -309,5 +324,314 @@ fn sources_without_a_worker_are_not_read(rt: HostRuntime) -> Result<(), Fail> {
     assert_eq!(rt; ended.sources.len(), 3);
     assert!(rt; ended.sources[0].read_path(0) == Some("//BUILD.gn"));
     assert!(rt; ended.sources[1].read_path(0).is_none() && ended.sources[2].read_path(0).is_none());
+    Ok(())
+}
+
+// The files of a tree, and the status and the text of `ls out` over it.
+type Row = (&'static [(&'static str, &'static str)], u8, &'static str);
+
+const ROWS: [Row; 28] = [
+    // A name that begins with `_` isn't imported, and an equal value is no conflict.
+    (
+        &[
+            (
+                "//BUILD.gn",
+                "p = 1\nimport(\"//d.gni\")\nprint(p, defined(_q))\n",
+            ),
+            ("//d.gni", "p = 1\n_q = 2\n"),
+        ],
+        0,
+        "1 false\n",
+    ),
+    (
+        &[
+            ("//BUILD.gn", "import(\"//d.gni\")\nprint(_q)\n"),
+            ("//d.gni", "_q = 2\n"),
+        ],
+        1,
+        "ERROR at //BUILD.gn:2:7: Undefined identifier \"_q\".\n",
+    ),
+    // Conflicts with the importer, and of two imports.
+    (
+        &[
+            (
+                "//BUILD.gn",
+                "p = 2\nimport(\"//d.gni\")\nprint(p, defined(_q))\n",
+            ),
+            ("//d.gni", "p = 1\n_q = 2\n"),
+        ],
+        1,
+        "ERROR at //BUILD.gn:2:1: Value collision on import: \"p\".\n",
+    ),
+    (
+        &[
+            ("//BUILD.gn", "import(\"//a.gni\")\nimport(\"//b.gni\")\n"),
+            ("//a.gni", "x = 1\n"),
+            ("//b.gni", "x = 2\n"),
+        ],
+        1,
+        "ERROR at //BUILD.gn:2:1: Value collision on import: \"x\".\n",
+    ),
+    // What imports print comes in the order of their paths, and before what the build file prints.
+    (
+        &[
+            (
+                "//BUILD.gn",
+                "print(\"build\")\nimport(\"//z.gni\")\nimport(\"d/a.gni\")\n",
+            ),
+            ("//d/a.gni", "import(\"b.gni\")\nprint(\"a\")\n"),
+            ("//d/b.gni", "print(\"b\")\n"),
+            ("//z.gni", "print(\"z\")\n"),
+        ],
+        0,
+        "a\nb\nz\nbuild\n",
+    ),
+    // A file that two others import is run once.
+    (
+        &[
+            (
+                "//BUILD.gn",
+                "import(\"//b.gni\")\nimport(\"//a.gni\")\nprint(x)\n",
+            ),
+            ("//a.gni", "import(\"//c.gni\")\nprint(\"a\", x)\n"),
+            ("//b.gni", "import(\"//c.gni\")\nprint(\"b\", x)\n"),
+            ("//c.gni", "print(\"c\")\nx = 1\n"),
+        ],
+        0,
+        "a 1\nb 1\nc\n1\n",
+    ),
+    // An import cycle has its least place, from wherever it is entered.
+    (
+        &[
+            ("//BUILD.gn", "import(\"//y.gni\")\n"),
+            ("//x.gni", "import(\"//y.gni\")\n"),
+            ("//y.gni", "import(\"//x.gni\")\n"),
+        ],
+        1,
+        "ERROR at //x.gni:1:1: Import cycle.\n",
+    ),
+    (
+        &[
+            ("//BUILD.gn", "import(\"//x.gni\")\n"),
+            ("//x.gni", "import(\"//y.gni\")\n"),
+            ("//y.gni", "import(\"//x.gni\")\n"),
+        ],
+        1,
+        "ERROR at //x.gni:1:1: Import cycle.\n",
+    ),
+    (
+        &[
+            ("//BUILD.gn", "import(\"//a.gni\")\n"),
+            ("//a.gni", "import(\"//y.gni\")\n"),
+            ("//x.gni", "\nimport(\"//y.gni\")\n"),
+            ("//y.gni", "import(\"//x.gni\")\n"),
+        ],
+        1,
+        "ERROR at //x.gni:2:1: Import cycle.\n",
+    ),
+    (
+        &[
+            ("//BUILD.gn", "import(\"//x.gni\")\n"),
+            ("//x.gni", "import(\"//x.gni\")\n"),
+        ],
+        1,
+        "ERROR at //x.gni:1:1: Import cycle.\n",
+    ),
+    // A wrong file's own fault is told.
+    (
+        &[
+            ("//BUILD.gn", "import(\"//a.gni\")\nprint(nope)\n"),
+            ("//a.gni", "import(\"//b.gni\")\n"),
+            ("//b.gni", "print(\"b\")\nprint(nope)\n"),
+        ],
+        1,
+        "ERROR at //b.gni:2:7: Undefined identifier \"nope\".\n",
+    ),
+    (
+        &[
+            ("//BUILD.gn", "import(\"//d.gni\")\n"),
+            ("//d.gni", "group(\"g\") {\n}\n"),
+        ],
+        1,
+        "ERROR at //d.gni:1:1: \"group\" is not allowed here.\n",
+    ),
+    // A file that isn't there.
+    (
+        &[("//BUILD.gn", "import(\"//no.gni\")\n")],
+        1,
+        "ERROR at //BUILD.gn:1:8: No such file \"//no.gni\".\n",
+    ),
+    (
+        &[
+            ("//BUILD.gn", "import(\"//a.gni\")\n"),
+            ("//a.gni", "import(\"no.gni\")\n"),
+        ],
+        1,
+        "ERROR at //a.gni:1:8: No such file \"//no.gni\".\n",
+    ),
+    // Paths that are none.
+    (
+        &[("//BUILD.gn", "import(\"\")\n")],
+        1,
+        "ERROR at //BUILD.gn:1:8: Invalid path.\n",
+    ),
+    (
+        &[("//BUILD.gn", "import(\"../a.gni\")\n")],
+        1,
+        "ERROR at //BUILD.gn:1:8: Path is above the source root.\n",
+    ),
+    (
+        &[("//BUILD.gn", "import(\"/a.gni\")\n")],
+        1,
+        "ERROR at //BUILD.gn:1:8: Invalid path.\n",
+    ),
+    // How deep an import may stand.
+    (
+        &[
+            (
+                "//BUILD.gn",
+                "if (true) {\nif (true) {\nif (true) {\nif (true) {\nimport(\"//d.gni\")\n}\n}\n}\n}\n",
+            ),
+            ("//d.gni", ""),
+        ],
+        0,
+        "",
+    ),
+    (
+        &[
+            (
+                "//BUILD.gn",
+                "if (true) {\nif (true) {\nif (true) {\nif (true) {\nif (true) {\nimport(\"//d.gni\")\n}\n}\n}\n}\n}\n",
+            ),
+            ("//d.gni", ""),
+        ],
+        1,
+        "ERROR at //BUILD.gn:6:1: Evaluation is nested too deeply.\n",
+    ),
+    // Templates and forwarding.
+    (
+        &[(
+            "//BUILD.gn",
+            "template(\"w\") {\n  group(target_name) {\n    forward_variables_from(invoker, [ \"deps\" ])\n  }\n}\nw(\"x\") {\n  deps = [ \":y\" ]\n}\ngroup(\"y\") {\n}\n",
+        )],
+        0,
+        "//:x\n//:y\n",
+    ),
+    (
+        &[(
+            "//BUILD.gn",
+            "template(\"w\") {\n  group(target_name) {\n    forward_variables_from(invoker, [ \"deps\" ])\n  }\n}\nw(\"x\") {\n  deps = [ \":y\" ]\n  junk = 1\n}\ngroup(\"y\") {\n}\n",
+        )],
+        1,
+        "ERROR at //BUILD.gn:8:8: Assignment had no effect: \"junk\".\n",
+    ),
+    (
+        &[(
+            "//BUILD.gn",
+            "template(\"w\") {\n  group(target_name) {\n    deps = []\n    forward_variables_from(invoker, [ \"deps\" ])\n  }\n}\nw(\"x\") {\n  deps = [ \":y\" ]\n}\ngroup(\"y\") {\n}\n",
+        )],
+        1,
+        "ERROR at //BUILD.gn:4:5: \"deps\" is already set.\n",
+    ),
+    (
+        &[(
+            "//BUILD.gn",
+            "template(\"group\") {\n  target(\"group\", target_name) {\n    forward_variables_from(invoker, \"*\")\n  }\n}\ngroup(\"a\") {\n}\n",
+        )],
+        0,
+        "//:a\n",
+    ),
+    (
+        &[(
+            "//BUILD.gn",
+            "a = 1\ntemplate(\"t\") {\n  print(a, target_name, invoker.x)\n}\nt(\"n\") {\n  x = 2\n}\n",
+        )],
+        0,
+        "1 n 2\n",
+    ),
+    (
+        &[("//BUILD.gn", "template(\"t\") {\n}\ntemplate(\"t\") {\n}\n")],
+        1,
+        "ERROR at //BUILD.gn:3:1: \"t\" is already set.\n",
+    ),
+    (
+        &[
+            ("//BUILD.gn", "import(\"//d.gni\")\nw(\"x\") {\n}\n"),
+            ("//d.gni", "template(\"w\") {\n  print(target_name)\n}\n"),
+        ],
+        0,
+        "x\n",
+    ),
+    (
+        &[("//BUILD.gn", "target(\"nope\", \"a\") {\n}\n")],
+        1,
+        "ERROR at //BUILD.gn:1:1: Wrong arguments to \"target\".\n",
+    ),
+    (
+        &[(
+            "//BUILD.gn",
+            "a = 1\nb = 2\nnot_needed(\"*\", [ \"b\" ])\nnot_needed([ \"b\" ])\n",
+        )],
+        0,
+        "",
+    ),
+];
+
+// A tree of files.
+fn tree_of(alloc: Global, files: &[(&str, &str)]) -> Result<Tree, AllocError> {
+    let mut tree = Tree::new(alloc);
+    for (path, text) in files {
+        tree.put(path, text.as_bytes())?;
+    }
+    Ok(tree)
+}
+
+#[test]
+fn imports_and_templates_have_their_texts_and_faults(rt: HostRuntime) -> Result<(), Fail> {
+    let alloc = rt.alloc();
+    for (files, status, text) in ROWS {
+        let run = run_over_tree(&rt, alloc, "ls out", tree_of(alloc, files)?)?;
+        assert_eq!(rt; run.one.status, status, "at {text}");
+        assert!(rt; run.sink.said() == text.as_bytes(), "at {text}");
+        assert_eq!(rt; run.one.units, 1, "at {text}");
+    }
+    Ok(())
+}
+
+#[test]
+fn a_file_that_is_imported_twice_is_read_once(rt: HostRuntime) -> Result<(), Fail> {
+    let alloc = rt.alloc();
+    let tree = tree_of(
+        alloc,
+        &[
+            ("//BUILD.gn", "import(\"//b.gni\")\nimport(\"//a.gni\")\n"),
+            ("//a.gni", "import(\"//c.gni\")\n"),
+            ("//b.gni", "import(\"//c.gni\")\n"),
+            ("//c.gni", ""),
+        ],
+    )?;
+    let run = run_over_tree(&rt, alloc, "ls out", tree)?;
+    assert_eq!(rt; run.one.status, 0);
+    assert!(rt; run.source.read_path(0) == Some("//BUILD.gn"));
+    assert!(rt; run.source.read_path(1) == Some("//b.gni"));
+    assert!(rt; run.source.read_path(2) == Some("//c.gni"));
+    assert!(rt; run.source.read_path(3) == Some("//a.gni"));
+    assert!(rt; run.source.read_path(4).is_none());
+    Ok(())
+}
+
+#[test]
+fn a_cycle_of_150_imports_has_its_least_place(rt: HostRuntime) -> Result<(), Fail> {
+    let alloc = rt.alloc();
+    let mut tree = tree_with(alloc, Some(b"import(\"//177.gni\")\n"))?;
+    for n in 100..250 {
+        let next = if n == 249 { 100 } else { n + 1 };
+        let path = format!(in alloc; "//{n}.gni")?;
+        let text = format!(in alloc; "import(\"//{next}.gni\")\n")?;
+        tree.put(&path, text.as_bytes())?;
+    }
+    let run = run_over_tree(&rt, alloc, "ls out", tree)?;
+    assert_eq!(rt; run.one.status, 1);
+    assert!(rt; run.sink.said() == "ERROR at //100.gni:1:1: Import cycle.\n".as_bytes());
     Ok(())
 }

@@ -3,8 +3,5 @@
 /// The words have no form.
 pub const USAGE: &str = "usage: gn gen|ls|desc|refs|path|check|args|sample ...\n";
 
-/// The path of the build file of the source root.
-pub const BUILD_FILE: &str = "//BUILD.gn";
-
-/// The read of the build file has failed.
-pub const CANNOT_READ: &str = "gn: cannot read //BUILD.gn\n";
+/// What stands before the path of a file whose read has failed.
+pub const CANNOT_READ: &str = "gn: cannot read ";

@@ -14,10 +14,10 @@ pub returns-then-not-may_be_strings-clause-wrong : goal.returns-then-not-may_be_
 returns-then-not-may_be_strings-clause-wrong c =
     let good : is_name c.args.name.now ≡ true = cc (c.is_name.ensures, c.if-not-is_name.false) in
     let bad : may_be_strings (value_of c.in_ok-deps.deps c.args.env.now) ≡ false = cc (c.look.ensures.value, c.may_be_strings.ensures, c.if-not-may_be_strings.true) in
-    bad_deps _ _ _ _ _ good c.in_ok-deps.ensures c.look.follows.holds-at-none.0 bad ∙ ap Err (sym c.in_ok-fault-2.ensures)
+    bad_deps _ _ _ _ _ good c.in_ok-deps.ensures c.look.follows.holds-at-none bad ∙ ap Err (sym c.in_ok-fault-2.ensures)
 
 pub returns-clause-ok : goal.returns-clause-ok
 returns-clause-ok c =
     let good : is_name c.args.name.now ≡ true = cc (c.is_name.ensures, c.if-not-is_name.false) in
     let fine : may_be_strings (value_of c.in_ok-deps.deps c.args.env.now) ≡ true = cc (c.look.ensures.value, c.may_be_strings.ensures, c.if-not-may_be_strings.false) in
-    good_group _ _ _ _ _ good c.in_ok-deps.ensures c.look.follows.holds-at-none.0 fine ∙ (λ i. Ok (sym c.in_ok-item_here.ensures i, c.look.follows.lender-at-none))
+    good_group _ _ _ _ _ good c.in_ok-deps.ensures c.look.follows.holds-at-none fine ∙ (λ i. Ok (sym c.in_ok-item_here.ensures i, c.look.follows.lender-at-none))
