@@ -53,6 +53,11 @@ printf 'print("before")\nx = [\n' >"$folder/unfinished/BUILD.gn"
 printf 'print("\377$0xFE")\n' >"$folder/bytes/BUILD.gn"
 printf 'print("one")\r\ngroup("g") {\r\n}\r\n' >"$folder/returns/BUILD.gn"
 ln -s nowhere "$folder/dangling/BUILD.gn"
+mkdir -p "$folder/imports/a/b" "$folder/import_folder/a.gni"
+printf 'import("a/b/c.gni")\nimport("//d.gni")\nt(x) {\n}\n' >"$folder/imports/BUILD.gn"
+printf 'import("../../d.gni")\nx = d\nprint("c")\n' >"$folder/imports/a/b/c.gni"
+printf 'd = "e"\ntemplate("t") {\n  group(target_name) {\n  }\n}\nprint("d")\n' >"$folder/imports/d.gni"
+printf 'import("a.gni")\n' >"$folder/import_folder/BUILD.gn"
 head -c 16777217 /dev/zero | tr '\0' ' ' >"$folder/big/BUILD.gn"
 
 run "$folder/groups" ls out
@@ -73,6 +78,10 @@ run "$folder/big" ls out
 expect "a file beyond the limit" 1 $'ERROR at //BUILD.gn:1:1: File "//BUILD.gn" is too big.\n'
 run "$folder/folder" ls out
 expect "a folder in the file's place" 3 "$cannot_read"
+run "$folder/imports" ls out
+expect "imports below folders" 0 $'c\nd\n//:e\n'
+run "$folder/import_folder" ls out
+expect "a folder in an import's place" 3 $'gn: cannot read //a.gni\n'
 run "$folder/groups"
 expect "no words" 2 "$usage"
 run "$folder/groups" frob
