@@ -114,52 +114,50 @@ fn column_of(found: Option<(&Text, Position)>) -> u32 {
 // column that the block's end reports, and the one that the file's end reports, where the file's own is 9. 0 is none.
 type Row = (bool, bool, [Step; 3], u32, u32);
 
-fn rows() -> [Row; 14] {
-    [
-        // The first assignment makes a name unread, a later one moves the place, a read ends it for good.
-        (false, true, [Step::Set, Step::Nothing, Step::Nothing], 1, 0),
-        (false, true, [Step::Set, Step::Set, Step::Nothing], 2, 0),
-        (false, true, [Step::Set, Step::Read, Step::Nothing], 0, 0),
-        (false, true, [Step::Set, Step::Read, Step::Set], 0, 0),
-        // Without a check nothing is reported.
-        (
-            false,
-            false,
-            [Step::Set, Step::Nothing, Step::Nothing],
-            0,
-            0,
-        ),
-        // A read goes outwards; `=` makes a name of its own and reads nothing.
-        (
-            true,
-            true,
-            [Step::Nothing, Step::Nothing, Step::Nothing],
-            0,
-            9,
-        ),
-        (true, true, [Step::Read, Step::Nothing, Step::Nothing], 0, 0),
-        (
-            true,
-            false,
-            [Step::Read, Step::Nothing, Step::Nothing],
-            0,
-            0,
-        ),
-        (true, true, [Step::Set, Step::Nothing, Step::Nothing], 1, 9),
-        (true, true, [Step::Set, Step::Read, Step::Nothing], 0, 9),
-        // `+=` and an assignment to an element read an outer name and assign its copy.
-        (true, true, [Step::Add, Step::Nothing, Step::Nothing], 1, 0),
-        (true, true, [Step::Add, Step::Add, Step::Nothing], 2, 0),
-        (
-            true,
-            true,
-            [Step::Element, Step::Nothing, Step::Nothing],
-            1,
-            0,
-        ),
-        (true, true, [Step::Element, Step::Read, Step::Element], 0, 0),
-    ]
-}
+const ROWS: [Row; 14] = [
+    // The first assignment makes a name unread, a later one moves the place, a read ends it for good.
+    (false, true, [Step::Set, Step::Nothing, Step::Nothing], 1, 0),
+    (false, true, [Step::Set, Step::Set, Step::Nothing], 2, 0),
+    (false, true, [Step::Set, Step::Read, Step::Nothing], 0, 0),
+    (false, true, [Step::Set, Step::Read, Step::Set], 0, 0),
+    // Without a check nothing is reported.
+    (
+        false,
+        false,
+        [Step::Set, Step::Nothing, Step::Nothing],
+        0,
+        0,
+    ),
+    // A read goes outwards; `=` makes a name of its own and reads nothing.
+    (
+        true,
+        true,
+        [Step::Nothing, Step::Nothing, Step::Nothing],
+        0,
+        9,
+    ),
+    (true, true, [Step::Read, Step::Nothing, Step::Nothing], 0, 0),
+    (
+        true,
+        false,
+        [Step::Read, Step::Nothing, Step::Nothing],
+        0,
+        0,
+    ),
+    (true, true, [Step::Set, Step::Nothing, Step::Nothing], 1, 9),
+    (true, true, [Step::Set, Step::Read, Step::Nothing], 0, 9),
+    // `+=` and an assignment to an element read an outer name and assign its copy.
+    (true, true, [Step::Add, Step::Nothing, Step::Nothing], 1, 0),
+    (true, true, [Step::Add, Step::Add, Step::Nothing], 2, 0),
+    (
+        true,
+        true,
+        [Step::Element, Step::Nothing, Step::Nothing],
+        1,
+        0,
+    ),
+    (true, true, [Step::Element, Step::Read, Step::Element], 0, 0),
+];
 
 // A file that sets `x`, or nothing.
 fn file(alloc: Global, sets: bool) -> Result<Env, Fail> {
@@ -170,100 +168,124 @@ fn file(alloc: Global, sets: bool) -> Result<Env, Fail> {
     Ok(env)
 }
 
-// What a block of these steps reports at its end.
-fn block(env: &mut Env, alloc: Global, checked: bool, steps: [Step; 3]) -> Result<u32, Fail> {
+fn run_all(env: &mut Env, alloc: Global, steps: [Step; 3]) -> Result<(), Fail> {
     let [first, second, third] = steps;
-    env.enter(checked)?;
     run(env, alloc, first, 1)?;
     run(env, alloc, second, 2)?;
-    run(env, alloc, third, 3)?;
-    let reported = column_of(env.unread());
+    run(env, alloc, third, 3)
+}
+
+// What a block of these steps reports at its end, and then the file.
+fn reported(
+    alloc: Global,
+    sets: bool,
+    checked: bool,
+    steps: [Step; 3],
+) -> Result<(u32, u32), Fail> {
+    let mut env = file(alloc, sets)?;
+    env.enter(checked)?;
+    run_all(&mut env, alloc, steps)?;
+    let inner = column_of(env.unread());
     env.leave();
-    Ok(reported)
+    Ok((inner, column_of(env.unread())))
 }
 
 #[test]
 fn names_that_nothing_reads(rt: HostRuntime) -> Result<(), Fail> {
     let alloc = rt.alloc();
-    for (sets, checked, steps, inner, outer) in rows() {
-        let mut env = file(alloc, sets)?;
-        assert_eq!(rt; block(&mut env, alloc, checked, steps)?, inner);
-        assert_eq!(rt; column_of(env.unread()), outer);
+    for (sets, checked, steps, inner, outer) in ROWS {
+        assert_eq!(rt; reported(alloc, sets, checked, steps)?, (inner, outer));
     }
     Ok(())
+}
+
+// What refuses an assignment of an integer behind `x = [ 1 ]`.
+fn refusal(alloc: Global, name: &[u8], op: AssignOp) -> Result<Result<(), AssignError>, Fail> {
+    let mut env = file(alloc, true)?;
+    Ok(assign(&mut env, alloc, name, op, Value::Int(1), 2))
+}
+
+// What refuses `x = [ 2 ]` behind `x = [ 1 ]`, where this list was taken from `x` before.
+fn refusal_over(alloc: Global, taken: Value) -> Result<Result<(), AssignError>, Fail> {
+    let mut env = file(alloc, true)?;
+    assign(&mut env, alloc, b"x", AssignOp::Subtract, taken, 2)?;
+    let other = list(alloc, 2)?;
+    Ok(assign(&mut env, alloc, b"x", AssignOp::Set, other, 3))
 }
 
 #[test]
 fn refused_assignments(rt: HostRuntime) -> Result<(), Fail> {
     let alloc = rt.alloc();
-    let mut env = file(alloc, true)?;
-    let absent = assign(&mut env, alloc, b"y", AssignOp::Add, Value::Int(1), 1);
+    let absent = refusal(alloc, b"y", AssignOp::Add)?;
     assert_eq!(rt; absent, Err(AssignError::Undefined));
-    let over = assign(&mut env, alloc, b"x", AssignOp::Set, list(alloc, 2)?, 2);
-    assert_eq!(rt; over, Err(AssignError::Overwrite));
-    let types = assign(&mut env, alloc, b"x", AssignOp::Add, Value::Int(1), 3);
+    let types = refusal(alloc, b"x", AssignOp::Add)?;
     assert_eq!(rt; types, Err(AssignError::Value(ValueError::BadTypes)));
-    assert_eq!(rt; column_of(env.unread()), 9);
+    let over = refusal_over(alloc, Value::List(Items::new(alloc)))?;
+    assert_eq!(rt; over, Err(AssignError::Overwrite));
+    assert_eq!(rt; refusal_over(alloc, list(alloc, 1)?)?, Ok(()));
     Ok(())
 }
 
-#[test]
-fn a_list_that_was_emptied(rt: HostRuntime) -> Result<(), Fail> {
-    let alloc = rt.alloc();
+// What refuses adding a value to an item behind `x = [ 1 ]`.
+fn element_refusal(
+    alloc: Global,
+    name: &[u8],
+    index: i64,
+    value: Value,
+) -> Result<Result<(), ElementAssignError>, Fail> {
     let mut env = file(alloc, true)?;
-    assign(
-        &mut env,
-        alloc,
-        b"x",
-        AssignOp::Subtract,
-        list(alloc, 1)?,
-        2,
-    )?;
-    let over = assign(&mut env, alloc, b"x", AssignOp::Set, list(alloc, 2)?, 3);
-    assert_eq!(rt; over, Ok(()));
-    Ok(())
+    Ok(assign_item(&mut env, alloc, name, index, value, 2))
 }
 
 #[test]
 fn refused_elements(rt: HostRuntime) -> Result<(), Fail> {
     let alloc = rt.alloc();
-    let mut env = file(alloc, true)?;
-    let beyond = assign_item(&mut env, alloc, b"x", 1, Value::Int(1), 2);
+    let beyond = element_refusal(alloc, b"x", 1, Value::Int(1))?;
     assert_eq!(rt;
         beyond,
         Err(ElementAssignError::Subscript(ValueError::BadIndex))
     );
-    let types = assign_item(&mut env, alloc, b"x", 0, Value::Bool(true), 3);
+    let types = element_refusal(alloc, b"x", 0, Value::Bool(true))?;
     assert_eq!(rt;
         types,
         Err(ElementAssignError::Operator(ValueError::BadTypes))
     );
-    let absent = assign_item(&mut env, alloc, b"y", 0, Value::Int(1), 4);
+    let absent = element_refusal(alloc, b"y", 0, Value::Int(1))?;
     assert_eq!(rt; absent, Err(ElementAssignError::Undefined));
     Ok(())
 }
 
+// Whether an environment has the setting that it was made with, and this mark.
+fn has_setting(env: &Env, in_item: bool) -> bool {
+    matches!(env.stage(), Stage::Loading)
+        && env.kind() == FileKind::BuildFile
+        && env.toolchain().as_bytes() == b"//t:t".as_slice()
+        && env.file().as_bytes() == b"//BUILD.gn".as_slice()
+        && env.directory().as_bytes() == b"//".as_slice()
+        && env.in_item() == in_item
+        && env.depth() == 0
+}
+
 #[test]
 fn the_setting(rt: HostRuntime) -> Result<(), Fail> {
-    let alloc = rt.alloc();
-    let mut env = environment(alloc, false)?;
+    let mut env = environment(rt.alloc(), false)?;
     env.set_in_item(true);
-    assert!(rt; env.in_item() && env.depth() == 0);
-    assert!(rt; matches!(env.stage(), Stage::Loading));
-    assert!(rt; env.kind() == FileKind::BuildFile);
-    assert_eq!(rt; env.toolchain().as_bytes(), &b"//t:t"[..]);
-    assert_eq!(rt; env.file().as_bytes(), &b"//BUILD.gn"[..]);
-    assert_eq!(rt; env.directory().as_bytes(), &b"//"[..]);
+    assert!(rt; has_setting(&env, true));
     Ok(())
+}
+
+// The line of a fault.
+fn line(alloc: Global) -> Result<Text, Fail> {
+    let env = environment(alloc, false)?;
+    let fault = env.fault(alloc, Code::BadTypes, at(4), Texts::new(alloc))?;
+    Ok(fault.print(alloc)?)
 }
 
 #[test]
 fn a_fault(rt: HostRuntime) -> Result<(), Fail> {
-    let alloc = rt.alloc();
-    let env = environment(alloc, false)?;
-    let fault = env.fault(alloc, Code::BadTypes, at(4), Texts::new(alloc))?;
+    let line = line(rt.alloc())?;
     assert_eq!(rt;
-        fault.print(alloc)?.as_bytes(),
+        line.as_bytes(),
         &b"ERROR at //BUILD.gn:1:4: Wrong type of value.\n"[..]
     );
     Ok(())
@@ -279,12 +301,16 @@ fn aside(env: &mut Env, alloc: Global) -> Result<i64, Fail> {
     Ok(value)
 }
 
+// What a name is while it is put aside, and the column that the file reports then.
+fn aside_and_back(alloc: Global) -> Result<(i64, u32), Fail> {
+    let mut env = file(alloc, true)?;
+    let value = aside(&mut env, alloc)?;
+    Ok((value, column_of(env.unread())))
+}
+
 #[test]
 fn a_name_that_comes_back(rt: HostRuntime) -> Result<(), Fail> {
-    let alloc = rt.alloc();
-    let mut env = file(alloc, true)?;
-    assert_eq!(rt; aside(&mut env, alloc)?, 2);
-    assert_eq!(rt; column_of(env.unread()), 9);
+    assert_eq!(rt; aside_and_back(rt.alloc())?, (2, 9));
     Ok(())
 }
 
@@ -295,14 +321,20 @@ fn literal(env: &mut Env, alloc: Global) -> Result<Entries, Fail> {
     Ok(env.leave_with_entries(alloc)?)
 }
 
-#[test]
-fn a_scope_literal(rt: HostRuntime) -> Result<(), Fail> {
-    let alloc = rt.alloc();
+// What such a block has at the name, and what the file has there then.
+fn inside_and_outside(alloc: Global) -> Result<(i64, i64), Fail> {
     let mut env = environment(alloc, false)?;
     let entries = literal(&mut env, alloc)?;
-    assert!(rt; entries.len() == 1);
-    assert!(rt; matches!(entries.get(b"host_os"), Some(Value::Int(8))));
-    assert_eq!(rt; read(&mut env, alloc, b"host_os")?, 7);
+    let inside = match entries.get(b"host_os") {
+        Some(Value::Int(n)) => *n,
+        _ => -1,
+    };
+    Ok((inside, read(&mut env, alloc, b"host_os")?))
+}
+
+#[test]
+fn a_scope_literal(rt: HostRuntime) -> Result<(), Fail> {
+    assert_eq!(rt; inside_and_outside(rt.alloc())?, (8, 7));
     Ok(())
 }
 

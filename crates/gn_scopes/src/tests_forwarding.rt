@@ -134,17 +134,27 @@ const ROWS: [Row; 7] = [
     (Call::ForwardAll, b"", b"y", [1, 0, 0], 0),
 ];
 
+// What `x`, `y` and `z` are.
+fn values(env: &mut Env, alloc: Global) -> Result<[i64; 3], Fail> {
+    let x = value(env, alloc, b'x')?;
+    let y = value(env, alloc, b'y')?;
+    Ok([x, y, value(env, alloc, b'z')?])
+}
+
+// What they are in the body after a call, and the column that the end of the call's block reports.
+fn after(alloc: Global, call: Call, listed: &[u8], except: &[u8]) -> Result<([i64; 3], u32), Fail> {
+    let mut env = body(alloc)?;
+    run(&mut env, alloc, call, listed, except)?;
+    let unread = unread_there(&env);
+    Ok((values(&mut env, alloc)?, unread))
+}
+
 #[test]
 fn calls_on_the_invoker(rt: HostRuntime) -> Result<(), Fail> {
     let alloc = rt.alloc();
     for (call, listed, except, values, unread) in ROWS {
-        let mut env = body(alloc)?;
-        run(&mut env, alloc, call, listed, except)?;
-        assert_eq!(rt; unread_there(&env), unread);
-        assert_eq!(rt; column_of(env.unread()), 0);
-        assert_eq!(rt; value(&mut env, alloc, b'x')?, values[0]);
-        assert_eq!(rt; value(&mut env, alloc, b'y')?, values[1]);
-        assert_eq!(rt; value(&mut env, alloc, b'z')?, values[2]);
+        let (found, column) = after(alloc, call, listed, except)?;
+        assert!(rt; found == values && column == unread);
     }
     Ok(())
 }
@@ -172,15 +182,25 @@ fn entry_of_invoker(env: &Env, alloc: Global, letter: u8) -> Result<i64, Fail> {
     }
 }
 
+// Whether the invoker has its name alone.
+fn has_its_name(env: &Env, alloc: Global) -> Result<bool, Fail> {
+    Ok(is_invoker(env, alloc, b"invoker")? && !is_invoker(env, alloc, b"x")?)
+}
+
+// How many names the invoker has, and what it has at `y` and `z`.
+fn entries_of_invoker(env: &Env, alloc: Global) -> Result<(usize, i64, i64), Fail> {
+    let count = count_of_invoker(env, alloc)?;
+    let y = entry_of_invoker(env, alloc, b'y')?;
+    Ok((count, y, entry_of_invoker(env, alloc, b'z')?))
+}
+
 #[test]
 fn the_invoker(rt: HostRuntime) -> Result<(), Fail> {
     let alloc = rt.alloc();
     let env = body(alloc)?;
-    assert!(rt; is_invoker(&env, alloc, b"invoker")?);
-    assert!(rt; !is_invoker(&env, alloc, b"x")?);
-    assert_eq!(rt; count_of_invoker(&env, alloc)?, 2);
-    assert_eq!(rt; entry_of_invoker(&env, alloc, b'y')?, 2);
-    assert_eq!(rt; entry_of_invoker(&env, alloc, b'z')?, 0);
+    let has_name = has_its_name(&env, alloc)?;
+    let entries = entries_of_invoker(&env, alloc)?;
+    assert!(rt; has_name && entries == (2, 2, 0));
     Ok(())
 }
 
@@ -191,15 +211,19 @@ fn scope(alloc: Global) -> Result<Entries, Fail> {
     Ok(entries)
 }
 
-#[test]
-fn a_name_that_is_overwritten(rt: HostRuntime) -> Result<(), Fail> {
-    let alloc = rt.alloc();
+// What `x` is after all of that scope was forwarded over `x = 9`, and the column that the file reports.
+fn overwritten(alloc: Global) -> Result<(i64, u32), Fail> {
     let mut env = file(alloc)?;
     set(&mut env, alloc, b'x', 9)?;
     let entries = scope(alloc)?;
     env.forward_all(alloc, Origin::Entries(&entries), &Texts::new(alloc))?;
-    assert_eq!(rt; column_of(env.unread()), 0);
-    assert_eq!(rt; value(&mut env, alloc, b'x')?, 5);
+    let unread = column_of(env.unread());
+    Ok((value(&mut env, alloc, b'x')?, unread))
+}
+
+#[test]
+fn a_name_that_is_overwritten(rt: HostRuntime) -> Result<(), Fail> {
+    assert_eq!(rt; overwritten(rt.alloc())?, (5, 0));
     Ok(())
 }
 

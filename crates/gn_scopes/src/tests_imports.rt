@@ -120,64 +120,98 @@ fn conflicts(outcome: Result<(), MergeError>, name: &[u8]) -> bool {
     }
 }
 
-#[test]
-fn what_is_left(rt: HostRuntime) -> Result<(), Fail> {
-    let alloc = rt.alloc();
+// What a file leaves that sets `a = 1` and `_b = 2`.
+fn left(alloc: Global) -> Result<ImportValue, Fail> {
     let mut env = file(alloc, b"//base.gni")?;
     set(&mut env, alloc, b"a", 1)?;
     set(&mut env, alloc, b"_b", 2)?;
-    let left = env.import_value(alloc)?;
-    assert_eq!(rt; left.scope().variables().len(), 1);
-    assert!(rt; matches!(left.scope().variables().get(b"a"), Some(Value::Int(1))));
-    let made = left.definitions().get(&text(alloc, b"//base.gni")?);
-    assert!(rt; made.is_some());
+    Ok(env.import_value(alloc)?)
+}
+
+// Whether `a = 1` is all that is left.
+fn leaves_one(left: &ImportValue) -> bool {
+    let variables = left.scope().variables();
+    variables.len() == 1 && matches!(variables.get(b"a"), Some(Value::Int(1)))
+}
+
+#[test]
+fn what_is_left(rt: HostRuntime) -> Result<(), Fail> {
+    let alloc = rt.alloc();
+    let left = left(alloc)?;
+    let execution = text(alloc, b"//base.gni")?;
+    assert!(rt; leaves_one(&left) && left.definitions().get(&execution).is_some());
     Ok(())
+}
+
+// A file that sets `b = 2` into which `a = 1` and `b = 2` are merged.
+fn with_variables(alloc: Global) -> Result<Env, Fail> {
+    let mut env = file(alloc, b"")?;
+    set(&mut env, alloc, b"b", 2)?;
+    let from = variables(alloc, &[(b"a", 1), (b"b", 2)])?;
+    match env.merge(alloc, &from) {
+        Ok(()) => Ok(env),
+        Err(_) => Err(Fail::from(AllocError)),
+    }
+}
+
+// Whether merging other values into it is refused at the least name that differs, and adds no name.
+fn refuses_variables(env: &mut Env, alloc: Global) -> Result<bool, Fail> {
+    let from = variables(alloc, &[(b"c", 1), (b"b", 3), (b"a", 4)])?;
+    let is_refused = conflicts(env.merge(alloc, &from), b"a");
+    Ok(is_refused && read(env, alloc, b"c")? == -1)
 }
 
 #[test]
 fn merged_variables(rt: HostRuntime) -> Result<(), Fail> {
     let alloc = rt.alloc();
-    let mut env = file(alloc, b"")?;
-    set(&mut env, alloc, b"b", 2)?;
-    assert!(rt; env.unread().is_some());
-    let merged = env.merge(alloc, &variables(alloc, &[(b"a", 1), (b"b", 2)])?);
-    assert!(rt; merged.is_ok());
-    assert!(rt; env.unread().is_none());
-    assert_eq!(rt; read(&mut env, alloc, b"a")?, 1);
-    let other = env.merge(
-        alloc,
-        &variables(alloc, &[(b"c", 1), (b"b", 3), (b"a", 4)])?,
-    );
-    assert!(rt; conflicts(other, b"a"));
-    assert_eq!(rt; read(&mut env, alloc, b"c")?, -1);
+    let mut env = with_variables(alloc)?;
+    let is_read = env.unread().is_none();
+    let is_refused = refuses_variables(&mut env, alloc)?;
+    assert!(rt; is_read && is_refused && read(&mut env, alloc, b"a")? == 1);
     Ok(())
+}
+
+// Whether merging the template `t` of an execution is refused.
+fn refuses_template(
+    env: &mut Env,
+    alloc: Global,
+    execution: &[u8],
+    column: u32,
+) -> Result<bool, Fail> {
+    let from = template(alloc, execution, column)?;
+    Ok(conflicts(env.merge(alloc, &from), b"t"))
+}
+
+// Whether the definitions of an execution are known.
+fn knows(env: &Env, alloc: Global, execution: &[u8]) -> Result<bool, Fail> {
+    Ok(env.definitions.get(&text(alloc, execution)?).is_some())
 }
 
 #[test]
 fn merged_templates(rt: HostRuntime) -> Result<(), Fail> {
     let alloc = rt.alloc();
     let mut env = file(alloc, b"")?;
-    assert!(rt;
-        env.merge(alloc, &template(alloc, b"//left.gni", 1)?)
-            .is_ok()
-    );
-    assert!(rt;
-        env.merge(alloc, &template(alloc, b"//right.gni", 1)?)
-            .is_ok()
-    );
-    let other = env.merge(alloc, &template(alloc, b"//other.gni", 2)?);
-    assert!(rt; conflicts(other, b"t"));
-    assert!(rt; env.definitions.get(&text(alloc, b"//right.gni")?).is_some());
-    assert!(rt; env.definitions.get(&text(alloc, b"//other.gni")?).is_none());
+    let left = refuses_template(&mut env, alloc, b"//left.gni", 1)?;
+    let right = refuses_template(&mut env, alloc, b"//right.gni", 1)?;
+    let other = refuses_template(&mut env, alloc, b"//other.gni", 2)?;
+    let knows = knows(&env, alloc, b"//right.gni")? && !knows(&env, alloc, b"//other.gni")?;
+    assert!(rt; !left && !right && other && knows);
     Ok(())
+}
+
+// Whether merging this default is refused.
+fn refuses_default(env: &mut Env, alloc: Global, value: i64) -> Result<bool, Fail> {
+    let from = defaults(alloc, value)?;
+    Ok(conflicts(env.merge(alloc, &from), b"k"))
 }
 
 #[test]
 fn merged_defaults(rt: HostRuntime) -> Result<(), Fail> {
     let alloc = rt.alloc();
     let mut env = file(alloc, b"")?;
-    assert!(rt; env.merge(alloc, &defaults(alloc, 1)?).is_ok());
-    assert!(rt; env.merge(alloc, &defaults(alloc, 1)?).is_ok());
-    assert!(rt; conflicts(env.merge(alloc, &defaults(alloc, 2)?), b"k"));
+    let first = refuses_default(&mut env, alloc, 1)?;
+    let same = refuses_default(&mut env, alloc, 1)?;
+    let other = refuses_default(&mut env, alloc, 2)?;
+    assert!(rt; !first && !same && other);
     Ok(())
 }

@@ -78,22 +78,42 @@ fn call(env: &mut Env, alloc: Global) -> Result<(), Fail> {
     Ok(())
 }
 
+// Whether there is a template that may be called.
+fn may_be_called(env: &Env, alloc: Global) -> Result<bool, Fail> {
+    Ok(env.template(&text(alloc, b"t")?)?.is_some())
+}
+
+// The column of the name that the call's block leaves unread, or 0.
+fn unread_there(env: &Env) -> u32 {
+    env.invoker_unread().map_or(0, |unread| unread.2.column)
+}
+
+// In the body: what `x` and `z` are, and whether `t` may be called.
+fn seen(env: &mut Env, alloc: Global) -> Result<(i64, i64, bool), Fail> {
+    let x = read(env, alloc, b"x")?;
+    let z = read(env, alloc, b"z")?;
+    Ok((x, z, may_be_called(env, alloc)?))
+}
+
 #[test]
 fn a_template_is_called(rt: HostRuntime) -> Result<(), Fail> {
     let alloc = rt.alloc();
-    let name = text(alloc, b"t")?;
     let mut env = file(alloc)?;
-    assert!(rt; env.has_template(&name));
+    let is_set = env.has_template(&text(alloc, b"t")?);
     call(&mut env, alloc)?;
-    assert_eq!(rt; read(&mut env, alloc, b"x")?, 1);
-    assert_eq!(rt; read(&mut env, alloc, b"z")?, -1);
-    assert!(rt; env.template(&name)?.is_none());
-    assert_eq!(rt; env.invoker_unread().map_or(0, |unread| unread.2.column), 4);
+    let inside = seen(&mut env, alloc)?;
+    let column = unread_there(&env);
     env.end_body();
-    assert!(rt; env.invoker_unread().is_none());
-    assert!(rt; env.template(&name)?.is_some());
-    assert_eq!(rt; read(&mut env, alloc, b"z")?, -1);
+    let outside = seen(&mut env, alloc)?;
+    assert!(rt; is_set && column == 4 && inside == (1, -1, false) && outside == (1, -1, true));
     Ok(())
+}
+
+// What `y` is in the body before and after the defaults are given.
+fn given(env: &mut Env, alloc: Global, name: &Text) -> Result<(i64, i64), Fail> {
+    let before = read(env, alloc, b"y")?;
+    env.give_defaults(alloc, name)?;
+    Ok((before, read(env, alloc, b"y")?))
 }
 
 #[test]
@@ -101,16 +121,10 @@ fn defaults_are_given(rt: HostRuntime) -> Result<(), Fail> {
     let alloc = rt.alloc();
     let name = text(alloc, b"t")?;
     let mut env = file(alloc)?;
-    assert_eq!(rt; read(&mut env, alloc, b"y")?, -1);
     call(&mut env, alloc)?;
-    env.give_defaults(alloc, &name)?;
-    assert_eq!(rt; read(&mut env, alloc, b"y")?, 2);
-    assert!(rt;
-        matches!(
-            env.give_defaults(alloc, &name),
-            Err(GiveError::AlreadySet(_))
-        )
-    );
+    let values = given(&mut env, alloc, &name)?;
+    let again = env.give_defaults(alloc, &name);
+    assert!(rt; values == (-1, 2) && matches!(again, Err(GiveError::AlreadySet(_))));
     Ok(())
 }
 
