@@ -30,9 +30,3 @@ pub use variable::Variable;
 
 #[cfg(test)]
 mod tests;
-#[cfg(test)]
-mod tests_forwarding;
-#[cfg(test)]
-mod tests_imports;
-#[cfg(test)]
-mod tests_templates;

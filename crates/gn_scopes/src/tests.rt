@@ -1,4 +1,5 @@
-// Each call once, with ample memory, and the rules of names that nothing reads.
+// Each call on variables once, with ample memory, and the rules of names that nothing reads. Templates, forwarding and imports
+// are tried by whole files, in the tests of the evaluator and of the top call.
 
 use crate::{AssignError, ElementAssignError, Env, ScopeError, Scopes};
 use gn_items::{Code, FileKind, Stage};

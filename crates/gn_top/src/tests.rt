@@ -330,7 +330,7 @@ fn sources_without_a_worker_are_not_read(rt: HostRuntime) -> Result<(), Fail> {
 // The files of a tree, and the status and the text of `ls out` over it.
 type Row = (&'static [(&'static str, &'static str)], u8, &'static str);
 
-const ROWS: [Row; 28] = [
+const ROWS: [Row; 37] = [
     // A name that begins with `_` isn't imported, and an equal value is no conflict.
     (
         &[
@@ -574,6 +574,88 @@ const ROWS: [Row; 28] = [
         )],
         0,
         "",
+    ),
+    // The invoker as a value, what is forwarded from around its block, and which of its names count as read.
+    (
+        &[(
+            "//BUILD.gn",
+            "template(\"t\") {\n  y = invoker\n  print(y)\n}\nt(\"n\") {\n  b = 1\n  a = 2\n}\n",
+        )],
+        0,
+        "{\n  a = 2\n  b = 1\n  target_name = \"n\"\n}\n",
+    ),
+    (
+        &[(
+            "//BUILD.gn",
+            "x = 5\ntemplate(\"t\") {\n  forward_variables_from(invoker, [ \"x\" ])\n  print(x)\n}\ngroup(\"g\") {\n  x = 6\n  t(\"n\") {\n  }\n}\n",
+        )],
+        0,
+        "6\n//:g\n",
+    ),
+    (
+        &[(
+            "//BUILD.gn",
+            "template(\"t\") {\n  forward_variables_from(invoker, \"*\", [ \"b\" ])\n  print(a, defined(b))\n}\nt(\"n\") {\n  a = 1\n  b = 2\n}\n",
+        )],
+        0,
+        "1 false\n",
+    ),
+    (
+        &[(
+            "//BUILD.gn",
+            "template(\"t\") {\n  not_needed(invoker, [ \"a\" ])\n}\nt(\"n\") {\n  a = 1\n  b = 2\n}\n",
+        )],
+        1,
+        "ERROR at //BUILD.gn:6:5: Assignment had no effect: \"b\".\n",
+    ),
+    (
+        &[(
+            "//BUILD.gn",
+            "a = 1\nnot_needed([ \"a\", \"b\" ])\nc = 1\nnot_needed(\"*\", [ \"c\" ])\n",
+        )],
+        1,
+        "ERROR at //BUILD.gn:3:3: Assignment had no effect: \"c\".\n",
+    ),
+    // Defaults are given at the template's call and at the call of its kind.
+    (
+        &[(
+            "//BUILD.gn",
+            "set_defaults(\"group\") {\n  deps = [ \":d\" ]\n}\ntemplate(\"group\") {\n  target(\"group\", target_name) {\n    print(deps)\n    forward_variables_from(invoker, \"*\")\n  }\n}\ngroup(\"g\") {\n}\n",
+        )],
+        0,
+        "[\":d\"]\n//:g\n",
+    ),
+    // Equal defaults merge, others don't; the first name that differs is told; a template sees what its file keeps.
+    (
+        &[
+            (
+                "//BUILD.gn",
+                "import(\"//a.gni\")\nimport(\"//a.gni\")\nimport(\"//b.gni\")\n",
+            ),
+            ("//a.gni", "set_defaults(\"k\") {\n  a = 1\n}\n"),
+            ("//b.gni", "set_defaults(\"k\") {\n  a = 2\n}\n"),
+        ],
+        1,
+        "ERROR at //BUILD.gn:3:1: Value collision on import: \"k\".\n",
+    ),
+    (
+        &[
+            (
+                "//BUILD.gn",
+                "if (true) {\n  b = 0\n  template(\"a\") {\n  }\n  import(\"//d.gni\")\n}\n",
+            ),
+            ("//d.gni", "b = 1\ntemplate(\"a\") {\n}\n"),
+        ],
+        1,
+        "ERROR at //BUILD.gn:5:3: Value collision on import: \"a\".\n",
+    ),
+    (
+        &[
+            ("//BUILD.gn", "import(\"//a.gni\")\nt(\"n\") {\n}\n"),
+            ("//a.gni", "_p = 7\ntemplate(\"t\") {\n  print(_p)\n}\n"),
+        ],
+        0,
+        "7\n",
     ),
 ];
 
