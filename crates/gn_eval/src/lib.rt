@@ -30,6 +30,3 @@ pub use blocks::{run_block, run_file, run_import_file};
 pub use definer::{DefineError, Definer};
 pub use ending::EvalEnd;
 pub use library::{Found, Imported, LibStop, Library};
-
-#[cfg(test)]
-mod tests;

@@ -27,6 +27,3 @@ pub use layer::Layer;
 pub use scopes::Scopes;
 pub use templates::GiveError;
 pub use variable::Variable;
-
-#[cfg(test)]
-mod tests;
