@@ -86,17 +86,17 @@ fn run_over_tree<R: Threads + Sync>(
 fn is_said<R: Threads + Sync>(
     rt: &R,
     alloc: Global,
-    file: &str,
+    file: &[u8],
     status: u8,
-    text: &str,
+    text: &[u8],
 ) -> Result<bool, AllocError> {
-    let run = run_over(rt, alloc, "ls out", Some(file.as_bytes()))?;
+    let run = run_over(rt, alloc, "ls out", Some(file))?;
     Ok(ends_so(&run, status, text))
 }
 
 // Whether a run that loads one build file ends so, and says this text.
-fn ends_so(run: &Run, status: u8, text: &str) -> bool {
-    run.one.status == status && run.one.units == 1 && run.sink.said() == text.as_bytes()
+fn ends_so(run: &Run, status: u8, text: &[u8]) -> bool {
+    run.one.status == status && run.one.units == 1 && run.sink.said() == text
 }
 
 #[test]

@@ -389,7 +389,7 @@ fn tree_says<R: Threads + Sync>(
     alloc: Global,
     tree: Tree,
     status: u8,
-    text: &str,
+    text: &[u8],
 ) -> Result<bool, AllocError> {
     let run = run_over_tree(rt, alloc, "ls out", tree)?;
     Ok(ends_so(&run, status, text))
@@ -410,7 +410,10 @@ fn imports_and_templates_have_their_texts_and_faults(rt: HostRuntime) -> Result<
     let alloc = rt.alloc();
     for (files, status, text) in ROWS {
         let tree = tree_of(alloc, files)?;
-        assert!(rt; tree_says(&rt, alloc, tree, status, text)?, "at {text}");
+        assert!(rt;
+            tree_says(&rt, alloc, tree, status, text.as_bytes())?,
+            "at {text}"
+        );
     }
     Ok(())
 }
@@ -429,7 +432,7 @@ fn a_file_that_is_imported_twice_is_read_once(rt: HostRuntime) -> Result<(), Fai
     )?;
     let run = run_over_tree(&rt, alloc, "ls out", tree)?;
     let read = ["//BUILD.gn", "//b.gni", "//c.gni", "//a.gni"];
-    assert!(rt; ends_so(&run, 0, "") && has_read(&run, &read));
+    assert!(rt; ends_so(&run, 0, b"") && has_read(&run, &read));
     Ok(())
 }
 
@@ -443,7 +446,7 @@ fn a_cycle_of_150_imports_has_its_least_place(rt: HostRuntime) -> Result<(), Fai
         let text = format!(in alloc; "import(\"//{next}.gni\")\n")?;
         tree.put(&path, text.as_bytes())?;
     }
-    let line = "ERROR at //100.gni:1:1: Import cycle.\n";
+    let line = b"ERROR at //100.gni:1:1: Import cycle.\n";
     assert!(rt; tree_says(&rt, alloc, tree, 1, line)?);
     Ok(())
 }
