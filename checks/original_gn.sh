@@ -1,6 +1,6 @@
 #!/usr/bin/env bash
-# Compares the built program with the original GN, where that is installed, over random files that keep to what is the
-# same in both.
+# Compares the built program with the original GN, where that is installed, over random files that keep clear of the
+# known differences.
 set -u
 cd "$(dirname "$0")/.."
 

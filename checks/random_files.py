@@ -2,8 +2,8 @@
 
 Usage: random_files.py ORIGINAL OURS COUNT
 
-The files keep to what is the same in both: docs/LANGUAGE.md lists where the profile differs from GN. Where both end
-well, the lines that the files print must be equal; where both find a fault, it must stand in the same line.
+The files keep clear of what docs/LANGUAGE.md lists as different. Where both end well, the lines that the files print must
+be equal; where both find a fault, it must stand in the same line of the same file.
 """
 
 import os
@@ -198,7 +198,7 @@ def files(seed):
 
 
 def answer(program, words, folder):
-    """The status, the lines that the files print, and the file and line of the first fault."""
+    """What a program makes of the folder: the lines that its files print or, where there is a fault, its file and line."""
     ended = subprocess.run([program, *words], cwd=folder, capture_output=True, text=True, check=False, timeout=60)
     lines = ended.stdout.splitlines()
     fault = [line.split(" ")[2].split(":")[:2] for line in lines if line.startswith("ERROR at ")]
