@@ -1,5 +1,5 @@
 -- Facts of lists of names, and of keys that are read as names.
-use Rattle.std.proofs.Common.{◌≡◌, ℕ, ◌+◌, ◌<◌, Bool, true, false, cond, not, ◌||◌, List, [], ◌∷◌, ◌++◌, length, get_or, slice_get, map, Some, None, refl, sym, ap, ◌∙◌, true≢false, arith, position, nat_lt, option_map, Vec}
+use Rattle.std.proofs.Common.{◌≡◌, ℕ, ◌+◌, ◌<◌, Bool, true, false, cond, not, ◌||◌, List, [], ◌∷◌, ◌++◌, length, get_or, slice_get, map, Option, Some, None, IfSome, IfNone, is_some, refl, sym, ap, ◌∙◌, true≢false, arith, position, nat_lt, option_map, Vec}
 use Rattle.std.specs.declared.alloc.Global.{Global}
 use Rattle.indexmap.specs.IndexSet.{insert_key}
 use Rattle.std.specs.List.{IsDistinct, AllByRecursion, list_any, position_or_len}
@@ -66,22 +66,24 @@ module _ {K : Type 0} (f : K → List ℕ) where
       by true = refl
       by false = map-append f ks (k ∷ [])
 
--- a name that is found stands at its number, and the table with it is the table
+-- the table with a name that it has is the table
+pub stays_found : (names : List (List ℕ)) (name : List ℕ) (n : ℕ) → slice_get names n ≡ Some name → names ≡ with_name names name
+stays_found names name n h =
+    sym (ap (λ b. cond b names (names ++ name ∷ [])) (any_passes_from_place (bytes_eq name) names n name h (bytes_eq_same name)))
+
+-- a name that is found stands at its number
 pub record IsFoundAt (names : List (List ℕ)) (name : List ℕ) (n : ℕ) : Type 0 where
   pub found : slice_get names n ≡ Some name
   pub number : n ≡ number_of names name
-  pub stays : names ≡ with_name names name
 
 pub found_at : (names : List (List ℕ)) (name : List ℕ) (n : ℕ) → position (bytes_eq name) names ≡ Some n → IsFoundAt names name n
 found_at names name n h =
     let p = position-Some (bytes_eq name) names n [] h in
     let same : name ≡ get_or names n [] = (bytes_eq-Decides name (get_or names n [])).0 p.1 in
     let here : slice_get names n ≡ Some name = slice_get-get_or names n [] p.0 ∙ ap Some (sym same) in
-    let any = any_passes_from_place (bytes_eq name) names n name here (bytes_eq_same name) in
     record {
       found = here;
       number = sym (position_or_len_is (bytes_eq name) names n [] (omega (arith, p.0)) p.2 (λ _. p.1));
-      stays = sym (ap (λ b. cond b names (names ++ name ∷ [])) any);
     }
 
 -- the same for a key of a table
@@ -108,3 +110,17 @@ slice_get-key a n = slice_get-map (λ v. v.items) a.texts.keys n
 -- a name is found where an equal key stands
 pub found_stored : (a : Inside) (name : List ℕ) (n : ℕ) (k : Vec ℕ Global) → slice_get a.texts.keys n ≡ Some k → bytes_eq name k.items ≡ true → slice_get (texts_of a) n ≡ Some name
 found_stored a name n k h e = slice_get-key a n ∙ ap (option_map (λ v. v.items)) h ∙ ap Some (sym ((bytes_eq-Decides name k.items).0 e))
+
+-- what the index of a key is of the names: its place, its number, or that the name isn't there
+module _ (a : Inside) (name : List ℕ) where
+  pub index_found : (r : Option ℕ) → r ≡ position (λ k. bytes_eq name k.items) a.texts.keys → IfSome r (λ n. slice_get (texts_of a) n ≡ Some name)
+  index_found None h = tt
+  index_found (Some n) h = (found_key a name n (sym h)).found
+
+  pub index_numbered : (r : Option ℕ) → r ≡ position (λ k. bytes_eq name k.items) a.texts.keys → IfSome r (λ n. n ≡ number_of (texts_of a) name)
+  index_numbered None h = tt
+  index_numbered (Some n) h = (found_key a name n (sym h)).number
+
+  pub index_lacking : (r : Option ℕ) → is_some r ≡ list_any (λ k. bytes_eq name k.items) a.texts.keys → IfNone r (list_any (bytes_eq name) (texts_of a) ≡ false)
+  index_lacking None h = list_any-map (λ v. v.items) (bytes_eq name) a.texts.keys ∙ sym h
+  index_lacking (Some n) h = tt

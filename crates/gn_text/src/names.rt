@@ -1,7 +1,9 @@
 // Names and their numbers.
 
-ghost use Rattle.std.specs.Prelude.{◌≡◌, [], IfOk, OnOk, OnErr, Some, length, slice_get, IsTrue, ◌↔◌};
+ghost use Rattle.std.specs.Prelude.{◌≡◌, [], IfOk, OnOk, OnErr, IfSome, IfNone, Some, false, length, slice_get, IsTrue, ◌↔◌};
+ghost use Rattle.std.specs.List.{list_any};
 ghost use Rattle.std.specs.Option.{option_copied};
+ghost use Rattle.std.specs.Str.{bytes_eq};
 ghost use Rattle.gn_text.specs.Names.{AllDifferent, number_of, with_name};
 
 use indexmap::IndexSet;
@@ -53,12 +55,22 @@ impl Names {
         ensures different { AllDifferent self.new }
         ensures err { OnErr result (self.new ≡ self.old) }
     {
-        if let Some(number) = self.texts.get_index_of(name) {
+        if let Some(number) = self.number(name) {
             return Ok(number);
         }
         let text = Vec::from_slice(self.alloc, name)?;
         let (number, _) = self.texts.insert_full(text)?;
         Ok(number)
+    }
+
+    /// The number of a name that the table has. None comes exactly where it lacks the name. It takes no memory.
+    pub fn number(&self, name: &[u8]) -> Option<Name>
+        ensures found { IfSome result (λ n. slice_get self.now n ≡ Some name.now) }
+        ensures number { IfSome result (λ n. n ≡ number_of self.now name.now) }
+        ensures lacking { IfNone result (list_any (bytes_eq name.now) self.now ≡ false) }
+        ensures different { AllDifferent self.now }
+    {
+        self.texts.get_index_of(name)
     }
 
     /// The name that has this number. None comes exactly where the number isn't below the count of

@@ -18,6 +18,8 @@ fn names_have_numbers(rt: HostRuntime) -> Result<(), Fail> {
         assert_eq!(rt; names.intern(name)?, number);
     }
     assert_eq!(rt; names.len(), 4);
+    assert_eq!(rt; names.number(b"deps"), Some(1));
+    assert_eq!(rt; names.number(b"dep"), None);
     assert!(rt; names.name(1) == Some(&b"deps"[..]));
     assert!(rt; names.name(4).is_none());
     Ok(())

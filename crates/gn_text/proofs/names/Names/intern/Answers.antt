@@ -1,25 +1,10 @@
 use Rattle.std.proofs.Common.{sym, ◌∙◌}
 use Rattle.gn_text.specs.declared.names.Names.TheInside.{Inside}
-use Rattle.gn_text.proofs.NamesLemmas.{found_key, different, texts_of-insert, number_of-key, found_stored}
+use Rattle.gn_text.proofs.NamesLemmas.{stays_found, different, texts_of-insert, number_of-key, found_stored}
 use Rattle.gn_text.proofs.names.Names.intern.Goals as goal
 
-pub returns-in-Some-clause-found : goal.returns-in-Some-clause-found
-returns-in-Some-clause-found c =
-    let r = found_key c.self.inside c.args.name.now c.in-Some.number (sym c.in-Some.ensures.index) in
-    rw (← c.self.view_is) r.found
-
-pub returns-in-Some-clause-number : goal.returns-in-Some-clause-number
-returns-in-Some-clause-number c =
-    let r = found_key c.self.inside c.args.name.now c.in-Some.number (sym c.in-Some.ensures.index) in
-    rw (← c.self.view_is) r.number
-
 pub returns-in-Some-clause-names : goal.returns-in-Some-clause-names
-returns-in-Some-clause-names c =
-    let r = found_key c.self.inside c.args.name.now c.in-Some.number (sym c.in-Some.ensures.index) in
-    rw (← c.self.view_is) r.stays
-
-pub returns-in-Some-clause-different : goal.returns-in-Some-clause-different
-returns-in-Some-clause-different c = rw (← c.self.view_is) (different c.self.inside c.self.invariant)
+returns-in-Some-clause-names c = stays_found _ c.args.name.now c.in-Some.number c.in-Some.ensures.found
 
 pub returns-in_err-text-clause-different : goal.returns-in_err-text-clause-different
 returns-in_err-text-clause-different c = rw (← c.self.view_is) (different c.self.inside c.self.invariant)
