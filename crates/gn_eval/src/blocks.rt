@@ -13,12 +13,12 @@ ghost use Rattle.gn_eval.specs.Library.{GoesOn};
 
 use crate::definer::Definer;
 use crate::ending::EvalEnd;
-use crate::faults::wrong_with;
+use crate::faults::no_effect;
 use crate::level::Level;
 use crate::library::Library;
 use crate::statements::run_statements;
 use crate::step::StepEnd;
-use gn_items::{Code, Outcome};
+use gn_items::Outcome;
 use gn_scopes::Env;
 use gn_tree::Block;
 use gn_values::ImportValue;
@@ -51,7 +51,7 @@ fn end_file(alloc: Global, env: &Env) -> Result<(), StepEnd>
     ensures runs { (out : Effects) → IsStep (λ u. u) result env.now out (checked_end (reported_here env.now) tt env.now env.now out) }
 {
     match env.unread() {
-        Some((name, position)) => Err(wrong_with(alloc, env, Code::NoEffect, position, name)),
+        Some((name, position)) => Err(no_effect(alloc, env, position, name)),
         None => Ok(()),
     }
 }

@@ -20,12 +20,12 @@ fn fault_with(
     env: &Env,
     code: Code,
     position: Position,
-    detail: &Text,
+    detail: &[u8],
 ) -> Result<Fault, AllocError>
     ensures { IfOk result (λ f. f ≡ fault_in env.now.setting position code (detail.now ∷ [])) }
 {
     let mut details = Texts::new(alloc);
-    details.push(detail.copy(alloc)?)?;
+    details.push(Text::from_bytes(alloc, detail)?)?;
     env.fault(alloc, code, position, details)
 }
 
@@ -49,24 +49,34 @@ pub(crate) fn wrong_with(
 ) -> StepEnd
     ensures { IsFault result (fault_in env.now.setting position code (detail.now ∷ [])) }
 {
-    match fault_with(alloc, env, code, position, detail) {
+    match fault_with(alloc, env, code, position, detail.as_bytes()) {
         Ok(fault) => StepEnd::Wrong(fault),
         Err(_) => StepEnd::Memory,
     }
 }
 
-// The same at a position of another file.
+/// The end of an evaluation at a name that nothing read and whose last assignment stands at the position.
+pub(crate) fn no_effect(alloc: Global, env: &Env, position: Position, name: &[u8]) -> StepEnd
+    ensures { IsFault result (fault_in env.now.setting position Code.NoEffect (name.now ∷ [])) }
+{
+    match fault_with(alloc, env, Code::NoEffect, position, name) {
+        Ok(fault) => StepEnd::Wrong(fault),
+        Err(_) => StepEnd::Memory,
+    }
+}
+
+// The fault of a name that nothing read, in another file.
 fn fault_elsewhere(
     alloc: Global,
     env: &Env,
     file: &Text,
-    code: Code,
     position: Position,
-    detail: &Text,
+    name: &[u8],
 ) -> Result<Fault, AllocError>
-    ensures { IfOk result (λ f. f ≡ fault_in (record env.now.setting { file = file.now }) position code (detail.now ∷ [])) }
+    ensures { IfOk result (λ f. f
+        ≡ fault_in (record env.now.setting { file = file.now }) position Code.NoEffect (name.now ∷ [])) }
 {
-    let mut fault = fault_with(alloc, env, code, position, detail)?;
+    let mut fault = fault_with(alloc, env, Code::NoEffect, position, name)?;
     fault.place = Some(Place {
         file: file.copy(alloc)?,
         line: position.line,
@@ -75,18 +85,18 @@ fn fault_elsewhere(
     Ok(fault)
 }
 
-/// The same at a position of another file.
-pub(crate) fn wrong_in(
+/// The end of an evaluation at a name that nothing read, at a position of another file.
+pub(crate) fn no_effect_in(
     alloc: Global,
     env: &Env,
     file: &Text,
-    code: Code,
     position: Position,
-    detail: &Text,
+    name: &[u8],
 ) -> StepEnd
-    ensures { IsFault result (fault_in (record env.now.setting { file = file.now }) position code (detail.now ∷ [])) }
+    ensures { IsFault result
+        (fault_in (record env.now.setting { file = file.now }) position Code.NoEffect (name.now ∷ [])) }
 {
-    match fault_elsewhere(alloc, env, file, code, position, detail) {
+    match fault_elsewhere(alloc, env, file, position, name) {
         Ok(fault) => StepEnd::Wrong(fault),
         Err(_) => StepEnd::Memory,
     }

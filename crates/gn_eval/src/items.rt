@@ -11,7 +11,7 @@ ghost use Rattle.gn_meaning.specs.Items.{defined, label_text};
 ghost use Rattle.gn_eval.specs.Ends.{IsFault, IfFault, IsStep};
 
 use crate::definer::{DefineError, Definer};
-use crate::faults::wrong_with;
+use crate::faults::{no_effect, wrong_with};
 use crate::step::StepEnd;
 use gn_items::{Code, FileKind, Item, ItemKind, Outcome};
 use gn_labels::Label;
@@ -120,7 +120,7 @@ pub(crate) fn end_item<D: Definer>(
         return Err(duplicate(alloc, env, position, &item.label));
     }
     if let Some((unread, at)) = env.unread() {
-        return Err(wrong_with(alloc, env, Code::NoEffect, at, unread));
+        return Err(no_effect(alloc, env, at, unread));
     }
     env.leave();
     env.set_in_item(false);

@@ -10,7 +10,7 @@ ghost use Rattle.gn_meaning.specs.Steps.{max_evaluation_depth};
 ghost use Rattle.gn_meaning.specs.Templates.{opened_depth, template_defined_runs, template_end_runs, defaults_kind_runs, defaults_end_runs};
 ghost use Rattle.gn_eval.specs.Ends.{IsFault, IsStep};
 
-use crate::faults::{wrong, wrong_in, wrong_with};
+use crate::faults::{no_effect, no_effect_in, wrong, wrong_with};
 use crate::step::StepEnd;
 use gn_items::Code;
 use gn_paths::Text;
@@ -79,10 +79,10 @@ pub(crate) fn end_template(
     ensures { (out : Effects) → IsStep (option_map val_of) result env.new out (template_end_runs depth env.old out) }
 {
     if let Some((file, unread, at)) = env.invoker_unread() {
-        return Err(wrong_in(alloc, env, file, Code::NoEffect, at, unread));
+        return Err(no_effect_in(alloc, env, file, at, unread));
     }
     if let Some((unread, at)) = env.unread() {
-        return Err(wrong_with(alloc, env, Code::NoEffect, at, unread));
+        return Err(no_effect(alloc, env, at, unread));
     }
     env.end_body();
     env.set_depth(depth);

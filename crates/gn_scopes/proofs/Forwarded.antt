@@ -1,10 +1,10 @@
 -- Forwarding as what it does to the innermost layer and to the callers.
-use Rattle.std.proofs.Common.{◌≡◌, ℕ, Bool, true, false, not, cond, List, [], ◌∷◌, Option, Some, None, Result, Ok, Err, refl, sym, ap, ◌∙◌}
+use Rattle.std.proofs.Common.{◌≡◌, ℕ, true, false, not, cond, List, [], ◌∷◌, Option, Some, None, Ok, Err, refl, sym, ap, ◌∙◌}
 use Rattle.std.specs.List.{find}
 use Rattle.gn_values.specs.Val.{Val}
 use Rattle.gn_values.specs.Tables.{Table}
 use Rattle.gn_scopes.specs.Chains.{is_one_of, chain_read}
-use Rattle.gn_scopes.specs.Environment.{Caller, Environment, restored, given}
+use Rattle.gn_scopes.specs.Environment.{Environment, restored, given}
 use Rattle.gn_scopes.specs.Templates.{with_caller, in_block}
 use Rattle.gn_scopes.specs.Invoker.{entries_by, invoker_entries, after_invoker_read, after_caller_read}
 use Rattle.gn_scopes.specs.Forwarding.{Origin, from_entries, from_invoker, origin_value, forwarded_names, given_if, names_given, is_set_here, forwarded_unless, names_forwarded, entries_given, target_name, all_forwarded}

@@ -5,16 +5,18 @@ use Rattle.std.specs.List.{AllByRecursion}
 use Rattle.std.specs.Map.{keys_of}
 use Rattle.std.specs.List.Sorted.{IsStrictlySortedBy}
 use Rattle.gn_values.specs.Val.{Val, IsSortedByName, names_of}
+use Rattle.gn_values.specs.View.{val_of}
+use Rattle.gn_values.specs.declared.value.Value.{Value}
 use Rattle.gn_values.proofs.Sorted.{order}
 use Rattle.gn_scopes.specs.Layers.{VariableState}
-use Rattle.gn_scopes.specs.View.{variables_in, pair_value}
+use Rattle.gn_scopes.specs.View.{variables_in, pair_value, value_pairs}
 use Rattle.gn_scopes.specs.declared.variable.Variable.{Variable}
 
 pub values_seen : (es : List (List ℕ × Variable)) → map (λ (v : List ℕ × VariableState). (v.0, v.1.value)) (variables_in es) ≡ map pair_value es
 values_seen [] = refl
 values_seen (e ∷ es) = ap (λ vs. pair_value e ∷ vs) (values_seen es)
 
-pub names_seen : (es : List (List ℕ × Variable)) → names_of (map pair_value es) ≡ keys_of es
+pub names_seen : (es : List (List ℕ × Value)) → names_of (value_pairs es) ≡ keys_of es
 names_seen [] = refl
 names_seen (e ∷ es) = ap (λ ns. e.0 ∷ ns) (names_seen es)
 
@@ -28,11 +30,11 @@ sorted_front [] cs b s = (tt, tt)
 sorted_front (x ∷ bs) cs b s = (front_names (λ y. order x.0 y ≡ Less) bs cs b s.0, sorted_front bs cs b s.1)
 
 -- one more name
-module _ (bs whole : List (List ℕ × Val)) (e : List ℕ × Variable) (es : List (List ℕ × Variable)) (so_far : bs ++ map pair_value (e ∷ es) ≡ whole) where
-  pub stays_sorted : IsSortedByName whole → IsSortedByName (bs ++ pair_value e ∷ [])
+module _ (bs whole : List (List ℕ × Val)) (e : List ℕ × Value) (es : List (List ℕ × Value)) (so_far : bs ++ value_pairs (e ∷ es) ≡ whole) where
+  pub stays_sorted : IsSortedByName whole → IsSortedByName (bs ++ (e.0, val_of e.1) ∷ [])
   stays_sorted sorted =
-      sorted_front bs (map pair_value es) (pair_value e) (subst (λ (l : List (List ℕ × Val)). IsSortedByName l) (sym so_far) sorted)
+      sorted_front bs (value_pairs es) (e.0, val_of e.1) (subst (λ (l : List (List ℕ × Val)). IsSortedByName l) (sym so_far) sorted)
 
-  pub moved_on : (after : List (List ℕ × Val)) → after ≡ bs ++ pair_value e ∷ [] → after ++ map pair_value es ≡ whole
+  pub moved_on : (after : List (List ℕ × Val)) → after ≡ bs ++ (e.0, val_of e.1) ∷ [] → after ++ value_pairs es ≡ whole
   moved_on after is =
-      ap (λ ds. ds ++ map pair_value es) is ∙ append_assoc bs (pair_value e ∷ []) (map pair_value es) ∙ so_far
+      ap (λ ds. ds ++ value_pairs es) is ∙ append_assoc bs ((e.0, val_of e.1) ∷ []) (value_pairs es) ∙ so_far

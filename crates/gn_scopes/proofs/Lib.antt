@@ -8,6 +8,14 @@ pub mod NameSets
 pub mod ManyReads
 pub mod Forwarded
 pub mod Merging
-pub mod Laid
+pub mod LaidOver
 pub mod Searched
 pub mod Restored
+pub mod Entries
+pub mod NamedTables
+pub mod NamedLayers
+pub mod Earlier
+pub mod NamedUnread
+pub mod Interned
+pub mod NamedGiven
+pub mod NamedLaid

@@ -2,7 +2,8 @@
 use Rattle.std.proofs.Common.{◌≡◌, ℕ, Bool, true, false, cond, List, [], ◌∷◌, map, None, refl, ap, ◌∙◌, subst}
 use Rattle.std.specs.Map.Calls.{RetainsPairs}
 use Rattle.gn_scopes.specs.Layers.{VariableState}
-use Rattle.gn_scopes.specs.Chains.{is_one_of, read_variable, read_but}
+use Rattle.gn_scopes.specs.Chains.{is_one_of, read_variable, read_unless}
+use Rattle.gn_scopes.specs.Named.{name_of}
 use Rattle.gn_scopes.specs.View.{variable_state, variables_in}
 use Rattle.gn_scopes.specs.declared.variable.Variable.{Variable}
 
@@ -15,22 +16,22 @@ module _ {F K X : Type 0} (T : F → K → X → Bool → X → F → Type 0) wh
       let rest = rewritten g f h es r.3 (subst (λ u. RetainsPairs T u es r.3) a.2 r.5) in
       r.6 ∙ ap (λ b. cond b ((e.0, r.1) ∷ r.3) r.3) a.0 ∙ (λ i. (e.0, a.1 i) ∷ rest i)
 
--- a variable after a read, and after a read of all but these
+-- a variable after a read, and after a read of all but these, whose numbers stand for these names
 abbrev pub read : Variable → Variable
 read v = record v { unread = None }
 
-abbrev pub read_unless : List (List ℕ) → List ℕ → Variable → Variable
-read_unless except name v = cond (is_one_of name except) v (read v)
+abbrev pub read_but_named : List (List ℕ) → List (List ℕ) → List ℕ → Variable → Variable
+read_but_named names except number v = cond (is_one_of (name_of names number) except) v (read v)
 
 pub all_seen : (es : List (List ℕ × Variable)) → variables_in (map (λ (e : List ℕ × Variable). (e.0, read e.1)) es) ≡ map (λ (v : List ℕ × VariableState). (v.0, read_variable v.1)) (variables_in es)
 all_seen [] = refl
 all_seen (e ∷ es) = ap (λ vs. (e.0, read_variable (variable_state e.1)) ∷ vs) (all_seen es)
 
-one_seen : (name : List ℕ) (v : Variable) (b : Bool) (vs : List (List ℕ × VariableState)) → (name, variable_state (cond b v (read v))) ∷ vs ≡ cond b (name, variable_state v) (name, read_variable (variable_state v)) ∷ vs
-one_seen name v true vs = refl
-one_seen name v false vs = refl
+one_seen : (v : Variable) (b : Bool) → variable_state (cond b v (read v)) ≡ read_unless b (variable_state v)
+one_seen v true = refl
+one_seen v false = refl
 
-pub but_seen : (except : List (List ℕ)) (es : List (List ℕ × Variable)) → variables_in (map (λ (e : List ℕ × Variable). (e.0, read_unless except e.0 e.1)) es) ≡ map (read_but except) (variables_in es)
-but_seen except [] = refl
-but_seen except (e ∷ es) =
-    one_seen e.0 e.1 (is_one_of e.0 except) _ ∙ ap (λ vs. read_but except (e.0, variable_state e.1) ∷ vs) (but_seen except es)
+pub but_seen : (names except : List (List ℕ)) (es : List (List ℕ × Variable)) → variables_in (map (λ (e : List ℕ × Variable). (e.0, read_but_named names except e.0 e.1)) es) ≡ map (λ (v : List ℕ × VariableState). (v.0, read_unless (is_one_of (name_of names v.0) except) v.1)) (variables_in es)
+but_seen names except [] = refl
+but_seen names except (e ∷ es) =
+    λ i. (e.0, one_seen e.1 (is_one_of (name_of names e.0) except) i) ∷ but_seen names except es i

@@ -1,25 +1,36 @@
 -- The set of the names of a list, when one is added.
-use Rattle.std.proofs.Common.{◌≡◌, ℕ, ◌+◌, ◌<◌, Bool, true, false, cond, ◌||◌, List, length, take, get_or, sym, ap, ◌∙◌, refl}
-use Rattle.std.specs.Ordering.{nat_cmp, is_eq}
-use Rattle.std.specs.Cmp.Lexicographic.{slice_cmp, nat_list_eq_equiv}
+use Rattle.std.proofs.Common.{◌≡◌, ℕ, ◌+◌, ◌<◌, true, false, ◌||◌, if◌then◌else◌, List, [], ◌∷◌, ◌++◌, length, take, get_or, slice_get, Option, Some, None, IfSome, IfNone, is_some, refl, sym, ap, ◌∙◌}
 use Rattle.std.specs.Str.{bytes_eq}
-use Rattle.std.specs.BTreeSet.{BTreeSet, Updates}
-use Rattle.std.proofs.lemmas.List.Folds.{list_any_more}
-use Rattle.std.proofs.lemmas.Map.Text.{is_eq-slice_cmp}
+use Rattle.std.proofs.Math.Bool.{or-false}
+use Rattle.std.proofs.lemmas.List.Folds.{list_any-append, list_any_more}
+use Rattle.std.proofs.lemmas.Slice.Eq.{bytes_eq-Decides}
+use Rattle.gn_text.specs.Names.{with_name}
 use Rattle.gn_scopes.specs.Chains.{is_one_of}
 use Rattle.gn_scopes.specs.NameSets.{HasAll}
+use Rattle.gn_scopes.proofs.NamedTables.{not_lacking}
 
-one_more : (b a : Bool) → cond b true a ≡ (a || b)
-one_more true true = refl
-one_more true false = refl
-one_more false true = refl
-one_more false false = refl
+-- whether a name has a number is whether it is one of the names
+pub has_number : (table : List (List ℕ)) (name : List ℕ) (number : Option ℕ) → IfSome number (λ n. slice_get table n ≡ Some name) → IfNone number (is_one_of name table ≡ false) → is_some number ≡ is_one_of name table
+has_number table name (Some n) found lacking = sym (not_lacking table name n found)
+has_number table name None found lacking = sym lacking
 
-text_tie : (s t : List ℕ) → is_eq (slice_cmp nat_cmp s t) ≡ bytes_eq t s
-text_tie s t = is_eq-slice_cmp s t ∙ nat_list_eq_equiv.symm s t
+-- a name that is one of the names adds none
+one_again : (table : List (List ℕ)) (name q : List ℕ) → is_one_of name table ≡ true → (is_one_of q table || bytes_eq q name) ≡ is_one_of q table
+one_again table name q h =
+    elim (bytes_eq q name) as (λ b. bytes_eq q name ≡ b → (is_one_of q table || b) ≡ is_one_of q table) [
+      | true ↦ λ e. let is : is_one_of q table ≡ true = ap (λ n. is_one_of n table) ((bytes_eq-Decides q name).0 e) ∙ h in ap (λ b. b || true) is ∙ sym is
+      | false ↦ λ e. or-false (is_one_of q table)
+    ] refl
 
--- one more of the names in the set
-pub has_more : (set new : BTreeSet (List ℕ)) (names : List (List ℕ)) (i : ℕ) (name : List ℕ) → i < length names → name ≡ get_or names i name → Updates (slice_cmp nat_cmp) set new name true → HasAll set (take i names) → HasAll new (take (i + 1) names)
-has_more set new names i name l is u h q =
-    u.0 q ∙ (λ j. cond (text_tie name q j) true (h q j)) ∙ one_more (bytes_eq q name) (is_one_of q (take i names))
-    ∙ ap (λ n. is_one_of q (take i names) || bytes_eq q n) is ∙ sym (list_any_more (bytes_eq q) names i name l)
+-- the names of a table with one more
+one_more : (table : List (List ℕ)) (name q : List ℕ) → is_one_of q (with_name table name) ≡ (is_one_of q table || bytes_eq q name)
+one_more table name q =
+    elim (is_one_of name table) as (λ b. is_one_of name table ≡ b → is_one_of q (if b then table else table ++ name ∷ []) ≡ (is_one_of q table || bytes_eq q name)) [
+      | true ↦ λ e. sym (one_again table name q e)
+      | false ↦ λ e. list_any-append (bytes_eq q) table (name ∷ []) ∙ ap (λ b. is_one_of q table || b) (or-false (bytes_eq q name))
+    ] refl
+
+-- one more of the names in the table
+pub has_more : (table names : List (List ℕ)) (i : ℕ) (name : List ℕ) → i < length names → name ≡ get_or names i name → HasAll table (take i names) → HasAll (with_name table name) (take (i + 1) names)
+has_more table names i name l is h q =
+    one_more table name q ∙ (λ j. h q j || bytes_eq q (is j)) ∙ sym (list_any_more (bytes_eq q) names i name l)

@@ -25,3 +25,11 @@ module _ {T E : Type 0} where
   pub if_err_both : (r : Result T E) (P Q : E → Type 0) (R : Type 0) → ((e : E) → P e → R → Q e) → IfErr r P → OnErr r R → IfErr r Q
   if_err_both (Ok x) P Q R f p q = tt
   if_err_both (Err e) P Q R f p q = f e p q
+
+  pub always : (r : Result T E) (P : Type 0) → OnOk r P → OnErr r P → P
+  always (Ok x) P p q = p
+  always (Err e) P p q = q
+
+  pub on_err_too : (r : Result T E) (P : Type 0) → P → OnErr r P
+  on_err_too (Ok x) P p = tt
+  on_err_too (Err e) P p = p

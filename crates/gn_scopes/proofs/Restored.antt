@@ -1,5 +1,6 @@
 -- A template that is set and then given back what it had.
 use Rattle.std.proofs.Common.{◌≡◌, ℕ, List, Option, Some, None, ap}
+use Rattle.std.specs.Cmp.Lexicographic.{nat_list_cmp_total}
 use Rattle.std.specs.Map.{keys_of}
 use Rattle.std.specs.List.Sorted.{IsStrictlySortedBy}
 use Rattle.gn_values.specs.Tables.{Table, at_name}
@@ -8,10 +9,10 @@ use Rattle.gn_values.proofs.Sorted.{order}
 use Rattle.gn_scopes.specs.Layers.{LayerState}
 use Rattle.gn_scopes.specs.Templates.{with_template}
 use Rattle.gn_scopes.specs.Kept.{template_restored}
-use Rattle.gn_scopes.proofs.Undone.{put_back-with_name}
+use Rattle.gn_scopes.proofs.Undone.{put_back-set}
 
 pub restored_as_before : (name : List ℕ) (named : DefinitionName) (before : Option DefinitionName) (layer : LayerState) → IsStrictlySortedBy order (keys_of layer.templates) → before ≡ at_name name layer.templates → template_restored name before (with_template name named layer) ≡ layer
 restored_as_before name named None layer s h =
-    ap (λ (ts : Table DefinitionName). record layer { templates = ts }) (put_back-with_name name named layer.templates s None h)
+    ap (λ (ts : Table DefinitionName). record layer { templates = ts }) (put_back-set nat_list_cmp_total name named layer.templates s None h)
 restored_as_before name named (Some before) layer s h =
-    ap (λ (ts : Table DefinitionName). record layer { templates = ts }) (put_back-with_name name named layer.templates s (Some before) h)
+    ap (λ (ts : Table DefinitionName). record layer { templates = ts }) (put_back-set nat_list_cmp_total name named layer.templates s (Some before) h)

@@ -1,12 +1,11 @@
 -- What was set and is put back is as it was.
-use Rattle.std.proofs.Common.{◌≡◌, ℕ, List, [], ◌∷◌, ◌++◌, Bool, true, false, cond, Option, Some, None, refl, sym, ap, ◌∙◌}
-use Rattle.std.specs.Ordering.{nat_cmp}
-use Rattle.std.specs.Cmp.Lexicographic.{slice_cmp, nat_list_cmp_total}
+use Rattle.std.proofs.Common.{◌≡◌, List, [], ◌∷◌, ◌++◌, Bool, true, false, cond, Option, Some, None, refl, sym, ap, ◌∙◌}
+use Rattle.std.specs.declared.cmp.Ordering.{Ordering}
+use Rattle.std.specs.Cmp.{IsTotalOrder}
 use Rattle.std.specs.Map.{lookup, set_value, keys_of}
-use Rattle.std.specs.BTreeMap.{is_at}
+use Rattle.std.specs.BTreeMap.{is_at, insert_entry}
 use Rattle.std.specs.List.Sorted.{IsStrictlySortedBy}
 use Rattle.std.proofs.lemmas.Map.Steps.{set_value_same}
-use Rattle.gn_values.specs.Tables.{Table, at_name, with_name}
 use Rattle.gn_values.proofs.TakenOut.{new_gone}
 use Rattle.gn_scopes.specs.Undoing.{put_back, all_put_back}
 use Rattle.gn_scopes.proofs.Tables.{set_value-is_insert_entry}
@@ -26,13 +25,24 @@ written_twice {K} {A} test (e ∷ es) v w =
       | false ↦ λ is. ap (λ b. cond b ((e.0, w) ∷ set_value test es v) (e ∷ set_value test (set_value test es v) w)) (sym is) ∙ ap (λ (ys : List (K × A)). e ∷ ys) (written_twice test es v w)
     ] refl
 
--- what a name had before it was set, put back
-pub put_back-with_name : {A : Type 0} (name : List ℕ) (a : A) (table : Table A) → IsStrictlySortedBy (slice_cmp nat_cmp) (keys_of table) → (before : Option A) → before ≡ at_name name table → put_back name before (with_name name a table) ≡ table
-put_back-with_name name a table s None h = new_gone nat_list_cmp_total name a table (sym h)
-put_back-with_name name a table s (Some b) h =
-    let test : List ℕ → Bool = is_at (slice_cmp nat_cmp name) in
-    ap (λ es. set_value test es b) (sym (set_value-is_insert_entry nat_list_cmp_total name b a table s (sym h))) ∙ written_twice test table a b ∙ set_value_same test table b (sym h)
+pub all_put_back-push : {K A : Type 0} (cmp : K → K → Ordering) (bs : List (K × Option A)) (b : K × Option A) (es : List (K × A)) → all_put_back cmp (bs ++ b ∷ []) es ≡ all_put_back cmp bs (put_back cmp b.0 b.1 es)
+all_put_back-push cmp [] b es = refl
+all_put_back-push cmp (d ∷ bs) b es = ap (put_back cmp d.0 d.1) (all_put_back-push cmp bs b es)
 
-pub all_put_back-push : {A : Type 0} (bs : List (List ℕ × Option A)) (b : List ℕ × Option A) (table : Table A) → all_put_back (bs ++ b ∷ []) table ≡ all_put_back bs (put_back b.0 b.1 table)
-all_put_back-push [] b table = refl
-all_put_back-push (d ∷ bs) b table = ap (put_back d.0 d.1) (all_put_back-push bs b table)
+-- one more key that is put back, the last of those that are left
+pub one_less_back : {K A : Type 0} (cmp : K → K → Ordering) (all rest : List (K × Option A)) (b : K × Option A) (es after whole : List (K × A)) → all ≡ rest ++ b ∷ [] → after ≡ put_back cmp b.0 b.1 es → all_put_back cmp all es ≡ whole → all_put_back cmp rest after ≡ whole
+one_less_back cmp all rest b es after whole last put h =
+    ap (all_put_back cmp rest) put ∙ sym (all_put_back-push cmp rest b es) ∙ ap (λ bs. all_put_back cmp bs es) (sym last) ∙ h
+
+-- what a key had before it was set, put back
+module _ {K A : Type 0} {cmp : K → K → Ordering} (total : IsTotalOrder cmp) where
+  pub put_back-set : (k : K) (a : A) (es : List (K × A)) → IsStrictlySortedBy cmp (keys_of es) → (before : Option A) → before ≡ lookup (is_at (cmp k)) es → put_back cmp k before (insert_entry cmp es k a) ≡ es
+  put_back-set k a es s None h = new_gone total k a es (sym h)
+  put_back-set k a es s (Some b) h =
+      let test : K → Bool = is_at (cmp k) in
+      ap (λ ys. set_value test ys b) (sym (set_value-is_insert_entry total k b a es s (sym h))) ∙ written_twice test es a b ∙ set_value_same test es b (sym h)
+
+  -- one more key that is set, by a copy of it, with what it had behind those before
+  pub one_more_back : (bs : List (K × Option A)) (k j : K) (a : A) (es : List (K × A)) (before : Option A) → IsStrictlySortedBy cmp (keys_of es) → j ≡ k → before ≡ lookup (is_at (cmp j)) es → all_put_back cmp (bs ++ (k, before) ∷ []) (insert_entry cmp es k a) ≡ all_put_back cmp bs es
+  one_more_back bs k j a es before s same h =
+      all_put_back-push cmp bs (k, before) (insert_entry cmp es k a) ∙ ap (all_put_back cmp bs) (put_back-set k a es s before (h ∙ ap (λ x. lookup (is_at (cmp x)) es) same))

@@ -87,9 +87,13 @@ chain_left chain = ended chain.outer
 abbrev pub is_one_of : List ℕ → List (List ℕ) → Bool
 is_one_of name names = list_any (bytes_eq name) names
 
+-- a variable that something has read, unless it is kept from that
+abbrev pub read_unless : Bool → VariableState → VariableState
+read_unless kept v = if kept then v else read_variable v
+
 -- a variable after a read of all names but these
 abbrev pub read_but : List (List ℕ) → List ℕ × VariableState → List ℕ × VariableState
-read_but except v = if is_one_of v.0 except then v else (v.0, read_variable v.1)
+read_but except v = (v.0, read_unless (is_one_of v.0 except) v.1)
 
 -- the layer after a read of all its names but these
 abbrev pub all_read_but : List (List ℕ) → LayerState → LayerState

@@ -1,6 +1,6 @@
 -- The environment of an evaluation: the layers of its scopes, what stands beneath them, and where it takes place. Each word here is what one
 -- kind of step does to it.
-use Rattle.std.specs.Prelude.{ℕ, Bool, false, List, [], ◌∷◌, ◌++◌, Option, Some, None, Result, Ok, Err}
+use Rattle.std.specs.Prelude.{ℕ, Bool, List, [], ◌∷◌, ◌++◌, Option, Some, None, Result, Ok, Err}
 use Rattle.gn_tree.specs.declared.position.Position.{Position}
 use Rattle.gn_tree.specs.declared.operator.AssignOp.{AssignOp}
 use Rattle.gn_items.specs.declared.stage.Stage.{Stage}

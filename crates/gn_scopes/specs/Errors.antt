@@ -5,6 +5,7 @@ use Rattle.gn_values.specs.declared.error.ValueError.{ValueError}
 use Rattle.gn_values.specs.declared.error.ElementError.{ElementError}
 use Rattle.gn_tree.specs.declared.position.Position.{Position}
 use Rattle.gn_values.specs.declared.error.ElementError.TheVariants.{Subscript as SubscriptRefused, Operator as OperatorRefused}
+use Rattle.gn_scopes.specs.Named.{key}
 use Rattle.gn_scopes.specs.Assigning.{Refusal, replaces_nonempty, has_no_value, operator_refuses, ElementRefusal, base_has_no_value, element_refuses}
 use Rattle.gn_scopes.specs.declared.error.AssignError.{AssignError}
 use Rattle.gn_scopes.specs.declared.error.AssignError.TheVariants.{Overwrite, Undefined, Value, Memory}
@@ -46,5 +47,5 @@ scope_refusal_of NoRoom = None
 
 -- the error reports what the end of a scope finds
 abbrev pub IsReport : ScopeError → Option (List ℕ × Position) → Type 0
-IsReport (NoEffect name position) found = found ≡ Some (name, position)
+IsReport (NoEffect name position) found = found ≡ Some (key name, position)
 IsReport _ found = ⊥

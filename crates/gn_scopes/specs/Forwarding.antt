@@ -1,5 +1,5 @@
 -- `forward_variables_from` and `not_needed`.
-use Rattle.std.specs.Prelude.{ℕ, Bool, true, false, ◌&&◌, not, if◌then◌else◌, List, [], ◌∷◌, filter, Option, Some, None, is_some, Result, Ok, Err, codes}
+use Rattle.std.specs.Prelude.{ℕ, Bool, ◌&&◌, not, if◌then◌else◌, List, [], ◌∷◌, filter, Option, Some, None, is_some, Result, Ok, Err, codes}
 use Rattle.std.specs.List.{find}
 use Rattle.gn_values.specs.Val.{Val}
 use Rattle.gn_values.specs.Tables.{Table, at_name}

@@ -1,11 +1,11 @@
 -- What an import leaves, and what merging it does.
-use Rattle.std.specs.Prelude.{◌≡◌, ℕ, Bool, true, false, ◌||◌, not, nat_eq, if◌then◌else◌, List, [], ◌∷◌, filter, Option, Some, None, Result, Ok, Err}
+use Rattle.std.specs.Prelude.{ℕ, Bool, true, false, not, nat_eq, if◌then◌else◌, List, [], ◌∷◌, filter, Option, Some, None, Result, Ok, Err}
 use Rattle.std.specs.Ordering.{nat_cmp, is_lt}
 use Rattle.std.specs.Cmp.Lexicographic.{slice_cmp}
 use Rattle.gn_values.specs.Val.{Val, vscope, binds_of}
 use Rattle.gn_values.specs.Equal.{equals}
 use Rattle.gn_values.specs.Tables.{Table, at_name, with_name, with_names, with_new_names}
-use Rattle.gn_values.specs.Imported.{ScopeState, DefinitionState, MadeBy, ImportState}
+use Rattle.gn_values.specs.Imported.{ScopeState, DefinitionState, ImportState}
 use Rattle.gn_values.specs.declared.kept.DefinitionName.{DefinitionName}
 use Rattle.gn_scopes.specs.Layers.{VariableState, LayerState, values_in}
 use Rattle.gn_scopes.specs.Chains.{variable_in}

@@ -1,4 +1,5 @@
 pub mod Layers
+pub mod Named
 pub mod Chains
 pub mod Assigning
 pub mod Unread

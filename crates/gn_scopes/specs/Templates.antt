@@ -1,5 +1,5 @@
 -- Templates: what a definition keeps, which one a name means, and the scopes in which a call's block and its body run.
-use Rattle.std.specs.Prelude.{ℕ, suc, ◌+◌, Bool, ◌&&◌, not, true, nat_eq, if◌then◌else◌, List, [], ◌∷◌, ◌++◌, map, length, Option, Some, None, Result, Ok, Err, is_some, slice_get, codes}
+use Rattle.std.specs.Prelude.{ℕ, Bool, ◌&&◌, not, true, nat_eq, if◌then◌else◌, List, [], ◌∷◌, ◌++◌, map, length, Option, Some, None, Result, Ok, Err, is_some, slice_get, codes}
 use Rattle.std.specs.List.{list_any}
 use Rattle.std.specs.Str.{bytes_eq}
 use Rattle.gn_paths.specs.declared.place.Place.{Place}
@@ -12,7 +12,7 @@ use Rattle.gn_values.specs.declared.kept.DefinitionName.{DefinitionName}
 use Rattle.gn_scopes.specs.Layers.{LayerState, ChainState, empty_layer, values_in}
 use Rattle.gn_scopes.specs.Chains.{nearest, chain_left, chain_all_read, all_read}
 use Rattle.gn_scopes.specs.Unread.{reported}
-use Rattle.gn_scopes.specs.Environment.{Setting, Caller, Environment, behind, kept_by, entries_here, variable_here, entered, given}
+use Rattle.gn_scopes.specs.Environment.{Caller, Environment, behind, kept_by, entries_here, variable_here, entered, given}
 
 -- the layers, the innermost first
 abbrev pub layers_of : Environment → List LayerState

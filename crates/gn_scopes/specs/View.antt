@@ -2,6 +2,7 @@
 use Rattle.std.specs.Prelude.{ℕ, List, map}
 use Rattle.gn_values.specs.Val.{Val}
 use Rattle.gn_values.specs.View.{val_of}
+use Rattle.gn_values.specs.declared.value.Value.{Value}
 use Rattle.gn_scopes.specs.declared.variable.Variable.{Variable}
 use Rattle.gn_values.specs.Tables.{Table}
 use Rattle.gn_scopes.specs.Layers.{VariableState}
@@ -15,3 +16,7 @@ variables_in es = map (λ (e : List ℕ × Variable). (e.0, variable_state e.1))
 -- a name with the value that a variable has
 abbrev pub pair_value : List ℕ × Variable → List ℕ × Val
 pair_value e = (e.0, val_of e.1.value)
+
+-- names with the values that these stand for
+abbrev pub value_pairs : List (List ℕ × Value) → Table Val
+value_pairs es = map (λ (e : List ℕ × Value). (e.0, val_of e.1)) es

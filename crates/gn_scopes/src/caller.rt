@@ -1,6 +1,6 @@
 // The callers of templates whose bodies run.
 
-use crate::scopes::Scopes;
+use crate::named_scopes::NamedScopes;
 use gn_paths::Text;
 use gn_values::Definition;
 use std::marker::Model;
@@ -10,7 +10,7 @@ use std::sync::Arc;
 /// the file.
 #[derive(Drop)]
 pub(crate) struct Caller {
-    pub(crate) scopes: Scopes,
+    pub(crate) scopes: NamedScopes,
     pub(crate) body: Option<Arc<Definition>>,
     pub(crate) file: Text,
 }

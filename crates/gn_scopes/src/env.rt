@@ -7,14 +7,13 @@ ghost use Rattle.gn_values.specs.View.{val_of};
 ghost use Rattle.gn_scopes.specs.Environment.{new_environment, fixed_value, kept_by, value_of, after_read, after_assignment, after_assignment_over, after_element_assignment, after_element_assignment_over, entered, left, entries_here, reported_here, variable_here, restored, given, in_item};
 ghost use Rattle.gn_scopes.specs.Faults.{fault_in};
 ghost use Rattle.gn_scopes.specs.Errors.{refusal_of, element_refusal_of};
-ghost use Rattle.gn_scopes.specs.Found.{IsFound};
 ghost use Rattle.gn_scopes.specs.Lending.{Ends};
 ghost use Rattle.gn_scopes.specs.View.{variable_state};
 ghost use Rattle.gn_scopes.specs.contracts.env.Env.{the_row};
 
 use crate::caller::Caller;
 use crate::error::{AssignError, ElementAssignError};
-use crate::scopes::{Found, Scopes};
+use crate::named_scopes::NamedScopes;
 use crate::variable::Variable;
 use gn_items::{Code, Fault, FileKind, Stage};
 use gn_paths::{Path, Place, Text, Texts};
@@ -38,7 +37,7 @@ pub struct Env {
     pub(crate) directory: Path,
     pub(crate) kind: FileKind,
     pub(crate) in_item: bool,
-    pub(crate) scopes: Scopes,
+    pub(crate) scopes: NamedScopes,
     pub(crate) body: Option<Arc<Definition>>,
     pub(crate) callers: VecDeque<Caller>,
     pub(crate) beneath: Vec<Arc<KeptScope>>,
@@ -100,7 +99,7 @@ impl Env {
             directory,
             kind,
             in_item: false,
-            scopes: Scopes::new(alloc, checked),
+            scopes: NamedScopes::new(alloc, checked),
             body: None,
             callers: VecDeque::new(alloc),
             beneath,
@@ -174,8 +173,8 @@ impl Env {
             (λ env. env ≡ after_read name.now self.old)) }
         ensures value { option_map (λ v. val_of v.now) result ≡ value_of name.now self.old }
     {
-        let found = self.mark(name);
-        self.value_at(name, found)
+        self.mark(name);
+        self.value(name)
     }
 
     /// `name = value`, `name += value` or `name -= value`, whose operator stands at the position. `Overwrite` comes
@@ -294,7 +293,7 @@ impl Env {
     pub fn leave(&mut self)
         ensures new { self.new ≡ left self.old }
     {
-        let _layer = self.scopes.end();
+        self.scopes.leave();
     }
 
     /// Ends the innermost scope, and answers the names that were set in it with their values, which aren't copied.
@@ -308,18 +307,18 @@ impl Env {
             → (e ≡ ValueError.TooLong) × (scope_fits (entries_here self.old) ≡ false)) }
         ensures new { self.new ≡ left self.old }
     {
-        let layer = self.scopes.end();
-        layer.into_entries(alloc)
+        let bindings = self.scopes.leave_with_bindings(alloc)?;
+        Entries::from_bindings(bindings)
     }
 
     /// What the end of the innermost scope reports: the name that nothing read and whose last assignment stands first,
     /// and where that stands. None comes exactly where the scope isn't checked or every name was read. It takes no
     /// memory.
     #[tactic(auto, unfolding(crate::specs::Environment::reported_here))]
-    pub fn unread(&self) -> Option<(&Text, Position)>
+    pub fn unread(&self) -> Option<(&[u8], Position)>
         ensures { option_map (λ p. (p.0.now, p.1)) result ≡ reported_here self.now }
     {
-        self.scopes.innermost().unread()
+        self.scopes.unread()
     }
 
     /// Takes a name out of the innermost scope, and answers what it stood for there. It takes no memory.
@@ -345,7 +344,7 @@ impl Env {
         ensures err { OnErr result (self.new ≡ self.old) }
     {
         match variable {
-            Some(variable) => self.scopes.put(name.copy(alloc)?, variable),
+            Some(variable) => self.scopes.put(name, variable),
             None => {
                 let _gone = self.scopes.take(name);
                 Ok(())
@@ -391,22 +390,20 @@ impl Env {
         })
     }
 
-    // A read of a name that it may have, and where in the scopes it is.
+    // A read of a name that it may have.
     #[tactic(auto, unfolding(crate::specs::Environment::after_read))]
-    fn mark(&mut self, name: &Text) -> Found
-        ensures new { self.new ≡ after_read name.now self.old }
-        ensures found { IsFound name.now self.new.chain result }
+    fn mark(&mut self, name: &Text)
+        ensures { self.new ≡ after_read name.now self.old }
     {
-        self.scopes.mark(name)
+        self.scopes.mark(name);
     }
 
-    // The value of a name that is there in the scopes, or else beneath them.
+    // The value of a name in the scopes, or else behind them.
     #[tactic(auto, unfolding(crate::specs::Environment::value_of))]
-    fn value_at(&self, name: &Text, found: Found) -> Option<&Value>
-        requires { IsFound name.now self.now.chain found }
+    fn value(&self, name: &Text) -> Option<&Value>
         ensures { option_map (λ v. val_of v.now) result ≡ value_of name.now self.now }
     {
-        match self.scopes.value_at(name, found) {
+        match self.scopes.value(name) {
             Some(value) => Some(value),
             None => behind_value(&self.body, &self.beneath, name),
         }

@@ -1,10 +1,10 @@
 // Why an assignment is refused, and what the end of a scope reports.
 
-ghost use Rattle.std.specs.Prelude.{◌≡◌, ◌≢◌, ℕ, List, Err};
+ghost use Rattle.std.specs.Prelude.{◌≡◌, ◌≢◌, ℕ, Err};
 ghost use Rattle.gn_tree.specs.declared.position.Position.{Position};
 ghost use Rattle.gn_scopes.specs.Errors.{refusal_of, scope_refusal_of, IsRefusalOf, IsElementRefusalOf};
 
-use gn_paths::Text;
+use gn_text::Name;
 use gn_tree::Position;
 use gn_values::{ElementError, ValueError};
 use std::alloc::AllocError;
@@ -87,8 +87,9 @@ impl ElementAssignError {
 /// What the layers of scopes refuse.
 #[derive(Debug, Drop)]
 pub enum ScopeError {
-    /// At the end of a checked scope: the unread name whose last assignment stands first, and where that stands.
-    NoEffect(Text, Position),
+    /// At the end of a checked scope: the number of the unread name whose last assignment stands first, and where that
+    /// stands.
+    NoEffect(Name, Position),
     /// `=` would replace a nonempty list by a nonempty list, or a nonempty scope by a nonempty scope.
     Overwrite,
     /// `+=` and `-=` find no value of the name.
@@ -114,7 +115,7 @@ impl ScopeError {
     /// The error for what an assignment refuses.
     pub(crate) fn of_assignment(error: AssignError) -> ScopeError
         ensures refusal { scope_refusal_of result ≡ refusal_of error }
-        ensures kind { (n : List ℕ) (p : Position) → result ≢ ScopeError.NoEffect n p }
+        ensures kind { (n : ℕ) (p : Position) → result ≢ ScopeError.NoEffect n p }
     {
         match error {
             AssignError::Overwrite => ScopeError::Overwrite,

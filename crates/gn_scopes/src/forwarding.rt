@@ -9,9 +9,9 @@ ghost use Rattle.gn_scopes.specs.Giving.{entries_but, entries_at, read_at, read_
 ghost use Rattle.gn_scopes.specs.Origins.{origin_of, name_set};
 
 use crate::caller::Caller;
+use crate::copies::copied_but;
 use crate::env::Env;
 use crate::invoker::{caller_value, read_at_caller};
-use crate::layer_reads::is_kept_back;
 use crate::name_set::NameSet;
 use gn_paths::{Text, Texts};
 use gn_values::{Entries, Entry, Value};
@@ -160,7 +160,7 @@ impl Env {
     {
         let mut chosen = Vec::new(alloc);
         for name in names.as_slice() {
-            if !except.has(name) && self.origin_value(from, name).is_some() {
+            if !except.has(name.as_bytes()) && self.origin_value(from, name).is_some() {
                 chosen.push(name)?;
             }
         }
@@ -173,7 +173,7 @@ impl Env {
             ≡ find (is_set_here self.now) (map (λ n. n.now) names.now) }
     {
         for name in names {
-            if self.scopes.innermost().has(name) {
+            if self.scopes.has_here(name) {
                 return Some(name);
             }
         }
@@ -222,24 +222,6 @@ impl Env {
     }
 }
 
-// Copies of entries, but for `target_name` and the excepted ones.
-fn copied_but(
-    alloc: Global,
-    entries: &[Entry],
-    except: &NameSet<'_>,
-) -> Result<Vec<Entry>, AllocError>
-    ensures { IfOk result (λ copies. map entry_of copies.items
-        ≡ entries_but (target_name ∷ except.now) (map entry_of entries.now)) }
-{
-    let mut copies = Vec::new(alloc);
-    for entry in entries {
-        if !is_kept_back(&entry.name, except) {
-            copies.push(entry.copy(alloc)?)?;
-        }
-    }
-    Ok(copies)
-}
-
 // Copies of what stands directly in the block of the innermost caller's call, but for `target_name` and the excepted names.
 fn block_but(
     alloc: Global,
@@ -250,7 +232,7 @@ fn block_but(
         ≡ entries_but (target_name ∷ except.now) (entries_by callers.now.items)) }
 {
     match callers.front() {
-        Some(caller) => caller.scopes.innermost().copied_but(alloc, except),
+        Some(caller) => caller.scopes.copies_here_but(alloc, except),
         None => Ok(Vec::new(alloc)),
     }
 }

@@ -1,12 +1,14 @@
 // What an import leaves, and merging it.
 
 ghost use Rattle.std.specs.Prelude.{◌≡◌, IfOk, OnOk, OnErr, IfErr, IfSome, option_map};
-ghost use Rattle.gn_scopes.specs.Imports.{import_left, merged, merged_known, conflict_in, lesser, first_name, other_template, same_definition};
+ghost use Rattle.gn_values.specs.Tables.{with_name};
+ghost use Rattle.gn_scopes.specs.Imports.{import_left, scope_left, merged, merged_known, conflict_in, lesser, first_name, other_template, same_definition};
 ghost use Rattle.gn_scopes.specs.Conflicts.{conflict_of};
 
 use crate::env::Env;
+use crate::named_scopes::NamedScopes;
 use gn_paths::Text;
-use gn_values::{Definition, DefinitionName, ImportValue};
+use gn_values::{Definition, DefinitionName, Definitions, ImportValue, MadeBy};
 use std::alloc::{AllocError, Global};
 use std::collections::BTreeMap;
 use std::sync::Arc;
@@ -35,8 +37,8 @@ impl Env {
     /// Merges what an import left into the innermost scope: its variables, which count as read, its templates and its
     /// defaults; the environment knows its definitions from then on. `Conflict` comes exactly where the scope has a
     /// variable with another value, a template with a definition at another place, or other defaults, and names the
-    /// first such name. After a refusal nothing is changed. The work is n log n, where n counts the names merged and the
-    /// executions whose definitions the import knows, and the logarithm is of all names and executions.
+    /// first such name. After a refusal nothing is changed. The work is n log n, where n counts the names merged and
+    /// the executions whose definitions the import knows, and the logarithm is of all names and executions.
     #[tactic(auto, unfolding(crate::specs::Imports::merged))]
     pub fn merge(&mut self, alloc: Global, value: &ImportValue) -> Result<(), MergeError>
         ensures ok { OnOk result (merged value.now self.old ≡ Ok self.new) }
@@ -74,16 +76,13 @@ impl Env {
     pub fn import_value(self, alloc: Global) -> Result<ImportValue, AllocError>
         ensures { IfOk result (λ value. value ≡ import_left self) }
     {
-        let Env {
-            mut scopes,
-            execution,
-            made,
-            mut definitions,
-            ..
-        } = self;
-        let scope = scopes.end().into_public(alloc)?;
-        definitions.set(execution, Arc::new(alloc, made)?)?;
-        ImportValue::new(alloc, scope, definitions)
+        import_left(
+            alloc,
+            self.scopes,
+            self.execution,
+            self.made,
+            self.definitions,
+        )
     }
 
     // The first name at which the innermost scope has something else than the import.
@@ -92,10 +91,9 @@ impl Env {
             ≡ conflict_in value.now self.now self.now.chain.inner }
     {
         let scope = value.scope();
-        let layer = self.scopes.innermost();
-        let variable = layer.other_value(scope.variables());
+        let variable = self.scopes.other_value(scope.variables());
         let template = self.other_template(scope.templates());
-        let defaults = layer.other_defaults(scope.defaults());
+        let defaults = self.scopes.innermost().other_defaults(scope.defaults());
         lesser(variable, lesser(template, defaults))
     }
 
@@ -122,6 +120,24 @@ impl Env {
             None => false,
         }
     }
+}
+
+// What is left of these layers, with the definitions that are known, among them those that the execution made.
+fn import_left(
+    alloc: Global,
+    scopes: NamedScopes,
+    execution: Text,
+    made: Definitions,
+    definitions: MadeBy,
+) -> Result<ImportValue, AllocError>
+    ensures { IfOk result (λ value. value
+        ≡ record { scope = scope_left scopes.inner; definitions = with_name execution made definitions }) }
+{
+    let mut scopes = scopes;
+    let mut definitions = definitions;
+    let scope = scopes.leave_public(alloc)?;
+    definitions.set(execution, Arc::new(alloc, made)?)?;
+    ImportValue::new(alloc, scope, definitions)
 }
 
 // Whether two definitions stand at one place.

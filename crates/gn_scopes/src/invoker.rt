@@ -12,7 +12,6 @@ ghost use Rattle.gn_scopes.specs.Invoker.{names_invoker, entries_by, invoker_ent
 use crate::caller::Caller;
 use crate::env::Env;
 use crate::name_set::NameSet;
-use crate::scopes::{Scopes, outer_value};
 use gn_paths::{Text, Texts};
 use gn_values::{Definition, Entries, Value, ValueError};
 use std::alloc::{AllocError, Global};
@@ -51,7 +50,7 @@ impl Env {
         ensures { option_map (λ v. val_of v.now) result ≡ invoker_entry name.now self.now }
     {
         let caller = self.callers.front()?;
-        caller.scopes.innermost().value(name)
+        caller.scopes.value_here(name)
     }
 
     /// A read of all names of the invoker. It takes no memory.
@@ -113,19 +112,6 @@ impl Caller {
     }
 }
 
-impl Scopes {
-    /// The value of a name. None comes exactly where no layer has it. It takes no memory.
-    #[tactic(auto, unfolding(crate::specs::Chains::chain_value))]
-    pub(crate) fn value(&self, name: &Text) -> Option<&Value>
-        ensures { option_map (λ v. val_of v.now) result ≡ chain_value name.now self.now }
-    {
-        match self.inner.value(name) {
-            Some(value) => Some(value),
-            None => outer_value(&self.outer, name),
-        }
-    }
-}
-
 // What the body keeps at a name.
 fn kept_value<'a>(body: &'a Option<Arc<Definition>>, name: &Text) -> Option<&'a Value>
     ensures { option_map (λ v. val_of v.now) result
@@ -153,7 +139,7 @@ pub(crate) fn read_at_caller(callers: &mut VecDeque<Caller>, name: &Text)
     ensures { callers.new.items ≡ with_caller (chain_read name.now) callers.old.items }
 {
     if let Some(caller) = callers.front_mut() {
-        let _found = caller.scopes.mark(name);
+        caller.scopes.mark(name);
     }
 }
 
@@ -166,7 +152,7 @@ fn block_entries(callers: &VecDeque<Caller>, alloc: Global) -> Result<Entries, V
         → (e ≡ ValueError.TooLong) × (scope_fits (entries_by callers.now.items) ≡ false)) }
 {
     match callers.front() {
-        Some(caller) => caller.scopes.innermost().copied_entries(alloc),
+        Some(caller) => Entries::from_bindings(caller.scopes.copies_here(alloc)?),
         None => Ok(Entries::new(alloc)),
     }
 }

@@ -12,6 +12,7 @@ ghost use Rattle.gn_scopes.specs.Unread.{reported, first_unread_of, earlier, unr
 ghost use Rattle.gn_scopes.specs.View.{variable_state, variables_in};
 
 use crate::error::{AssignError, ElementAssignError};
+use crate::key::Key;
 use crate::variable::Variable;
 use gn_paths::Text;
 use gn_tree::{AssignOp, Position};
@@ -20,11 +21,11 @@ use std::alloc::{AllocError, Global};
 use std::collections::BTreeMap;
 use std::marker::Model;
 
-/// The names that one scope has: its variables, its templates by the names of their definitions, and the defaults of
-/// each kind of call. Where it is checked, its end reports a name that nothing reads.
+/// The names that one scope has: its variables by the numbers of their names, its templates by the names of their
+/// definitions, and the defaults of each kind of call. Where it is checked, its end reports a name that nothing reads.
 #[derive(Debug, Drop)]
 pub struct Layer {
-    pub(crate) variables: BTreeMap<Text, Variable>,
+    pub(crate) variables: BTreeMap<Key, Variable>,
     pub(crate) templates: BTreeMap<Text, DefinitionName>,
     pub(crate) defaults: BTreeMap<Text, Bindings>,
     pub(crate) checked: bool,
@@ -57,14 +58,14 @@ impl Layer {
     }
 
     /// What a name stands for. None comes exactly where the layer has nothing at it.
-    pub(crate) fn get(&self, name: &Text) -> Option<&Variable>
+    pub(crate) fn get(&self, name: &Key) -> Option<&Variable>
         ensures { option_map (λ v. variable_state v.now) result ≡ variable_in name.now self.now }
     {
         self.variables.get(name)
     }
 
     /// The value of a name. None comes exactly where the layer has nothing at it.
-    pub(crate) fn value(&self, name: &Text) -> Option<&Value>
+    pub(crate) fn value(&self, name: &Key) -> Option<&Value>
         ensures { option_map (λ v. val_of v.now) result
             ≡ option_map (λ v. v.value) (variable_in name.now self.now) }
     {
@@ -73,7 +74,7 @@ impl Layer {
     }
 
     /// A read of a name that the layer may have, and whether it has it. It takes no memory.
-    pub(crate) fn mark(&mut self, name: &Text) -> bool
+    pub(crate) fn mark(&mut self, name: &Key) -> bool
         ensures found { result ≡ is_some (variable_in name.now self.old) }
         ensures read { self.new ≡ read_in name.now self.old }
         ensures stays { result ≡ is_some (variable_in name.now self.new) }
@@ -86,7 +87,7 @@ impl Layer {
     }
 
     /// Sets what a name stands for. After want of memory the layer is as before.
-    pub(crate) fn put(&mut self, name: Text, variable: Variable) -> Result<(), AllocError>
+    pub(crate) fn put(&mut self, name: Key, variable: Variable) -> Result<(), AllocError>
         ensures ok { OnOk result
             (self.new ≡ set_in name (Some (variable_state variable)) self.old) }
         ensures err { OnErr result (self.new ≡ self.old) }
@@ -96,7 +97,7 @@ impl Layer {
     }
 
     /// Takes a name away, and answers what it stood for. It takes no memory.
-    pub(crate) fn take(&mut self, name: &Text) -> Option<Variable>
+    pub(crate) fn take(&mut self, name: &Key) -> Option<Variable>
         ensures value { option_map variable_state result ≡ variable_in name.now self.old }
         ensures new { self.new ≡ set_in name.now None self.old }
     {
@@ -104,7 +105,7 @@ impl Layer {
     }
 
     /// Whether the layer has a name.
-    pub(crate) fn has(&self, name: &Text) -> bool
+    pub(crate) fn has(&self, name: &Key) -> bool
         ensures { result ≡ is_some (variable_in name.now self.now) }
     {
         self.variables.contains_key(name)
@@ -114,8 +115,7 @@ impl Layer {
     /// the value is dropped.
     pub(crate) fn put_assigned(
         &mut self,
-        alloc: Global,
-        name: &Text,
+        name: &Key,
         value: Value,
         position: Position,
     ) -> Result<(), AllocError>
@@ -124,19 +124,17 @@ impl Layer {
             (self.new ≡ put name.now (val_of value) position self.old) }
         ensures err { OnErr result (self.new ≡ self.old) }
     {
-        let name = name.copy(alloc)?;
         let variable = Variable {
             value,
             unread: Some(position),
         };
-        self.put(name, variable)
+        self.put(Key::new(name.number()), variable)
     }
 
     /// `name = value`. After a refusal the layer is as before, and the value is dropped.
     pub(crate) fn overwrite(
         &mut self,
-        alloc: Global,
-        name: &Text,
+        name: &Key,
         value: Value,
         position: Position,
     ) -> Result<(), AssignError>
@@ -148,7 +146,7 @@ impl Layer {
         ensures err { OnErr result (self.new ≡ self.old) }
     {
         let Some(variable) = self.variables.get_mut(name) else {
-            self.put_assigned(alloc, name, value, position)?;
+            self.put_assigned(name, value, position)?;
             return Ok(());
         };
         variable.overwrite(value, position)
@@ -158,7 +156,7 @@ impl Layer {
     pub(crate) fn combine(
         &mut self,
         alloc: Global,
-        name: &Text,
+        name: &Key,
         op: AssignOp,
         value: Value,
         position: Position,
@@ -182,7 +180,7 @@ impl Layer {
     pub(crate) fn assign_element(
         &mut self,
         alloc: Global,
-        name: &Text,
+        name: &Key,
         at: &Value,
         op: AssignOp,
         value: Value,
@@ -204,112 +202,4 @@ impl Layer {
         };
         variable.assign_element(alloc, at, op, value, position)
     }
-
-    /// The names with their values, which aren't copied. `TooLong` comes exactly where they would nest too deep for a
-    /// scope's value.
-    pub(crate) fn into_entries(self, alloc: Global) -> Result<Entries, ValueError>
-        ensures ok { IfOk result (λ entries. entries ≡ values_in self) }
-        ensures fits { OnOk result (scope_fits (values_in self) ≡ true) }
-        ensures refused { IfErr result
-            (λ e. e ≢ ValueError.Memory
-            → (e ≡ ValueError.TooLong) × (scope_fits (values_in self) ≡ false)) }
-    {
-        Entries::from_bindings(self.into_bindings(alloc)?)
-    }
-
-    /// What the end of the layer reports: the unread name whose last assignment stands first, and where that stands.
-    /// None comes exactly where the layer isn't checked or every name was read. It takes no memory.
-    #[tactic(auto, unfolding(crate::specs::Unread::reported))]
-    pub fn unread(&self) -> Option<(&Text, Position)>
-        ensures { option_map (λ p. (p.0.now, p.1)) result ≡ reported self.now }
-    {
-        if !self.checked {
-            return None;
-        }
-        first_unread(&self.variables)
-    }
-
-    /// What `unread` answers, of a layer that is spent. It takes no memory.
-    #[tactic(auto, unfolding(crate::specs::Unread::reported))]
-    pub(crate) fn into_unread(self) -> Option<(Text, Position)>
-        ensures { result ≡ reported self }
-    {
-        if !self.checked {
-            return None;
-        }
-        into_first_unread(self.variables)
-    }
-}
-
-// The same, of variables that are spent.
-fn into_first_unread(variables: BTreeMap<Text, Variable>) -> Option<(Text, Position)>
-    ensures { result ≡ first_unread_of (variables_in variables.entries) }
-{
-    let mut first = None;
-    for (name, variable) in variables {
-        first = into_earlier(first, name, variable.unread);
-    }
-    first
-}
-
-fn into_earlier(
-    first: Option<(Text, Position)>,
-    name: Text,
-    unread: Option<Position>,
-) -> Option<(Text, Position)>
-    ensures { result ≡ earlier first (unread_at name unread) }
-{
-    match (first, unread) {
-        (None, None) => None,
-        (None, Some(position)) => Some((name, position)),
-        (Some(first), None) => Some(first),
-        (Some(first), Some(position)) => {
-            if stands_before(position, first.1) {
-                Some((name, position))
-            } else {
-                Some(first)
-            }
-        }
-    }
-}
-
-// The unread name whose last assignment stands first.
-fn first_unread(variables: &BTreeMap<Text, Variable>) -> Option<(&Text, Position)>
-    ensures { option_map (λ p. (p.0.now, p.1)) result
-        ≡ first_unread_of (variables_in variables.now.entries) }
-{
-    let mut first = None;
-    for (name, variable) in variables {
-        first = earlier(first, name, variable.unread);
-    }
-    first
-}
-
-// Of a name at a position and a name that may be unread the one whose position stands first.
-fn earlier<'a>(
-    first: Option<(&'a Text, Position)>,
-    name: &'a Text,
-    unread: Option<Position>,
-) -> Option<(&'a Text, Position)>
-    ensures { option_map (λ p. (p.0.now, p.1)) result
-        ≡ earlier (option_map (λ p. (p.0.now, p.1)) first.entry) (unread_at name.now unread) }
-{
-    match (first, unread) {
-        (None, None) => None,
-        (None, Some(position)) => Some((name, position)),
-        (Some(first), None) => Some(first),
-        (Some(first), Some(position)) => {
-            if stands_before(position, first.1) {
-                Some((name, position))
-            } else {
-                Some(first)
-            }
-        }
-    }
-}
-
-fn stands_before(position: Position, other: Position) -> bool
-    ensures { result ≡ stands_before position other }
-{
-    position.line < other.line || (position.line == other.line && position.column < other.column)
 }

@@ -1,47 +1,64 @@
-// What merging an import does to one layer, and what an import leaves of it.
+// What merging an import does to one layer.
 
 ghost use Rattle.std.specs.Prelude.{◌≡◌, ◌↔◌, IsTrue, IfOk, OnOk, OnErr, option_map};
 ghost use Rattle.gn_values.specs.Tables.{with_names};
-ghost use Rattle.gn_values.specs.View.{entry_of};
-ghost use Rattle.gn_scopes.specs.View.{variables_in};
+ghost use Rattle.gn_scopes.specs.Templates.{in_block};
+ghost use Rattle.gn_scopes.specs.View.{variables_in, value_pairs};
+ghost use Rattle.std.specs.Ordering.{nat_cmp};
+ghost use Rattle.std.specs.Cmp.Lexicographic.{slice_cmp};
 ghost use Rattle.gn_scopes.specs.Undoing.{all_put_back};
-ghost use Rattle.gn_scopes.specs.Giving.{variables_given};
-ghost use Rattle.gn_scopes.specs.Imports.{is_public, public_part, other_value, other_defaults, first_name, with_imported, scope_left};
+ghost use Rattle.gn_scopes.specs.Giving.{variables_given, all_given};
+ghost use Rattle.gn_scopes.specs.Imports.{is_public, public_part, other_defaults, first_name, with_imported_calls};
 
+use crate::copied::Copied;
+use crate::key::Key;
 use crate::layer::Layer;
-use crate::layer_templates::Copied;
+use crate::layer_gives::give_each;
 use crate::scopes::Scopes;
 use crate::undo::{put_all_back, set_name};
 use crate::variable::Variable;
 use gn_paths::Text;
-use gn_values::{Bindings, DefinitionName, Entry, KeptScope};
+use gn_values::{Bindings, DefinitionName, KeptScope, Value};
 use std::alloc::{AllocError, Global};
 use std::collections::BTreeMap;
 
 // What names of a layer had before they were set.
 #[derive(Drop)]
 struct Undo {
-    variables: Vec<(Text, Option<Variable>)>,
+    variables: Vec<(Key, Option<Variable>)>,
     templates: Vec<(Text, Option<DefinitionName>)>,
     defaults: Vec<(Text, Option<Bindings>)>,
 }
 
 impl Scopes {
-    /// Sets all names of a scope in the innermost layer; its variables count as read. After want of memory nothing is
-    /// changed.
-    pub(crate) fn merge(&mut self, alloc: Global, scope: &KeptScope) -> Result<(), AllocError>
+    /// Gives these names of the innermost layer their values, in order, which count as read, and sets the templates and the
+    /// defaults of a scope there. After want of memory nothing is changed, and the values are dropped.
+    pub(crate) fn merge(
+        &mut self,
+        alloc: Global,
+        values: Vec<(Key, Value)>,
+        scope: &KeptScope,
+    ) -> Result<(), AllocError>
         ensures ok { OnOk result
-            (self.new ≡ record self.old { inner = with_imported scope.now self.old.inner }) }
+            (self.new
+            ≡ in_block (λ layer. with_imported_calls scope.now (all_given (value_pairs values.items) layer)) self.old) }
         ensures err { OnErr result (self.new ≡ self.old) }
     {
-        self.inner.merge(alloc, scope)
+        self.inner.merge(alloc, values, scope)
     }
 }
 
 impl Layer {
-    /// Sets all names of a scope; its variables count as read. After want of memory the layer is as before.
-    pub(crate) fn merge(&mut self, alloc: Global, scope: &KeptScope) -> Result<(), AllocError>
-        ensures ok { OnOk result (self.new ≡ with_imported scope.now self.old) }
+    /// Gives these names their values, in order, which count as read, and sets the templates and the defaults of a scope.
+    /// After want of memory the layer is as before, and the values are dropped.
+    pub(crate) fn merge(
+        &mut self,
+        alloc: Global,
+        values: Vec<(Key, Value)>,
+        scope: &KeptScope,
+    ) -> Result<(), AllocError>
+        ensures ok { OnOk result
+            (self.new ≡ with_imported_calls scope.now (all_given (value_pairs values.items) self.old)) }
         ensures err { OnErr result (self.new ≡ self.old) }
     {
         let mut undo = Undo {
@@ -54,7 +71,9 @@ impl Layer {
             &mut self.templates,
             &mut self.defaults,
         );
-        match set_all(alloc, variables, templates, defaults, &mut undo, scope) {
+        match set_all(
+            alloc, variables, templates, defaults, &mut undo, values, scope,
+        ) {
             Ok(()) => Ok(()),
             Err(error) => {
                 put_all_back(&mut self.variables, undo.variables);
@@ -62,28 +81,6 @@ impl Layer {
                 put_all_back(&mut self.defaults, undo.defaults);
                 Err(error)
             }
-        }
-    }
-
-    /// The first of these names, in their order, that the layer has with another value. It takes no memory.
-    pub(crate) fn other_value<'a>(&self, values: &'a Bindings) -> Option<&'a Text>
-        ensures { option_map (λ n. n.now) result ≡ first_name (other_value self.now) values.now }
-    {
-        for entry in values.as_slice() {
-            if self.has_other_value(entry) {
-                return Some(&entry.name);
-            }
-        }
-        None
-    }
-
-    // Whether the layer has the name with another value.
-    fn has_other_value(&self, entry: &Entry) -> bool
-        ensures { result ≡ other_value self.now (entry_of entry.now) }
-    {
-        match self.get(&entry.name) {
-            Some(variable) => !variable.value.same(&entry.value),
-            None => false,
         }
     }
 
@@ -112,66 +109,35 @@ impl Layer {
             None => false,
         }
     }
-
-    /// What an import leaves of the layer: the names that don't begin with `_`. Nothing is copied.
-    pub(crate) fn into_public(self, alloc: Global) -> Result<KeptScope, AllocError>
-        ensures { IfOk result (λ scope. scope ≡ scope_left self) }
-    {
-        let mut layer = self;
-        keep_public(&mut layer.variables);
-        keep_public(&mut layer.templates);
-        keep_public(&mut layer.defaults);
-        layer.into_kept(alloc)
-    }
 }
 
-// Sets all names of a scope in these maps, and puts what they had before into `undo`.
+// Gives names their values and sets the templates and the defaults of a scope in these maps, and puts what they had
+// before into `undo`.
 fn set_all(
     alloc: Global,
-    variables: &mut BTreeMap<Text, Variable>,
+    variables: &mut BTreeMap<Key, Variable>,
     templates: &mut BTreeMap<Text, DefinitionName>,
     defaults: &mut BTreeMap<Text, Bindings>,
     undo: &mut Undo,
+    values: Vec<(Key, Value)>,
     scope: &KeptScope,
 ) -> Result<(), AllocError>
     ensures variables { OnOk result (variables_in variables.new.entries
-        ≡ variables_given scope.now.variables (variables_in variables.old.entries)) }
+        ≡ variables_given (value_pairs values.items) (variables_in variables.old.entries)) }
     ensures templates { OnOk result
         (templates.new.entries ≡ with_names scope.now.templates templates.old.entries) }
     ensures defaults { OnOk result
         (defaults.new.entries ≡ with_names scope.now.defaults defaults.old.entries) }
-    ensures variables_back { all_put_back undo.new.variables.items variables.new.entries
-        ≡ all_put_back undo.old.variables.items variables.old.entries }
-    ensures templates_back { all_put_back undo.new.templates.items templates.new.entries
-        ≡ all_put_back undo.old.templates.items templates.old.entries }
-    ensures defaults_back { all_put_back undo.new.defaults.items defaults.new.entries
-        ≡ all_put_back undo.old.defaults.items defaults.old.entries }
+    ensures variables_back { all_put_back (slice_cmp nat_cmp) undo.new.variables.items variables.new.entries
+        ≡ all_put_back (slice_cmp nat_cmp) undo.old.variables.items variables.old.entries }
+    ensures templates_back { all_put_back (slice_cmp nat_cmp) undo.new.templates.items templates.new.entries
+        ≡ all_put_back (slice_cmp nat_cmp) undo.old.templates.items templates.old.entries }
+    ensures defaults_back { all_put_back (slice_cmp nat_cmp) undo.new.defaults.items defaults.new.entries
+        ≡ all_put_back (slice_cmp nat_cmp) undo.old.defaults.items defaults.old.entries }
 {
-    set_variables(alloc, variables, &mut undo.variables, scope.variables())?;
+    give_each(alloc, variables, &mut undo.variables, values)?;
     set_table(alloc, templates, &mut undo.templates, scope.templates())?;
     set_table(alloc, defaults, &mut undo.defaults, scope.defaults())
-}
-
-// Sets variables, which count as read, and puts what they had before behind `before`.
-fn set_variables(
-    alloc: Global,
-    variables: &mut BTreeMap<Text, Variable>,
-    before: &mut Vec<(Text, Option<Variable>)>,
-    values: &Bindings,
-) -> Result<(), AllocError>
-    ensures ok { OnOk result (variables_in variables.new.entries
-        ≡ variables_given values.now (variables_in variables.old.entries)) }
-    ensures back { all_put_back before.new.items variables.new.entries
-        ≡ all_put_back before.old.items variables.old.entries }
-{
-    for entry in values.as_slice() {
-        let variable = Variable {
-            value: entry.value.copy(alloc)?,
-            unread: None,
-        };
-        set_name(alloc, variables, before, &entry.name, variable)?;
-    }
-    Ok(())
 }
 
 // Sets copies of the names of a table, and puts what they had before behind `before`.
@@ -182,8 +148,8 @@ fn set_table<T: Copied>(
     given: &BTreeMap<Text, T>,
 ) -> Result<(), AllocError>
     ensures ok { OnOk result (table.new.entries ≡ with_names given.now.entries table.old.entries) }
-    ensures back { all_put_back before.new.items table.new.entries
-        ≡ all_put_back before.old.items table.old.entries }
+    ensures back { all_put_back (slice_cmp nat_cmp) before.new.items table.new.entries
+        ≡ all_put_back (slice_cmp nat_cmp) before.old.items table.old.entries }
 {
     for (name, item) in given {
         set_name(alloc, table, before, name, item.copied(alloc)?)?;
@@ -208,8 +174,8 @@ fn same_bindings(left: &Bindings, right: &Bindings) -> bool
     true
 }
 
-// Takes away the names that begin with `_`.
-fn keep_public<V: Drop>(map: &mut BTreeMap<Text, V>)
+/// Takes away the names that begin with `_`.
+pub(crate) fn keep_public<V: Drop>(map: &mut BTreeMap<Text, V>)
     ensures { map.new.entries ≡ public_part map.old.entries }
 {
     map.retain(|name, _value| is_public(name));

@@ -2,21 +2,31 @@
 #![tactic(auto)]
 
 mod caller;
+mod copied;
+mod copies;
 mod env;
 mod error;
 mod forwarding;
 mod imports;
 mod invoker;
+mod key;
+mod laid;
 mod layer;
 mod layer_gives;
 mod layer_merge;
 mod layer_reads;
 mod layer_templates;
 mod name_set;
+mod named_copies;
+mod named_gives;
+mod named_reads;
+mod named_scopes;
+mod named_templates;
 mod scopes;
 mod scopes_templates;
 mod templates;
 mod undo;
+mod unread;
 mod variable;
 
 pub use env::Env;

@@ -3,16 +3,16 @@
 ghost use Rattle.std.specs.Prelude.{◌≡◌, IfOk};
 ghost use Rattle.gn_scopes.specs.Chains.{is_one_of};
 
-use gn_paths::{Text, Texts};
+use gn_paths::Texts;
+use gn_text::Names;
 use std::alloc::{AllocError, Global};
-use std::collections::BTreeSet;
 use std::marker::Model;
 
-/// A list of names. Whether a name is one of them takes a number of comparisons that is logarithmic in their number.
+/// A list of names. Whether a name is one of them takes about the same time however many they are.
 #[derive(Drop)]
 pub(crate) struct NameSet<'a> {
     names: &'a Texts,
-    set: BTreeSet<Text>,
+    table: Names,
 }
 
 impl<'a> Model for NameSet<'a> {
@@ -23,7 +23,7 @@ impl<'a> Model for NameSet<'a> {
 
     ghost view = { λ a. a.names.now };
 
-    ghost invariant = { λ a. HasAll a.set a.names.now };
+    ghost invariant = { λ a. HasAll a.table a.names.now };
 }
 
 impl<'a> NameSet<'a> {
@@ -31,17 +31,17 @@ impl<'a> NameSet<'a> {
     pub(crate) fn new(alloc: Global, names: &'a Texts) -> Result<NameSet<'a>, AllocError>
         ensures { IfOk result (λ s. s ≡ names.now) }
     {
-        let mut set = BTreeSet::new(alloc);
+        let mut table = Names::new(alloc);
         for name in names.as_slice() {
-            set.insert(name.copy(alloc)?)?;
+            table.intern(name.as_bytes())?;
         }
-        Ok(NameSet { names, set })
+        Ok(NameSet { names, table })
     }
 
     /// Whether a name is one of them. It takes no memory.
-    pub(crate) fn has(&self, name: &Text) -> bool
+    pub(crate) fn has(&self, name: &[u8]) -> bool
         ensures { result ≡ is_one_of name.now self.now }
     {
-        self.set.contains(name)
+        self.table.number(name).is_some()
     }
 }

@@ -11,14 +11,16 @@ ghost use Rattle.gn_tree.specs.declared.position.Position.{Position};
 ghost use Rattle.gn_scopes.specs.Unread.{reported};
 ghost use Rattle.gn_scopes.specs.Errors.{refusal_of, element_refusal_of, scope_refusal_of, IsReport};
 ghost use Rattle.gn_scopes.specs.Found.{IsFound};
+ghost use Rattle.gn_scopes.specs.Named.{key};
 ghost use Rattle.gn_scopes.specs.Lending.{Ends};
 ghost use Rattle.gn_scopes.specs.View.{variable_state};
 ghost use Rattle.gn_scopes.specs.contracts.scopes.Scopes.{the_row};
 
 use crate::error::{AssignError, ElementAssignError, ScopeError};
+use crate::key::Key;
 use crate::layer::Layer;
 use crate::variable::Variable;
-use gn_paths::Text;
+use gn_text::Name;
 use gn_tree::{AssignOp, Position};
 use gn_values::Value;
 use std::alloc::{AllocError, Global};
@@ -34,7 +36,8 @@ pub(crate) enum Found {
     Nowhere,
 }
 
-/// The layers of the scopes that are open, the innermost first.
+/// The layers of the scopes that are open, the innermost first. Their variables stand by the numbers that a table of names
+/// gives to names.
 #[derive(Debug, Drop)]
 pub struct Scopes {
     pub(crate) alloc: Global,
@@ -89,8 +92,9 @@ impl Scopes {
     }
 
     /// Ends the innermost scope, and gives its layer; behind the outermost one an empty one begins, which isn't checked.
-    /// `NoEffect` comes exactly where the scope is checked and has a name that nothing read, and names the one whose last
-    /// assignment stands first. The scope ends whatever the answer. It takes no memory.
+    /// `NoEffect` comes exactly where the scope is checked and has a name that nothing read, and has the number of the one
+    /// whose last assignment stands first, of two at one position the lesser one. The scope ends whatever the answer. It
+    /// takes no memory.
     pub fn leave(&mut self) -> Result<Layer, ScopeError>
         ensures ok { IfOk result (λ layer. layer ≡ self.old.inner) }
         ensures read { OnOk result (reported self.old.inner ≡ None) }
@@ -98,12 +102,9 @@ impl Scopes {
         ensures new { self.new ≡ chain_left self.old }
     {
         let layer = self.end();
-        if layer.unread().is_none() {
-            return Ok(layer);
-        }
-        match layer.into_unread() {
+        match layer.unread() {
             Some((name, position)) => Err(ScopeError::NoEffect(name, position)),
-            None => unreachable!(),
+            None => Ok(layer),
         }
     }
 
@@ -115,7 +116,7 @@ impl Scopes {
     }
 
     /// Takes a name out of the innermost layer, and answers what it stood for there. It takes no memory.
-    pub(crate) fn take(&mut self, name: &Text) -> Option<Variable>
+    pub(crate) fn take(&mut self, name: &Key) -> Option<Variable>
         ensures value { option_map variable_state result ≡ variable_in name.now self.old.inner }
         ensures new { self.new ≡ record self.old { inner = set_in name.now None self.old.inner } }
     {
@@ -123,7 +124,7 @@ impl Scopes {
     }
 
     /// Sets what a name of the innermost layer stands for. After want of memory nothing is changed.
-    pub(crate) fn put(&mut self, name: Text, variable: Variable) -> Result<(), AllocError>
+    pub(crate) fn put(&mut self, name: Key, variable: Variable) -> Result<(), AllocError>
         ensures ok { OnOk result
             (self.new
             ≡ record self.old { inner = set_in name (Some (variable_state variable)) self.old.inner }) }
@@ -134,7 +135,7 @@ impl Scopes {
 
     /// A read of a name that the layers may have, and where it is. It takes no memory.
     #[tactic(auto, unfolding(crate::specs::Chains::chain_read))]
-    pub(crate) fn mark(&mut self, name: &Text) -> Found
+    pub(crate) fn mark(&mut self, name: &Key) -> Found
         ensures new { self.new ≡ chain_read name.now self.old }
         ensures found { IsFound name.now self.new result }
     {
@@ -149,7 +150,7 @@ impl Scopes {
 
     /// The value of a name that is there.
     #[tactic(auto, unfolding(crate::specs::Chains::chain_value))]
-    pub(crate) fn value_at(&self, name: &Text, found: Found) -> Option<&Value>
+    pub(crate) fn value_at(&self, name: &Key, found: Found) -> Option<&Value>
         requires { IsFound name.now self.now found }
         ensures { option_map (λ v. val_of v.now) result ≡ chain_value name.now self.now }
     {
@@ -160,15 +161,27 @@ impl Scopes {
         }
     }
 
-    /// The value of a name, which counts as read from then on. None comes exactly where no layer has it. It takes no
-    /// memory.
-    pub fn get(&mut self, name: &Text) -> Option<&Value>
-        ensures* read { sem 𝓛 (Ends the_row self.entry
-            (λ chain. chain ≡ chain_read name.now self.old)) }
-        ensures value { option_map (λ v. val_of v.now) result ≡ chain_value name.now self.old }
+    /// The value of a name. None comes exactly where no layer has it. It takes no memory.
+    #[tactic(auto, unfolding(crate::specs::Chains::chain_value))]
+    pub(crate) fn value(&self, name: &Key) -> Option<&Value>
+        ensures { option_map (λ v. val_of v.now) result ≡ chain_value name.now self.now }
     {
-        let found = self.mark(name);
-        self.value_at(name, found)
+        match self.inner.value(name) {
+            Some(value) => Some(value),
+            None => outer_value(&self.outer, name),
+        }
+    }
+
+    /// The value of the name with this number, which counts as read from then on. None comes exactly where no layer has
+    /// it. It takes no memory.
+    pub fn get(&mut self, name: Name) -> Option<&Value>
+        ensures* read { sem 𝓛 (Ends the_row self.entry
+            (λ chain. chain ≡ chain_read (key name) self.old)) }
+        ensures value { option_map (λ v. val_of v.now) result ≡ chain_value (key name) self.old }
+    {
+        let name = Key::new(name);
+        let found = self.mark(&name);
+        self.value_at(&name, found)
     }
 
     // A copy of the value that a name has further out than in the innermost scope, where `beneath` is what it has
@@ -176,7 +189,7 @@ impl Scopes {
     fn copy_of_outer(
         &self,
         alloc: Global,
-        name: &Text,
+        name: &Key,
         beneath: Option<&Value>,
     ) -> Result<Option<Value>, AllocError>
         ensures { IfOk result (λ copy. option_map val_of copy
@@ -194,8 +207,7 @@ impl Scopes {
     // Assigns a name at which the innermost layer has nothing: it is read further out.
     fn put_inwards(
         &mut self,
-        alloc: Global,
-        name: &Text,
+        name: &Key,
         value: Value,
         position: Position,
     ) -> Result<(), AllocError>
@@ -204,7 +216,7 @@ impl Scopes {
             (self.new ≡ put_and_read name.now (val_of value) position self.old) }
         ensures err { OnErr result (self.new ≡ self.old) }
     {
-        self.inner.put_assigned(alloc, name, value, position)?;
+        self.inner.put_assigned(name, value, position)?;
         let _found = mark_first(&mut self.outer, name);
         Ok(())
     }
@@ -213,7 +225,7 @@ impl Scopes {
     fn combine(
         &mut self,
         alloc: Global,
-        name: &Text,
+        name: &Key,
         op: AssignOp,
         value: Value,
         position: Position,
@@ -239,7 +251,7 @@ impl Scopes {
         if let Err(error) = copy.combine(alloc, op, value) {
             return Err(AssignError::of_operator(error));
         }
-        self.put_inwards(alloc, name, copy, position)?;
+        self.put_inwards(name, copy, position)?;
         Ok(())
     }
 
@@ -249,7 +261,7 @@ impl Scopes {
     pub(crate) fn assign(
         &mut self,
         alloc: Global,
-        name: &Text,
+        name: &Key,
         op: AssignOp,
         value: Value,
         position: Position,
@@ -265,7 +277,7 @@ impl Scopes {
         ensures err { OnErr result (self.new ≡ self.old) }
     {
         match op {
-            AssignOp::Set => self.inner.overwrite(alloc, name, value, position),
+            AssignOp::Set => self.inner.overwrite(name, value, position),
             AssignOp::Add => { self.combine(alloc, name, AssignOp::Add, value, position, beneath) }
             AssignOp::Subtract => {
                 self.combine(alloc, name, AssignOp::Subtract, value, position, beneath)
@@ -279,7 +291,7 @@ impl Scopes {
     pub(crate) fn assign_element(
         &mut self,
         alloc: Global,
-        name: &Text,
+        name: &Key,
         at: &Value,
         op: AssignOp,
         value: Value,
@@ -306,31 +318,31 @@ impl Scopes {
         if let Err(error) = copy.assign_element(alloc, at, op, value) {
             return Err(ElementAssignError::of_element(error));
         }
-        self.put_inwards(alloc, name, copy, position)?;
+        self.put_inwards(name, copy, position)?;
         Ok(())
     }
 
-    /// `name = value`, `name += value` or `name -= value`, whose operator stands at the position. `Overwrite` comes
+    /// `=`, `+=` or `-=` on the name with this number, whose operator stands at the position. `Overwrite` comes
     /// exactly where `=` would put a nonempty list or scope over a nonempty one of its kind in the innermost scope,
     /// `Undefined` where `+=` or `-=` find no value, and `Value` where the operator refuses the two values. After a
     /// refusal nothing is changed, and the value is dropped.
     pub fn set(
         &mut self,
         alloc: Global,
-        name: &Text,
+        name: Name,
         op: AssignOp,
         value: Value,
         position: Position,
     ) -> Result<(), ScopeError>
         ensures ok { OnOk result
-            (assigned name.now op (val_of value) position None self.old ≡ Ok self.new) }
+            (assigned (key name) op (val_of value) position None self.old ≡ Ok self.new) }
         ensures refused { IfErr result
             (λ e. IfSome (scope_refusal_of e)
-            (λ r. assigned name.now op (val_of value) position None self.old ≡ Err r)) }
-        ensures assigning { IfErr result (λ e. (n : List ℕ) (p : Position) → e ≢ ScopeError.NoEffect n p) }
+            (λ r. assigned (key name) op (val_of value) position None self.old ≡ Err r)) }
+        ensures assigning { IfErr result (λ e. (n : ℕ) (p : Position) → e ≢ ScopeError.NoEffect n p) }
         ensures err { OnErr result (self.new ≡ self.old) }
     {
-        match self.assign(alloc, name, op, value, position, None) {
+        match self.assign(alloc, &Key::new(name), op, value, position, None) {
             Ok(()) => Ok(()),
             Err(error) => Err(ScopeError::of_assignment(error)),
         }
@@ -338,7 +350,7 @@ impl Scopes {
 }
 
 // The first layer that has a name.
-fn find(layers: &VecDeque<Layer>, name: &Text) -> Option<usize>
+fn find(layers: &VecDeque<Layer>, name: &Key) -> Option<usize>
     ensures some { IfSome result (λ i. IsFirstAt name.now layers.now.items i) }
     ensures none { IfNone result (variable_of name.now layers.now.items ≡ None) }
 {
@@ -351,7 +363,7 @@ fn find(layers: &VecDeque<Layer>, name: &Text) -> Option<usize>
 }
 
 // A read of a name that the layers may have, and the first that has it.
-fn mark_first(layers: &mut VecDeque<Layer>, name: &Text) -> Option<usize>
+fn mark_first(layers: &mut VecDeque<Layer>, name: &Key) -> Option<usize>
     ensures marked { layers.new.items ≡ marked name.now layers.old.items }
     ensures some { IfSome result (λ i. IsFirstAt name.now layers.new.items i) }
     ensures none { IfNone result (variable_of name.now layers.new.items ≡ None) }
@@ -363,8 +375,8 @@ fn mark_first(layers: &mut VecDeque<Layer>, name: &Text) -> Option<usize>
     Some(i)
 }
 
-/// The value that the first of the layers that has a name has at it. It takes no memory.
-pub(crate) fn outer_value<'a>(layers: &'a VecDeque<Layer>, name: &Text) -> Option<&'a Value>
+// The value that the first of the layers that has a name has at it.
+fn outer_value<'a>(layers: &'a VecDeque<Layer>, name: &Key) -> Option<&'a Value>
     ensures { option_map (λ v. val_of v.now) result
         ≡ option_map (λ v. v.value) (variable_of name.now layers.now.items) }
 {

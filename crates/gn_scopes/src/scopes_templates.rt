@@ -3,7 +3,6 @@
 ghost use Rattle.std.specs.Prelude.{◌≡◌, ◌++◌, [], ◌∷◌, OnOk, OnErr, map};
 ghost use Rattle.gn_scopes.specs.Chains.{all_read, chain_all_read};
 ghost use Rattle.gn_scopes.specs.Templates.{in_block, with_template, with_defaults};
-ghost use Rattle.gn_scopes.specs.Kept.{scope_of, layers_over};
 
 use crate::layer::Layer;
 use crate::scopes::Scopes;
@@ -11,7 +10,6 @@ use gn_paths::Text;
 use gn_values::{Bindings, Definition, DefinitionName, Definitions};
 use std::alloc::{AllocError, Global};
 use std::collections::VecDeque;
-use std::mem;
 
 impl Scopes {
     /// The layers around the innermost one, outwards.
@@ -19,29 +17,6 @@ impl Scopes {
         ensures { result.now.items ≡ self.now.outer }
     {
         &self.outer
-    }
-
-    /// This layer alone. It takes no memory.
-    pub(crate) fn of_layer(alloc: Global, inner: Layer) -> Scopes
-        ensures { result ≡ record { inner = inner; outer = [] } }
-    {
-        Scopes {
-            alloc,
-            inner,
-            outer: VecDeque::new(alloc),
-        }
-    }
-
-    /// Opens a scope that begins as this layer. After want of memory nothing is changed, and the layer is dropped.
-    pub(crate) fn enter_layer(&mut self, layer: Layer) -> Result<(), AllocError>
-        ensures ok { OnOk result
-            (self.new ≡ record { inner = layer; outer = self.old.inner ∷ self.old.outer }) }
-        ensures err { OnErr result (self.new ≡ self.old) }
-    {
-        self.outer.reserve(1)?;
-        let around = mem::replace(&mut self.inner, layer);
-        self.outer.push_front_reserved(around);
-        Ok(())
     }
 
     /// Gives a name a template in the innermost layer, whose definition goes behind those made so far. After want of
@@ -71,28 +46,12 @@ impl Scopes {
         self.inner.put_defaults(kind, values)
     }
 
-    /// A read of all names of the innermost layer. It takes no memory.
-    pub(crate) fn read_innermost(&mut self)
-        ensures { self.new ≡ in_block all_read self.old }
-    {
-        self.inner.read_all();
-    }
-
     /// A read of all names of all layers. It takes no memory.
     pub(crate) fn read_all(&mut self)
         ensures { self.new ≡ chain_all_read self.old }
     {
         self.inner.read_all();
         read_layers(&mut self.outer);
-    }
-
-    /// Lays copies of the names of all layers over those of another one. After want of memory some of them are.
-    pub(crate) fn lay_over(&self, alloc: Global, lower: &mut Layer) -> Result<(), AllocError>
-        ensures { OnOk result
-            (scope_of lower.new ≡ layers_over (self.now.inner ∷ self.now.outer) (scope_of lower.old)) }
-    {
-        lay_layers(lower, alloc, &self.outer)?;
-        lower.lay(alloc, &self.inner)
     }
 }
 
@@ -103,17 +62,4 @@ fn read_layers(layers: &mut VecDeque<Layer>)
     for i in 0..layers.len() {
         layers[i].read_all();
     }
-}
-
-// Lays the layers over another one, the outermost first.
-fn lay_layers(lower: &mut Layer, alloc: Global, layers: &VecDeque<Layer>) -> Result<(), AllocError>
-    ensures { OnOk result
-        (scope_of lower.new ≡ layers_over layers.now.items (scope_of lower.old)) }
-{
-    let mut i = layers.len();
-    while i > 0 {
-        i -= 1;
-        lower.lay(alloc, &layers[i])?;
-    }
-    Ok(())
 }

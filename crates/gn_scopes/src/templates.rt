@@ -8,12 +8,14 @@ ghost use Rattle.gn_values.specs.View.{entry_of};
 ghost use Rattle.gn_scopes.specs.Environment.{kept_by, behind};
 ghost use Rattle.gn_scopes.specs.Templates.{with_caller, in_block, same_place, definition_of, is_visible, if_visible, if_named, template_among, template_of, has_template_here, standing_in, scope_here, new_definition, template_defined, defaults_of, defaults_among, defaults_set, table_given, defaults_given, at_depth, block_begins, body_begins, body_ends, reported_by_invoker};
 ghost use Rattle.gn_scopes.specs.Chains.{all_read};
-ghost use Rattle.gn_scopes.specs.Kept.{scope_of, kept_scope, already_set};
+ghost use Rattle.gn_scopes.specs.Kept.{kept_scope, already_set};
 
 use crate::caller::Caller;
+use crate::copies::copy_entries;
 use crate::env::Env;
+use crate::laid::Laid;
 use crate::layer::Layer;
-use crate::scopes::Scopes;
+use crate::named_scopes::NamedScopes;
 use crate::variable::Variable;
 use gn_paths::{Place, Text};
 use gn_tree::{Block, Position};
@@ -101,8 +103,7 @@ impl Env {
     pub fn set_defaults(&mut self, alloc: Global, kind: &Text) -> Result<(), AllocError>
         ensures { OnOk result (self.new ≡ defaults_set kind.now self.old) }
     {
-        let layer = self.scopes.end();
-        let values = layer.into_bindings(alloc)?;
+        let values = self.scopes.leave_with_bindings(alloc)?;
         self.scopes.put_defaults(kind.copy(alloc)?, values)
     }
 
@@ -130,8 +131,7 @@ impl Env {
         ensures ok { OnOk result (self.new ≡ block_begins name.now self.old) }
         ensures err { OnErr result (self.new ≡ self.old) }
     {
-        let layer = Layer::named(alloc, name)?;
-        self.scopes.enter_layer(layer)
+        self.scopes.enter_named(alloc, name)
     }
 
     /// The body of a template begins behind the block of its call, which is the innermost scope: the scopes that were
@@ -148,11 +148,11 @@ impl Env {
         ensures ok { OnOk result (self.new ≡ body_begins definition.value name.now self.old) }
         ensures err { OnErr result (self.new ≡ self.old) }
     {
-        let layer = Layer::named(alloc, name)?;
+        let scopes = NamedScopes::named(alloc, name)?;
         let file = definition.place().file.copy(alloc)?;
         self.callers.reserve(1)?;
         let caller = Caller {
-            scopes: mem::replace(&mut self.scopes, Scopes::of_layer(alloc, layer)),
+            scopes: mem::replace(&mut self.scopes, scopes),
             body: mem::replace(&mut self.body, Some(definition)),
             file: mem::replace(&mut self.file, file),
         };
@@ -173,7 +173,7 @@ impl Env {
         self.scopes = scopes;
         self.body = body;
         self.file = file;
-        let _block = self.scopes.end();
+        self.scopes.leave();
     }
 
     /// Says how deep the evaluation is: the sum over the template calls that are open.
@@ -188,11 +188,11 @@ impl Env {
     /// whose last assignment stands first, and where that stands. None comes exactly where no body runs, the block isn't
     /// checked or every name was read. It takes no memory.
     #[tactic(auto, unfolding(crate::specs::Templates::reported_by_invoker))]
-    pub fn invoker_unread(&self) -> Option<(&Text, &Text, Position)>
+    pub fn invoker_unread(&self) -> Option<(&Text, &[u8], Position)>
         ensures { option_map (λ p. (p.0.now, (p.1.now, p.2))) result ≡ reported_by_invoker self.now }
     {
         let caller = self.callers.front()?;
-        let (name, position) = caller.scopes.innermost().unread()?;
+        let (name, position) = caller.scopes.unread()?;
         Some((&caller.file, name, position))
     }
 
@@ -290,9 +290,9 @@ impl Env {
     fn scope_here(&self, alloc: Global) -> Result<KeptScope, AllocError>
         ensures { IfOk result (λ scope. scope ≡ scope_here self.now) }
     {
-        let mut layer = kept_layer(alloc, &self.body)?;
-        self.scopes.lay_over(alloc, &mut layer)?;
-        layer.into_kept(alloc)
+        let mut laid = kept_by_body(alloc, &self.body)?;
+        self.scopes.lay_over(alloc, &mut laid)?;
+        laid.into_kept(alloc)
     }
 
     // Where the definitions stand in whose bodies the evaluation is.
@@ -376,26 +376,26 @@ impl Env {
         ensures setting { self.new.setting ≡ self.old.setting }
     {
         let Entry { name, value } = entry;
-        if self.scopes.innermost().has(&name) {
+        if self.scopes.has_here(&name) {
             return Err(GiveError::AlreadySet(name));
         }
         let variable = Variable {
             value,
             unread: None,
         };
-        self.scopes.put(name, variable)?;
+        self.scopes.put(&name, variable)?;
         Ok(())
     }
 }
 
-// A layer of copies of what a body keeps.
-fn kept_layer(alloc: Global, body: &Option<Arc<Definition>>) -> Result<Layer, AllocError>
+// Copies of what a body keeps.
+fn kept_by_body(alloc: Global, body: &Option<Arc<Definition>>) -> Result<Laid, AllocError>
     ensures { IfOk result
-        (λ layer. scope_of layer ≡ kept_scope (kept_by (option_map (λ d. d.value) body.now))) }
+        (λ laid. laid ≡ kept_scope (kept_by (option_map (λ d. d.value) body.now))) }
 {
     match body {
-        Some(definition) => Layer::of_kept(alloc, definition.scope()),
-        None => Ok(Layer::new(alloc, false)),
+        Some(definition) => Laid::of_kept(alloc, definition.scope()),
+        None => Ok(Laid::new(alloc)),
     }
 }
 
@@ -423,7 +423,7 @@ fn read_block_of_caller(callers: &mut VecDeque<Caller>)
     ensures { callers.new.items ≡ with_caller (in_block all_read) callers.old.items }
 {
     if let Some(caller) = callers.front_mut() {
-        caller.scopes.read_innermost();
+        caller.scopes.read_all_here();
     }
 }
 
@@ -435,16 +435,6 @@ fn copy_places(places: &mut Vec<Place>, alloc: Global, others: &[Place]) -> Resu
         places.push(place.copy(alloc)?)?;
     }
     Ok(())
-}
-
-fn copy_entries(alloc: Global, entries: &[Entry]) -> Result<Vec<Entry>, AllocError>
-    ensures { IfOk result (λ copies. map entry_of copies.items ≡ map entry_of entries.now) }
-{
-    let mut copies = Vec::with_capacity(alloc, entries.len())?;
-    for entry in entries {
-        copies.push(entry.copy(alloc)?)?;
-    }
-    Ok(copies)
 }
 
 // The defaults of a kind of call that the first of the layers has.

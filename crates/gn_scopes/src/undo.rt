@@ -1,35 +1,35 @@
 // Names of a map that are set with a way back.
 
 ghost use Rattle.std.specs.Prelude.{◌≡◌, OnOk};
-ghost use Rattle.gn_values.specs.Tables.{with_name};
+ghost use Rattle.std.specs.BTreeMap.{insert_entry};
 ghost use Rattle.gn_scopes.specs.Undoing.{put_back, all_put_back};
 
-use gn_paths::Text;
+use crate::copied::Copied;
 use std::alloc::{AllocError, Global};
 use std::collections::BTreeMap;
 
 /// Sets a name, and puts what it had before behind `before`. After want of memory nothing is changed.
-pub(crate) fn set_name<V: Drop>(
+pub(crate) fn set_name<K: Ord + Copied, V: Drop>(
     alloc: Global,
-    map: &mut BTreeMap<Text, V>,
-    before: &mut Vec<(Text, Option<V>)>,
-    name: &Text,
+    map: &mut BTreeMap<K, V>,
+    before: &mut Vec<(K, Option<V>)>,
+    name: &K,
     value: V,
 ) -> Result<(), AllocError>
-    ensures ok { OnOk result (map.new.entries ≡ with_name name.now value map.old.entries) }
-    ensures back { all_put_back before.new.items map.new.entries
-        ≡ all_put_back before.old.items map.old.entries }
+    ensures ok { OnOk result (map.new.entries ≡ insert_entry K.cmp map.old.entries name.now value) }
+    ensures back { all_put_back K.cmp before.new.items map.new.entries
+        ≡ all_put_back K.cmp before.old.items map.old.entries }
 {
     before.reserve(1)?;
-    let kept = name.copy(alloc)?;
-    let old = map.insert(name.copy(alloc)?, value)?;
+    let kept = name.copied(alloc)?;
+    let old = map.insert(name.copied(alloc)?, value)?;
     before.push_reserved((kept, old));
     Ok(())
 }
 
 // Lets a name have what it had before. It takes no memory.
-fn put_back<V: Drop>(map: &mut BTreeMap<Text, V>, name: &Text, before: Option<V>)
-    ensures { map.new.entries ≡ put_back name.now before map.old.entries }
+fn put_back<K: Ord + Drop, V: Drop>(map: &mut BTreeMap<K, V>, name: &K, before: Option<V>)
+    ensures { map.new.entries ≡ put_back K.cmp name.now before map.old.entries }
 {
     let Some(value) = before else {
         let _gone = map.remove(name);
@@ -41,8 +41,11 @@ fn put_back<V: Drop>(map: &mut BTreeMap<Text, V>, name: &Text, before: Option<V>
 }
 
 /// Lets all names have what they had before, the one that was set last first. It takes no memory.
-pub(crate) fn put_all_back<V: Drop>(map: &mut BTreeMap<Text, V>, before: Vec<(Text, Option<V>)>)
-    ensures { map.new.entries ≡ all_put_back before.items map.old.entries }
+pub(crate) fn put_all_back<K: Ord + Drop, V: Drop>(
+    map: &mut BTreeMap<K, V>,
+    before: Vec<(K, Option<V>)>,
+)
+    ensures { map.new.entries ≡ all_put_back K.cmp before.items map.old.entries }
 {
     let mut before = before;
     while let Some((name, old)) = before.pop() {

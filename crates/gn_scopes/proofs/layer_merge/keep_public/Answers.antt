@@ -1,4 +1,4 @@
-use Rattle.std.proofs.Common.{◌≡◌, ℕ, List, rules}
+use Rattle.std.proofs.Common.{ℕ, List, rules}
 use Rattle.std.proofs.lemmas.Map.Made.{filter_same_pairs}
 use Rattle.gn_scopes.specs.Imports.{is_public}
 use Rattle.gn_scopes.proofs.layer_merge.keep_public.Goals as goal

@@ -1,6 +1,4 @@
 use Rattle.std.proofs.Common.{◌≡◌, ℕ, ◌∷◌, List, map, sym, ap, ◌∙◌}
-use Rattle.gn_values.specs.Val.{Val}
-use Rattle.gn_values.specs.Tables.{Table}
 use Rattle.gn_values.specs.View.{entry_of}
 use Rattle.gn_scopes.specs.Layers.{ChainState}
 use Rattle.gn_scopes.specs.Environment.{Environment}

@@ -1,11 +1,11 @@
-use Rattle.std.proofs.Common.{◌≡◌, ℕ, List, map, sym, ap, ◌∙◌}
+use Rattle.std.proofs.Common.{◌≡◌, List, map, sym, ap, ◌∙◌}
 use Rattle.gn_values.specs.Tables.{Table}
 use Rattle.gn_values.specs.Val.{Val}
 use Rattle.gn_values.specs.View.{entry_of}
 use Rattle.gn_scopes.specs.Layers.{ChainState}
-use Rattle.gn_scopes.specs.Environment.{Caller, Environment}
+use Rattle.gn_scopes.specs.Environment.{Caller}
 use Rattle.gn_scopes.specs.Forwarding.{origin_value}
-use Rattle.gn_scopes.specs.Giving.{entries_at, read_at_origin}
+use Rattle.gn_scopes.specs.Giving.{read_at_origin}
 use Rattle.gn_scopes.specs.Origins.{origin_of}
 use Rattle.gn_scopes.specs.contracts.env.Env.{the_view}
 use Rattle.gn_scopes.proofs.Forwarded.{giving, forwarding, names_given_is}

@@ -5,4 +5,4 @@ use Rattle.gn_scopes.proofs.env.Env.look.Goals as goal
 
 pub returns : goal.returns
 returns c =
-    ((refl, (λ _. tt), c.mark-found.ensures.new), record { read = tt; value = c.value_at.ensures ∙ ap (value_of c.args.name.now) c.mark-found.ensures.new ∙ value_of-after_read c.args.name.now c.args.self.now })
+    ((refl, (λ _. tt), c.mark.ensures), record { read = tt; value = c.value.ensures ∙ ap (value_of c.args.name.now) c.mark.ensures ∙ value_of-after_read c.args.name.now c.args.self.now })

@@ -1,8 +1,7 @@
 use Rattle.std.proofs.Common.{◌≡◌, ℕ, List, map, ap, ◌∙◌, rules}
 use Rattle.gn_values.specs.Tables.{Table}
-use Rattle.gn_scopes.specs.Layers.{VariableState, LayerState}
+use Rattle.gn_scopes.specs.Layers.{VariableState}
 use Rattle.gn_scopes.specs.Chains.{all_read}
-use Rattle.gn_scopes.specs.View.{variables_in}
 use Rattle.gn_scopes.specs.declared.variable.Variable.{Variable}
 use Rattle.gn_scopes.proofs.Tables.{layer_with}
 use Rattle.gn_scopes.proofs.ManyReads.{rewritten, read, all_seen}

@@ -1,20 +1,20 @@
 use Rattle.std.proofs.Common.{◌≡◌, ℕ, List, map, ap, ◌∙◌, rules}
 use Rattle.gn_values.specs.Tables.{Table}
-use Rattle.gn_scopes.specs.Layers.{VariableState, LayerState}
-use Rattle.gn_scopes.specs.Chains.{all_read_but}
-use Rattle.gn_scopes.specs.View.{variables_in}
+use Rattle.gn_scopes.specs.Layers.{VariableState}
+use Rattle.gn_scopes.specs.Named.{all_read_but_named}
 use Rattle.gn_scopes.specs.declared.variable.Variable.{Variable}
 use Rattle.gn_scopes.proofs.Tables.{layer_with}
-use Rattle.gn_scopes.proofs.ManyReads.{rewritten, read_unless, but_seen}
+use Rattle.gn_scopes.proofs.ManyReads.{rewritten, read_but_named, but_seen}
 use Rattle.gn_scopes.proofs.layer.Layer.read_all_but.Goals as goal
 
 pub returns : goal.returns
 returns c =
     let a = c.self.inside in
     let es = a.variables.entries in
+    let names = c.args.names.now in
     let except = c.args.except.now in
-    let kept : c.retain.new.self.entries ≡ map (λ (e : List ℕ × Variable). (e.0, read_unless except e.0 e.1)) es
-    = rewritten _ (read_unless except) _ (λ k v b w f t. search rules) es c.retain.new.self.entries c.retain.ensures.filtered in
+    let kept : c.retain.new.self.entries ≡ map (λ (e : List ℕ × Variable). (e.0, read_but_named names except e.0 e.1)) es
+    = rewritten _ (read_but_named names except) _ (λ k v b w f t. search rules) es c.retain.new.self.entries c.retain.ensures.filtered in
     ap (layer_with a.templates.entries a.defaults.entries a.checked) kept
-    ∙ ap (λ (vs : Table VariableState). record (layer_with a.templates.entries a.defaults.entries a.checked es) { variables = vs }) (but_seen except es)
-    ∙ ap (all_read_but except) c.self.view_is
+    ∙ ap (λ (vs : Table VariableState). record (layer_with a.templates.entries a.defaults.entries a.checked es) { variables = vs }) (but_seen names except es)
+    ∙ ap (all_read_but_named names except) c.self.view_is

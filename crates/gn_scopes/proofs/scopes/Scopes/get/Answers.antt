@@ -1,8 +1,11 @@
 use Rattle.std.proofs.Common.{refl, ap, ◌∙◌}
-use Rattle.gn_scopes.specs.Chains.{chain_value}
+use Rattle.gn_scopes.specs.Chains.{chain_value, chain_read}
+use Rattle.gn_scopes.specs.Named.{key}
 use Rattle.gn_scopes.proofs.Outwards.{chain_value-chain_read}
 use Rattle.gn_scopes.proofs.scopes.Scopes.get.Goals as goal
 
 pub returns : goal.returns
 returns c =
-    ((refl, (λ _. tt), c.mark-found.ensures.new), record { read = tt; value = c.value_at.ensures ∙ ap (chain_value c.args.name.now) c.mark-found.ensures.new ∙ chain_value-chain_read c.args.name.now c.args.self.now })
+    let name = c.new-name.ensures in
+    let read = c.mark-found.ensures.new ∙ ap (λ k. chain_read k c.args.self.now) name in
+    ((refl, (λ _. tt), read), record { read = tt; value = c.value_at.ensures ∙ (λ i. chain_value (name i) (read i)) ∙ chain_value-chain_read (key c.args.name) c.args.self.now })

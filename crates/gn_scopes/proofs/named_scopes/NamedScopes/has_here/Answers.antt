@@ -1,0 +1,21 @@
+use Rattle.std.proofs.Common.{List, ℕ, Some, is_some, sym, ap, ◌∙◌}
+use Rattle.gn_scopes.specs.Layers.{ChainState}
+use Rattle.gn_scopes.specs.Chains.{variable_in}
+use Rattle.gn_scopes.specs.Named.{key}
+use Rattle.gn_scopes.proofs.NamedLayers.{variable_named, variable_lacking}
+use Rattle.gn_scopes.proofs.Interned.{lacking_as}
+use Rattle.gn_scopes.proofs.named_scopes.NamedScopes.has_here.Goals as goal
+
+pub returns-in-Some : goal.returns-in-Some
+returns-in-Some c =
+    let a = c.self.inside in
+    let found = c.in-Some.ensures.found ∙ ap Some c.as_bytes.ensures in
+    let there = variable_named a.names c.self.invariant.different c.args.name.now c.in-Some.number found a.scopes.inner c.self.invariant.inner in
+    c.has.ensures ∙ ap is_some (ap (λ (k : List ℕ). variable_in k c.innermost.result.now) c.new.ensures ∙ ap (variable_in (key c.in-Some.number)) c.innermost.ensures ∙ sym there ∙ ap (λ (s : ChainState). variable_in c.args.name.now s.inner) c.self.view_is)
+
+pub returns-in-None : goal.returns-in-None
+returns-in-None c =
+    let a = c.self.inside in
+    let lacking = lacking_as a.names _ _ c.as_bytes.ensures c.in-None.ensures.lacking in
+    let nothing = variable_lacking a.names c.args.name.now lacking a.scopes.inner c.self.invariant.inner in
+    ap is_some (sym nothing ∙ ap (λ (s : ChainState). variable_in c.args.name.now s.inner) c.self.view_is)

@@ -1,0 +1,87 @@
+// Names of the innermost scope that are given values all at once, or not at all.
+
+ghost use Rattle.std.specs.Prelude.{◌≡◌, IfOk, IfSome, OnOk, OnErr, map, option_map};
+ghost use Rattle.std.specs.List.{AllByRecursion};
+ghost use Rattle.gn_text.specs.Names.{AllDifferent};
+ghost use Rattle.gn_values.specs.View.{entry_of};
+ghost use Rattle.gn_scopes.specs.Giving.{all_given};
+ghost use Rattle.gn_scopes.specs.Imports.{other_value, first_name, with_imported};
+ghost use Rattle.gn_scopes.specs.Named.{texted, IsNumber, IsLonger};
+ghost use Rattle.gn_scopes.specs.Templates.{in_block};
+ghost use Rattle.gn_scopes.specs.View.{value_pairs};
+
+use crate::copies::copy_entries;
+use crate::key::Key;
+use crate::named_scopes::NamedScopes;
+use gn_paths::Text;
+use gn_text::Names;
+use gn_values::{Bindings, Entry, KeptScope, Value};
+use std::alloc::{AllocError, Global};
+
+impl NamedScopes {
+    /// Gives these names of the innermost layer their values, in order; they count as read. After want of memory the
+    /// layers are as before, and the entries are dropped.
+    pub(crate) fn give_all(&mut self, alloc: Global, entries: Vec<Entry>) -> Result<(), AllocError>
+        ensures ok { OnOk result (self.new ≡ in_block (all_given (map entry_of entries.items)) self.old) }
+        ensures err { OnErr result (self.new ≡ self.old) }
+    {
+        let values = numbered(&mut self.names, alloc, entries)?;
+        self.scopes.give_all(alloc, values)
+    }
+
+    /// Sets all names of a scope in the innermost layer; its variables count as read. After want of memory the layers are
+    /// as before.
+    pub(crate) fn merge(&mut self, alloc: Global, scope: &KeptScope) -> Result<(), AllocError>
+        ensures ok { OnOk result
+            (self.new ≡ record self.old { inner = with_imported scope.now self.old.inner }) }
+        ensures err { OnErr result (self.new ≡ self.old) }
+    {
+        let entries = copy_entries(alloc, scope.variables().as_slice())?;
+        let values = numbered(&mut self.names, alloc, entries)?;
+        self.scopes.merge(alloc, values, scope)
+    }
+
+    /// The first of these names, in their order, that the innermost layer has with another value. It takes no memory.
+    pub(crate) fn other_value<'a>(&self, values: &'a Bindings) -> Option<&'a Text>
+        ensures { option_map (λ n. n.now) result ≡ first_name (other_value self.now.inner) values.now }
+    {
+        for entry in values.as_slice() {
+            if self.has_other_value(entry) {
+                return Some(&entry.name);
+            }
+        }
+        None
+    }
+
+    // Whether the innermost layer has the name with another value.
+    fn has_other_value(&self, entry: &Entry) -> bool
+        ensures { result ≡ other_value self.now.inner (entry_of entry.now) }
+    {
+        match self.value_here(&entry.name) {
+            Some(value) => !value.same(&entry.value),
+            None => false,
+        }
+    }
+}
+
+// The values of entries by the numbers of their names, which the table has from then on.
+fn numbered(
+    names: &mut Names,
+    alloc: Global,
+    entries: Vec<Entry>,
+) -> Result<Vec<(Key, Value)>, AllocError>
+    requires { AllDifferent names.old }
+    ensures values { IfOk result
+        (λ values. texted names.new (value_pairs values.items) ≡ map entry_of entries.items) }
+    ensures numbers { IfOk result
+        (λ values. AllByRecursion (λ e. IsNumber names.new e.0) (value_pairs values.items)) }
+    ensures longer { IsLonger names.old names.new }
+    ensures different { AllDifferent names.new }
+{
+    let mut values = Vec::with_capacity(alloc, entries.len())?;
+    for entry in entries {
+        let number = names.intern(entry.name.as_bytes())?;
+        values.push((Key::new(number), entry.value))?;
+    }
+    Ok(values)
+}

@@ -1,0 +1,102 @@
+// Templates and defaults of the layers, and scopes that begin with the name of a target.
+
+ghost use Rattle.std.specs.Prelude.{◌≡◌, ◌++◌, [], ◌∷◌, IfOk, OnOk, OnErr, Some, None, true, map, codes};
+ghost use Rattle.gn_values.specs.Val.{vstr};
+ghost use Rattle.gn_scopes.specs.Chains.{set_in};
+ghost use Rattle.gn_scopes.specs.Layers.{empty_layer};
+ghost use Rattle.gn_scopes.specs.Templates.{in_block, with_template, with_defaults};
+
+use crate::layer::Layer;
+use crate::named_scopes::NamedScopes;
+use crate::variable::Variable;
+use gn_paths::Text;
+use gn_values::{Bindings, Definition, DefinitionName, Definitions, Value};
+use std::alloc::{AllocError, Global};
+use std::collections::VecDeque;
+
+impl NamedScopes {
+    /// The innermost layer, of which the templates and the defaults stand by names.
+    pub(crate) fn innermost(&self) -> &Layer
+        ensures templates { result.now.templates ≡ self.now.inner.templates }
+        ensures defaults { result.now.defaults ≡ self.now.inner.defaults }
+    {
+        self.scopes.innermost()
+    }
+
+    /// The layers around the innermost one, outwards, of which the templates and the defaults stand by names.
+    pub(crate) fn outer(&self) -> &VecDeque<Layer>
+        ensures templates { map (λ l. l.templates) result.now.items ≡ map (λ l. l.templates) self.now.outer }
+        ensures defaults { map (λ l. l.defaults) result.now.items ≡ map (λ l. l.defaults) self.now.outer }
+    {
+        self.scopes.outer()
+    }
+
+    /// Gives a name a template in the innermost layer, whose definition goes behind those made so far. After want of
+    /// memory nothing is changed, and the definition is dropped.
+    pub(crate) fn define(
+        &mut self,
+        alloc: Global,
+        name: &Text,
+        named: DefinitionName,
+        made: &mut Definitions,
+        definition: Definition,
+    ) -> Result<(), AllocError>
+        ensures ok { OnOk result (self.new ≡ in_block (with_template name.now named) self.old) }
+        ensures made { OnOk result (made.new ≡ made.old ++ definition ∷ []) }
+        ensures err { OnErr result (self.new ≡ self.old) }
+        ensures unmade { OnErr result (made.new ≡ made.old) }
+    {
+        self.scopes.define(alloc, name, named, made, definition)
+    }
+
+    /// Sets the defaults of a kind of call in the innermost layer. After want of memory nothing is changed, and the
+    /// values are dropped.
+    pub(crate) fn put_defaults(&mut self, kind: Text, values: Bindings) -> Result<(), AllocError>
+        ensures ok { OnOk result (self.new ≡ with_defaults kind values self.old) }
+        ensures err { OnErr result (self.new ≡ self.old) }
+    {
+        self.scopes.put_defaults(kind, values)
+    }
+
+    /// Opens a checked scope in which `target_name` is this name, and counts as read. After want of memory nothing is
+    /// changed.
+    pub(crate) fn enter_named(&mut self, alloc: Global, name: &Text) -> Result<(), AllocError>
+        ensures ok { OnOk result
+            (self.new ≡ record {
+              inner = set_in (codes "target_name") (Some (record { value = vstr name.now; unread = None }))
+                  (empty_layer true);
+              outer = self.old.inner ∷ self.old.outer;
+            }) }
+        ensures err { OnErr result (self.new ≡ self.old) }
+    {
+        let target_name = Text::from_bytes(alloc, b"target_name")?;
+        let variable = Variable {
+            value: Value::Str(name.copy(alloc)?),
+            unread: None,
+        };
+        self.enter(true)?;
+        if let Err(error) = self.put(&target_name, variable) {
+            self.leave();
+            return Err(error);
+        }
+        Ok(())
+    }
+
+    /// One checked layer in which `target_name` is this name, and counts as read.
+    pub(crate) fn named(alloc: Global, name: &Text) -> Result<NamedScopes, AllocError>
+        ensures { IfOk result (λ scopes. scopes ≡ record {
+          inner = set_in (codes "target_name") (Some (record { value = vstr name.now; unread = None }))
+              (empty_layer true);
+          outer = [];
+        }) }
+    {
+        let target_name = Text::from_bytes(alloc, b"target_name")?;
+        let variable = Variable {
+            value: Value::Str(name.copy(alloc)?),
+            unread: None,
+        };
+        let mut scopes = NamedScopes::new(alloc, true);
+        scopes.put(&target_name, variable)?;
+        Ok(scopes)
+    }
+}
