@@ -25,7 +25,8 @@ ROUTINE = re.compile(
 )
 SO_FAR = re.compile(r"so far: (\d+ of \d+) functions checked$")
 # The lines of rt ci that a reader waits for, and the headings that part the messages of its crates.
-TOLD = re.compile(r"rt: |must-fail |gate: |real_files: |escapes: |original_gn: |\d+ passed, \d+ failed")
+TOLD = re.compile(r"rt: |gate: |real_files: |escapes: |original_gn: ")
+COUNTS = re.compile(r"\d+ passed, \d+ failed")
 HEADING = re.compile(r"== (\w+)(: its tests)?$")
 ENDED = re.compile(r"rt: (\w+)(: its tests are)? (proved|NOT PROVED)$")
 
@@ -62,7 +63,7 @@ def work_of(pid):
     if "--crate-name" not in words or not is_here or not {"check", "build"} & set(words) or {"--only", "--start", "--crate-checked"} & set(words):
         return None
     name = words[words.index("--crate-name") + 1]
-    return f"{name}: its tests" if "--test" in words else name
+    return f"{name}, its tests" if "--test" in words else name
 
 
 class Watch(threading.Thread):
@@ -70,7 +71,7 @@ class Watch(threading.Thread):
 
     def __init__(self, pid):
         super().__init__(daemon=True)
-        self.pid, self.begun = pid, {}
+        self.pid, self.begun, self.ended = pid, {}, set()
 
     def run(self):
         while True:
@@ -83,20 +84,22 @@ class Watch(threading.Thread):
                 is_new = work not in self.begun
                 self.begun.setdefault(work, time.monotonic())
             if is_new:
-                say(f"{work} is begun")
+                say(f"{work}: begun")
 
     def took(self, work):
         """Returns how long ago the work was begun, as it is printed."""
         at = self.begun.get(work)
         return "" if at is None else f" ({int(time.monotonic() - at)} s)"
 
-    def latest(self):
-        """Returns the crate that was begun last: where crates come one after the other, the one whose messages come."""
-        return max(self.begun, key=self.begun.get, default="")
+    def current(self):
+        """Returns the crate that was begun first of those that haven't ended: where they come one by one, the one whose messages come."""
+        with LOCK:
+            return next((it for it in self.begun if it not in self.ended), "the program")
 
 
 def proved(watch, work, is_well, held):
-    say(f"{work} is {'proved' if is_well else 'NOT PROVED'}{watch.took(work)}")
+    watch.ended.add(work)
+    say(f"{work}: {'proved' if is_well else 'NOT PROVED'}{watch.took(work)}")
     if not is_well:
         with LOCK:
             sys.stdout.writelines(held)
@@ -104,7 +107,10 @@ def proved(watch, work, is_well, held):
 
 
 def follow(lines, watch, log, end):
-    """Reads what the command prints, and returns what is left of it, and whether a line begins with the end. Under rt ci a crate's messages stand between its heading and its last line, else the crates come one by one."""
+    """Reads what the command prints, and returns what is left of it, and whether a line begins with the end.
+
+    Under `rt ci` a crate's messages stand between its heading and the line that says how it ended; else the crates come one by one.
+    """
     held, heading, spoke, has_ended = [], None, 0.0, False
     for line in lines:
         log.write(line)
@@ -113,19 +119,21 @@ def follow(lines, watch, log, end):
         has_ended = has_ended or end is not None and text.startswith(end)
         found, ended, so_far = HEADING.match(text), ENDED.match(text), SO_FAR.match(text)
         if found:
-            heading, held = found[1] + (found[2] or ""), []
+            heading, held = found[1], []
         elif ended:
-            proved(watch, ended[1] + (": its tests" if ended[2] else ""), ended[3] == "proved", held)
+            proved(watch, ended[1] + (", its tests" if ended[2] else ""), ended[3] == "proved", held)
             heading, held = None, []
         elif heading is None and text.startswith(("logic=proved ", "logic=not-proved")):
-            watch.look()
-            proved(watch, watch.latest(), text.startswith("logic=proved "), held)
+            proved(watch, watch.current(), text.startswith("logic=proved "), held)
             held = []
         elif heading is None and so_far and time.monotonic() - spoke > 20:
             spoke = time.monotonic()
-            say(f"{watch.latest()}: {so_far[1]} functions")
+            say(f"{watch.current()}: {so_far[1]} functions")
+        elif heading is None and COUNTS.match(text):
+            with LOCK:
+                print(text, flush=True)
         elif heading is None and TOLD.match(text) and not ROUTINE.match(text):
-            say(text.removeprefix("rt: "))
+            say(text[4:] if text.startswith("rt: ") else text)
         elif not ROUTINE.match(text):
             held.append(line)
     return held, has_ended
