@@ -4,8 +4,9 @@
     profile.py [--test] [--only PATH] [--top N]
 
 It proves the crate from nothing with one job, over libraries that are built first where they aren't, and keeps nothing. Seconds are processor
-seconds, so other work on the machine does little harm. A function has the time from the end of the one before it to its own end; members of a
-cycle of calls end together, so one of them may bear the time of all. Stages are by the clock: `session` is the proof, what comes before reads
+seconds, so other work on the machine does little harm. A function has the time from the end of the one before it to its own end: the first also
+has what comes before it, unless the check is a long one, which tells where that ends; and members of a cycle of calls end together, so one of
+them may bear the time of all. Stages are by the clock: `session` is the proof, what comes before reads
 the sources and the libraries and writes the modules that are then checked.
 """
 import os
@@ -50,7 +51,7 @@ def profile(words, folder):
         found = CHECKED.match(line)
         now = max(processor_seconds(ran.pid), last)
         if found:
-            functions.append((now - last, found[1]))
+            functions.append((now - last, found[1] if functions else f"{found[1]}, the first, with all that comes before it"))
         elif line.startswith("so far: 0 "):
             functions.append((now - last, "(before the first function)"))
         else:
@@ -96,7 +97,8 @@ def main(words):
     if status:
         sys.stdout.writelines(it for it in said if not it.rstrip().endswith(": proved"))
         return status
-    print(f"{crate.name}: {whole:.0f} processor seconds, {len(functions) - 1} functions")
+    count = sum(not name.startswith("(") for _, name in functions)
+    print(f"{crate.name}: {whole:.0f} processor seconds, {count} functions")
     print("stages by the clock: " + ", ".join(f"{it[1]} {float(it[2]):.0f}" for it in stages if float(it[2]) >= 0.5))
     for seconds, name in sorted(functions, reverse=True)[:top]:
         print(f"{seconds:7.1f}  {name}")
