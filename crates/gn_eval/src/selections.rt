@@ -21,7 +21,7 @@ use gn_values::Value;
 use std::alloc::{AllocError, Global};
 
 /// An argument that may be the invoker itself.
-#[derive(Debug, Drop)]
+#[derive(Drop)]
 pub(crate) enum Source {
     /// The invoker.
     Invoker,
