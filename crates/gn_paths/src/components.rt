@@ -12,8 +12,8 @@ pub(crate) fn is_path_byte(byte: u8) -> bool
     byte != 0 && byte != b'\n'
 }
 
-// Whether a path stands in the source tree.
-pub(crate) fn is_source(text: &[u8]) -> bool
+/// Whether a text is a path of the source tree, which begins with two slashes.
+pub fn is_source(text: &[u8]) -> bool
     ensures { result ≡ is_source text.now }
 {
     text.starts_with(b"//")
@@ -26,8 +26,8 @@ pub(crate) fn is_absolute(text: &[u8]) -> bool
     text.starts_with(b"/")
 }
 
-// Whether a text is a system path.
-pub(crate) fn is_system(text: &[u8]) -> bool
+/// Whether a text is a system path, which begins with one slash and not with two.
+pub fn is_system(text: &[u8]) -> bool
     ensures { result ≡ is_system text.now }
 {
     !is_source(text) && is_absolute(text)

@@ -2,8 +2,9 @@
 #![tactic(auto)]
 
 mod components;
-mod enclosing;
+mod directories;
 mod error;
+mod output_directories;
 mod parts;
 mod path;
 mod place;
@@ -13,8 +14,10 @@ mod resolving;
 mod text;
 mod texts;
 
-pub use enclosing::directory;
+pub use components::{is_source, is_system};
+pub use directories::directory;
 pub use error::PathError;
+pub use output_directories::{gen_directory, leads_down, obj_directory};
 pub use parts::{PathPart, part};
 pub use path::Path;
 pub use place::Place;

@@ -113,7 +113,7 @@ fn walk(buffer: &mut Vec<u8>, top: usize, text: &[u8]) -> Result<(), PathError>
 
 // Whether a piece leads nowhere.
 #[tactic(auto, using(crate::proofs::NormalLemmas::bytes_eq_nil))]
-fn stays_there(piece: &[u8]) -> bool
+pub(crate) fn stays_there(piece: &[u8]) -> bool
     ensures { result ≡ stays_there piece.now }
 {
     piece.is_empty() || piece == b".".as_slice()
@@ -147,7 +147,7 @@ fn climb(buffer: &mut Vec<u8>)
 }
 
 // Puts a component at the end.
-fn append_piece(buffer: &mut Vec<u8>, piece: &[u8]) -> Result<(), AllocError>
+pub(crate) fn append_piece(buffer: &mut Vec<u8>, piece: &[u8]) -> Result<(), AllocError>
     ensures { OnOk result (buffer.new.items ≡ buffer.old.items ++ 47 ∷ piece.now) }
 {
     buffer.push(b'/')?;
