@@ -2,10 +2,11 @@
 use Rattle.std.proofs.Common.{◌≡◌, ℕ, List, [], ◌∷◌, Some, inl, inr, refl, sym, ◌∙◌, ap, subst}
 use Rattle.gn_closure.specs.Closure.{In}
 use Rattle.gn_labels.specs.declared.label.Label.{Label}
-use Rattle.gn_closure.specs.Reach.{source_root, Unit_key, Setup, Load, Target, Toolchain, Done, Units, Fact, Is_reached, Is_wanted, Is_generated, Told, told, label, needed, Rule, first, root, own, target, dependency, want, want_toolchain, want_pool, load, want_home, setup, other_load, Holds, by_rule}
+use Rattle.gn_closure.specs.Reach.{source_root, Unit_key, Setup, Load, Target, Toolchain, Done, Units, Fact, Is_reached, Is_wanted, Is_generated, Told, told, label, Rule, first, root, own, target, dependency, want, want_toolchain, want_pool, load, want_home, setup, other_load, Holds, by_rule}
 use Rattle.gn_closure.specs.Ground.{Step, Holding, Asked, Used, Defined, Set_up, Ground, start, roots, owns, defines, asks, finds, wants_it, uses, has_tool, has_pool, sets_up, used_home, load_it, home_it, set_it, other_it, Follows, by_ground}
 
--- ---- the laws of the least set
+-- The laws of the least set
+
 pub holds_grows : (home : List ℕ → List ℕ) (a b : Units) → ((k : Unit_key) (d : Done) → a k ≡ Some (Some d) → b k ≡ Some (Some d)) → (f : Fact) → Holds home a f → Holds home b f
 holds_grows home a b le f (by_rule fs ts f' r hf ht e) =
     by_rule fs ts f' r (λ g i. holds_grows home a b le g (hf g i)) (λ t i. holds_grows home a b le (Is_reached t.unit) (ht t i)) (λ t i. le t.unit t.done (e t i))
@@ -15,7 +16,8 @@ holds_back home a b same f (by_rule fs ts f' r hf ht e) =
     by_rule fs ts f' r (λ g i. holds_back home a b same g (hf g i)) (λ t i. holds_back home a b same (Is_reached t.unit) (ht t i))
     (λ t i. same t.unit (holds_back home a b same (Is_reached t.unit) (ht t i)) ∙ e t i)
 
--- ---- from the rules to the ground rules
+-- From the rules to the ground rules
+
 pub none : {A : Type 0} (P : A → Type 0) (p : A) → In {A = A} [] p → P p
 none P p i = absurd i
 
@@ -114,7 +116,8 @@ holds_follows home T a d0 e0 a0 f (by_rule fs ts f' r hf ht e) =
       answered = e;
     })
 
--- ---- and back
+-- And back
+
 abbrev Means : (home : List ℕ → List ℕ) (T : List ℕ) (a : Units) → Step → Type 0
 Means home T a (Holding f) = Holds home a f
 Means home T a (Asked l) = (u : Done) × (m : Label) × (t : Target) × Holds home a (Is_generated m) × Holds home a (Is_reached (Load m.dir m.toolchain))

@@ -213,7 +213,8 @@ module _ (home : List ℕ → List ℕ) (T : List ℕ) (a : Units) where
   rules_ground (Load dir tc) (Some (Some u)) e h i = load_ground dir tc u e h i
   rules_ground (Setup tc) (Some (Some s)) e h i = setup_ground tc s e h i
 
-  -- ---- what the computed rules give follows
+  -- What the computed rules give follows
+
   opened_ground : (t : Step) (h : Horn Step) → opens_rules t ≡ true → In (rules_over home T a t) h → (k : Unit_key) × (t ≡ is_reached k) × IsGround k h
   opened_ground (Holding (Is_reached k)) h o i = (k, refl, rules_ground k (a k) refl h i)
   opened_ground (Holding (Is_wanted d t)) h o i = absurd i
@@ -234,7 +235,8 @@ module _ (home : List ℕ → List ℕ) (T : List ℕ) (a : Units) where
       by p (inl q) up down = subst (Follows home T a) (sym q) up
       by p (inr j) up down = down j
 
-  -- ---- and back
+  -- And back
+
   -- what is wanted has its rules
   abbrev HasRules : Step → Type 0
   HasRules (Holding (Is_wanted dir tc)) = (k : Unit_key) × Derived (known_system home T a) (is_reached k) × ((h : Horn Step) → In (wanted_rules home T dir tc) h → In (unit_rules home T (a k) k) h)

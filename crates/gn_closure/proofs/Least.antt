@@ -99,7 +99,8 @@ kinds_of home a s o = kinds_by s (subst (λ (p : Step → Bool). p s ≡ true) (
 room : load_limit + setup_limit < rounds
 room = omega arith
 
--- ---- lists of units
+-- Lists of units
+
 abbrev unit_in : Step → Unit_key
 unit_in (Holding (Is_reached k)) = k
 unit_in _ = Setup []

@@ -2,7 +2,7 @@
 use Rattle.std.specs.Prelude.{◌≡◌, ◌≢◌, ℕ, List, [], ◌∷◌, Some}
 use Rattle.gn_labels.specs.declared.label.Label.{Label}
 use Rattle.gn_closure.specs.Closure.{In}
-use Rattle.gn_closure.specs.Reach.{source_root, Unit_key, Setup, Load, Target, Toolchain, Done, Units, Fact, Is_reached, Is_wanted, Is_generated, label, needed}
+use Rattle.gn_closure.specs.Reach.{source_root, Setup, Load, Target, Toolchain, Done, Units, Fact, Is_reached, Is_wanted, Is_generated, label, needed}
 
 -- a fact; or a step on the way: a generated target depends on a label or has a toolchain, a toolchain is defined, or its build configuration is done
 pub data Step : Type 0 where

@@ -10,7 +10,8 @@ use Rattle.gn_core.specs.Worlds.{World}
 use Rattle.gn_core.specs.Machine.{IsLoaded, IsDone, Defines, HasTools, IsFiled, IsReachedKey}
 use Rattle.gn_core.specs.Layered.{IsPart, HasLayer, IsBased, for_read, for_import, for_unit, for_label}
 
--- ---- generated labels are of units that are done
+-- Generated labels are of units that are done
+
 generated_by : (home : List ℕ → List ℕ) (a : Units) (fs : List Fact) (ts : List Told) (f : Fact) → Rule home fs ts f → ((t : Told) → In ts t → Holds home a (Is_reached t.unit)) → ((t : Told) → In ts t → a t.unit ≡ Some (Some t.done))
     → (l : Label) → f ≡ Is_generated l → (d : Done) × Holds home a (Is_reached (Load l.dir l.toolchain)) × (a (Load l.dir l.toolchain) ≡ Some (Some d))
 generated_by home a fs ts f first ht e l g = cc
@@ -33,7 +34,8 @@ generated_by home a fs ts f (other_load d s dir tc ne) ht e l g = cc
 pub generated_done : (home : List ℕ → List ℕ) (a : Units) (l : Label) → Holds home a (Is_generated l) → (d : Done) × Holds home a (Is_reached (Load l.dir l.toolchain)) × (a (Load l.dir l.toolchain) ≡ Some (Some d))
 generated_done home a l (by_rule fs ts f r hf ht e) = generated_by home a fs ts f r ht e l refl
 
--- ---- units that are done stay so
+-- Units that are done stay so
+
 pub units_part : (b c : Filed) → IsPart b c → (k : Unit_key) (d : Done) → units b k ≡ Some (Some d) → units c k ≡ Some (Some d)
 units_part b c le k d h = go (b (Unit_of k)) refl h
   where
@@ -80,7 +82,8 @@ module _ (w : World) (b c : Filed) (le : IsPart b c) where
       (λ t d m i. let x = defined t (defines_before l g t d) m i in (x.0, defines_part m x.0 x.1))
       (λ t d m i. based_grows (Resolve m) (behind t (defines_before l g t d) m i))
 
--- ---- what is reached
+-- What is reached
+
 reached_by : (home : List ℕ → List ℕ) (w : World) (b : Filed) (fs : List Fact) (ts : List Told) (f : Fact) → w.home ≡ home → Rule home fs ts f → ((t : Told) → In ts t → units b t.unit ≡ Some (Some t.done))
     → (k : Unit_key) → f ≡ Is_reached k → HasLayer w b (layer_of k)
 reached_by home w b fs ts f s first e k g = let same : Setup [] ≡ k = cc in subst (λ z. HasLayer w b (layer_of z)) same (inl refl)
@@ -112,7 +115,8 @@ reached_based w b filed (Unit_of k) h = for_unit k (unit_based w b k h)
 reached_based w b filed (Resolve l) h =
     for_label l h.0 h.1 (λ t d m i. (h.2 t d m i).0) (λ t d m i. filed m (h.2 t d m i).1)
 
--- ---- what is asked
+-- What is asked
+
 pub layer_based : (w : World) (b : Filed) (l : Layer) (q : Question) → HasLayer w b l → IsBased w b (key_of l q)
 layer_based w b l (content_of path) h = for_read path
 layer_based w b l (import_of path) h = for_import l path h

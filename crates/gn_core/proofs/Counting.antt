@@ -1,24 +1,23 @@
 -- The limits are computed.
-use Rattle.std.proofs.Common.{◌≡◌, ℕ, suc, ◌<◌, ◌≤◌, ltb, length, List, [], ◌∷◌, Option, Some, None, refl, sym, ◌∙◌, ap, subst, ◌⊎◌, inl, inr, ◌↔◌, Bool, true, false, not, ◌||◌, cond, map, arith}
+use Rattle.std.proofs.Common.{◌≡◌, ℕ, suc, ◌<◌, ltb, length, List, [], ◌∷◌, Some, refl, sym, ◌∙◌, ap, subst, ◌⊎◌, inl, inr, Bool, true, false, not, ◌||◌, cond, map, arith}
 use Rattle.std.specs.Bool.{Decides}
 use Rattle.std.specs.List.{flat_map, list_any, filter, IsDistinct, AllByRecursion}
 use Rattle.std.specs.Set.{is_member}
 use Rattle.std.proofs.lemmas.Bool.Decides.{Decides-ltb}
 use Rattle.std.proofs.lemmas.Map.Made.{length-le_from_is_member}
 use Rattle.std.proofs.lemmas.Map.Keys.{IsDistinct-from_sorted}
-use Rattle.gn_paths.specs.declared.place.Place.{Place}
 use Rattle.gn_values.specs.Imported.{ImportState}
 use Rattle.gn_runs.specs.Runs.{Question, content_of, import_of, End, ended, wrong, spoiled, needs, Run}
 use Rattle.gn_runs.specs.Laws.{IsAsked}
-use Rattle.gn_imports.specs.Rounds.{Project, final}
+use Rattle.gn_imports.specs.Rounds.{Project}
 use Rattle.gn_imports.specs.Causes.{outcome}
-use Rattle.gn_imports.specs.Asked.{asked_by, all_asked, contents_asked, imports_asked, in_path_order}
+use Rattle.gn_imports.specs.Asked.{asked_by, all_asked, imports_asked, in_path_order}
 use Rattle.gn_imports.specs.Loading.{IsOneOf, IsProject}
 use Rattle.gn_imports.proofs.Final.{final_run}
 use Rattle.gn_imports.proofs.Asked.{all_asked_given, all_asked_closed, all_asked_least}
 use Rattle.gn_imports.proofs.PathOrder.{path_cmp, path_eq, path_eq-Decides, order_sorted, order_has, content_one, one_content, import_one, one_import}
 use Rattle.gn_closure.specs.Closure.{In}
-use Rattle.gn_closure.specs.Reach.{Unit_key, Fact, Is_reached, Is_wanted, Is_generated, Holds}
+use Rattle.gn_closure.specs.Reach.{Unit_key, Is_reached, Is_wanted, Is_generated, Holds}
 use Rattle.gn_closure.specs.Ground.{Step, Holding, Asked, Used, Defined, Set_up}
 use Rattle.gn_closure.specs.Computed.{same_step, all_facts, is_too_large}
 use Rattle.gn_closure.specs.Least.{IsTooLarge}
@@ -26,15 +25,16 @@ use Rattle.gn_closure.proofs.Closed.{same_equiv, member_first, member_more, memb
 use Rattle.gn_closure.proofs.Opened.{in_flat, flat_in}
 use Rattle.gn_closure.proofs.SameStep.{step_tested}
 use Rattle.gn_closure.proofs.Least.{limits_exact, computed_sound, computed_least}
-use Rattle.gn_core.specs.Keys.{Layer, Key, Read, Import, Unit_of, Resolve, Answer, layer_of, key_of, units, same_key}
-use Rattle.gn_core.specs.Worlds.{World, project, import_as, import_answer, all_meanings}
+use Rattle.gn_core.specs.Keys.{Layer, Key, Read, Import, Unit_of, Answer, layer_of, key_of, units, same_key}
+use Rattle.gn_core.specs.Worlds.{World, project, import_as, all_meanings}
 use Rattle.gn_core.specs.Layered.{IsLayered}
 use Rattle.gn_core.specs.Machine.{import_limit, read_limit, asked_in, IsNeeded, by_unit, by_import, NeededBy, itself, through, HasMore, IsImport, Exceeds}
-use Rattle.gn_core.specs.Counted.{imports_needed, unit_asks, unit_in_step, units_reached, is_large, has_large_import, files_of, files_read, exceeds_limits, LimitsAreComputed}
+use Rattle.gn_core.specs.Counted.{imports_needed, unit_asks, unit_in_step, units_reached, is_large, has_large_import, files_of, files_read, LimitsAreComputed}
 use Rattle.gn_core.proofs.Puts.{same_key_is, key_own}
 use Rattle.gn_core.proofs.Lowered.{true_fixed}
 
--- ---- lists
+-- Lists
+
 key_tested : (k q : Key) → Decides (same_key k q) (k ≡ q)
 key_tested k q = (same_key_is k q, λ e. subst (λ z. same_key k z ≡ true) e (key_own k))
 
@@ -99,7 +99,8 @@ module _ {A : Type 0} (test : A → Bool) where
       go true e (inr j) ih = let m = ih j in (inr m.0, m.1)
       go false e j ih = let m = ih j in (inr m.0, m.1)
 
--- ---- keys of paths, counted
+-- Keys of paths, counted
+
 module _ (f : List ℕ → Key) (exact : (p q : List ℕ) → f p ≡ f q → p ≡ q) where
   in_made : (ps : List (List ℕ)) (p : List ℕ) → IsOneOf p ps → In (map f ps) (f p)
   in_made [] p h = absurd h
@@ -156,7 +157,8 @@ module _ (f : List ℕ → Key) (exact : (p q : List ℕ) → f p ≡ f q → p 
       λ k i. let m = made_in (in_path_order ps) k i in subst P (sym m.1) (from m.0 ((order_has ps m.0).0 m.2)),
     )
 
--- ---- what is needed is what is asked
+-- What is needed is what is asked
+
 as_asked : (end : End ImportState) (asked : List Question) → asked_in (Some (import_as end asked)) ≡ asked
 as_asked (ended x) asked = refl
 as_asked (wrong fault) asked = refl
@@ -282,7 +284,8 @@ module _ (w : World) (l : IsLayered w) where
       all_asked_least (layer_project (layer_of u)) (λ r. IsNeeded w (all_meanings w) (key_of (layer_of u) r))
       (λ path n r i. by_import (layer_of u) path r n (there_asked (layer_of u) path r i)) (asked_in (all_meanings w (Unit_of u))) (λ r i. by_unit u r h i) q a
 
-  -- ---- where no limit of units is exceeded
+  -- Where no limit of units is exceeded
+
   module _ (small : IsTooLarge w.home (units (all_meanings w)) → ⊥) where
     reached_listed : (u : Unit_key) → Holds w.home (units (all_meanings w)) (Is_reached u) → In (units_reached w) u
     unfolding units_reached

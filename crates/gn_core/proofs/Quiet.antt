@@ -10,7 +10,7 @@ use Rattle.gn_imports.specs.Causes.{outcome}
 use Rattle.gn_imports.specs.Laws.{spoiled_at_need}
 use Rattle.gn_imports.proofs.Final.{final_run}
 use Rattle.gn_labels.specs.declared.label.Label.{Label}
-use Rattle.gn_closure.specs.Reach.{Unit_key, Setup, Load, Target, Toolchain, Done, Fact, Is_reached, Is_generated, Holds}
+use Rattle.gn_closure.specs.Reach.{Unit_key, Setup, Load, Target, Done, Fact, Is_reached, Is_generated, Holds}
 use Rattle.gn_closure.proofs.GroundRules.{holds_grows, holds_back}
 use Rattle.gn_closure.proofs.Least.{first_held}
 use Rattle.gn_core.specs.Keys.{Layer, Key, Read, Import, Unit_of, Resolve, Answer, found, import_is, no_value, unit_is, record_is, Filed, layer_of, key_of, shown, unit_in, units, same_key, put}
@@ -57,7 +57,8 @@ known_stays s (File seat q v) k (inr h) = go (same_key q k)
 known_stays s (Stop seat c) k (inl h) = inl h
 known_stays s (Stop seat c) k (inr h) = inr h
 
--- ---- what answers ask
+-- What answers ask
+
 spoiled_asked : (x : Option Answer) (q : List ℕ) (p : Place) (run : Run ImportState) → asked_in (Some (spoiled_as x q p run)) ≡ run.asked
 spoiled_asked None q p run = refl
 spoiled_asked (Some (found c)) q p run = refl
@@ -132,7 +133,8 @@ module _ (w : World) (l : IsLayered w) (first s : State) (inv : Inv w (all_meani
   import_wanted m path (content_of r) h = h
   import_wanted m path (import_of r) h = h
 
-  -- ---- what a filed answer asks is known
+  -- What a filed answer asks is known
+
   filed_or_needs : (m : Layer) (q : Question) → IsFiled s.filed (key_of m q) ⊎ (s.filed (key_of m q) ≡ None)
   filed_or_needs m q = go (s.filed (key_of m q)) refl
     where
@@ -229,7 +231,8 @@ module _ (w : World) (l : IsLayered w) (first s : State) (inv : Inv w (all_meani
       subst (Wanted w) (sym x.1) (import_wanted (layer_of k) [] x.0 (by_unit k x.0 wk x.2))
   need_above (Resolve m) on p wk h = absurd h
 
-  -- ---- events
+  -- Events
+
   scope_claim : (seat : ℕ) (k : Key) → IsReady w s k → Scope w first (happens s (Claim seat k))
   scope_claim seat k ready = record {
     claimed = λ q m h. claimed_by q m (put_some s.claims k seat q m h);
@@ -290,7 +293,8 @@ module _ (w : World) (l : IsLayered w) (first s : State) (inv : Inv w (all_meani
   scope_event known (File seat k v) ok = scope_file seat k v ok.0 ok.1
   scope_event known (Stop seat c) ok = record { claimed = sc.claimed; filed = sc.filed; stays = sc.stays; blocked = sc.blocked; asked = sc.asked }
 
-  -- ---- over a quiet state
+  -- Over a quiet state
+
   module _ (quiet : IsQuiet w s) where
     pub known_filed : (k : Key) → IsKnown s k → IsFiled s.filed k
     known_filed k (inl h) = h
@@ -349,7 +353,8 @@ module _ (w : World) (l : IsLayered w) (first s : State) (inv : Inv w (all_meani
     wanted_filed (Unit_of k) h = reached_filed (Unit_of k) (back (Is_reached k) h)
     wanted_filed (Resolve m) h = resolvable_filed m h
 
--- ---- whole runs
+-- Whole runs
+
 module _ (w : World) (l : IsLayered w) (known : List ℕ → Bool) (first : State) (op : IsOpening w known first) where
   -- what is kept
   pub record Both (s : State) : Type 0 where

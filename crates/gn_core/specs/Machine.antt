@@ -92,7 +92,8 @@ IsRight w base s (Import l path) v = IsRightImport s l path (w.import_run l base
 IsRight w base s (Unit_of k) v = IsSettled (w.unit_run k base (shown s.filed (layer_of k))).end × (v ≡ unit_is (w.unit_run k base (shown s.filed (layer_of k))))
 IsRight w base s (Resolve l) v = v ≡ record_is (w.record_of l base)
 
--- ---- ready
+-- Ready
+
 -- the build file of a directory is reached under a toolchain, and it is done: a unit that isn't reached doesn't count, whatever its answer is
 abbrev pub IsLoaded : World → Units → List ℕ → List ℕ → Done → Type 0
 IsLoaded w a dir toolchain d = Holds w.home a (Is_reached (Load dir toolchain)) × (a (Load dir toolchain) ≡ Some (Some d))
@@ -136,7 +137,8 @@ IsReachedKey w filed (Resolve l) = CanResolve w (units filed) (λ m. IsFiled fil
 abbrev pub IsReady : World → State → Key → Type 0
 IsReady w s k = IsReachedKey w s.filed k × (s.claims k ≡ None) × (s.filed k ≡ None) × (s.stops ≡ [])
 
--- ---- limits
+-- Limits
+
 -- the greatest number of imports that one may need, itself among them, and of files that may be read beside those that the setup knows
 abbrev pub import_limit : ℕ
 import_limit = 200
@@ -185,7 +187,8 @@ Exceeds w known a = ExceedsBy w known a (IsNeeded w a)
 abbrev pub FiledExceeds : World → (List ℕ → Bool) → Filed → Type 0
 FiledExceeds w known filed = ExceedsBy w known filed (IsFiled filed)
 
--- ---- events
+-- Events
+
 -- a seat stops at a read that it has claimed, where what is filed exceeds a limit, and for want of memory at any time
 abbrev pub MayStop : World → (List ℕ → Bool) → State → ℕ → Cause → Type 0
 MayStop w known s seat (failed k) = (s.claims k ≡ Some seat) × ((path : List ℕ) × (k ≡ Read path))
