@@ -1,7 +1,7 @@
-//! Bytes and their tokens.
+// Bytes and their tokens.
 
-use crate::{Token, TokenError, TokenKind, Tokens, integer_value};
-use std::process::Abort;
+use gn_tokens::{Token, TokenError, TokenKind, Tokens, integer_value};
+use std::test::Fail;
 
 // A file, its tokens with their places, and the error that ends them.
 type Row = (
@@ -132,6 +132,45 @@ const ROWS: [Row; 24] = [
     (b"#\"\n", &[], None),
 ];
 
+fn gives(tokens: &mut Tokens<'_>, found: &(TokenKind, usize, usize)) -> bool {
+    let token = Token {
+        kind: found.0,
+        start: found.1,
+        end: found.2,
+    };
+    tokens.next() == Ok(Some(token))
+}
+
+fn give(tokens: &mut Tokens<'_>, found: &[(TokenKind, usize, usize)]) -> bool {
+    for token in found {
+        if !gives(tokens, token) {
+            return false;
+        }
+    }
+    true
+}
+
+fn end_with(tokens: &mut Tokens<'_>, error: Option<TokenError>) -> bool {
+    match error {
+        Some(error) => tokens.next() == Err(error),
+        None => tokens.next() == Ok(None),
+    }
+}
+
+// Whether these are the tokens, and the end is told again and again.
+fn is_cut(row: &Row) -> bool {
+    let mut tokens = Tokens::new(row.0);
+    give(&mut tokens, row.1) && end_with(&mut tokens, row.2) && end_with(&mut tokens, row.2)
+}
+
+#[test]
+fn files_are_cut_into_tokens(rt: HostRuntime) -> Result<(), Fail> {
+    for (number, row) in ROWS.iter().enumerate() {
+        assert!(rt; is_cut(row), "row {number}");
+    }
+    Ok(())
+}
+
 // Strings with one `$` at the front that is no expansion.
 const BAD_DOLLARS: [&[u8]; 14] = [
     b"\"$if\"",
@@ -150,48 +189,27 @@ const BAD_DOLLARS: [&[u8]; 14] = [
     b"\"${a\"",
 ];
 
-fn last_of(error: Option<TokenError>) -> Result<Option<Token>, TokenError> {
-    match error {
-        Some(error) => Err(error),
-        None => Ok(None),
-    }
-}
-
-fn assert_tokens(
-    rt: &impl Abort,
-    text: &[u8],
-    found: &[(TokenKind, usize, usize)],
-    error: Option<TokenError>,
-) {
+fn is_bad_dollar(text: &[u8]) -> bool {
     let mut tokens = Tokens::new(text);
-    for (kind, start, end) in found {
-        let token = Token {
-            kind: *kind,
-            start: *start,
-            end: *end,
-        };
-        assert_eq!(rt; tokens.next(), Ok(Some(token)));
-    }
-    assert_eq!(rt; tokens.next(), last_of(error));
-    assert_eq!(rt; tokens.next(), last_of(error));
+    tokens.next() == Err(TokenError::BadDollar(1))
 }
 
 #[test]
-fn gives_tokens_and_errors(rt: HostRuntime) {
-    for (text, found, error) in ROWS {
-        assert_tokens(&rt, text, found, error);
+fn what_is_no_expansion_is_refused(rt: HostRuntime) -> Result<(), Fail> {
+    for (number, text) in BAD_DOLLARS.iter().enumerate() {
+        assert!(rt; is_bad_dollar(text), "row {number}");
     }
+    Ok(())
 }
 
-#[test]
-fn refuses_what_is_no_expansion(rt: HostRuntime) {
-    for text in BAD_DOLLARS {
-        let mut tokens = Tokens::new(text);
-        assert_eq!(rt; tokens.next(), Err(TokenError::BadDollar(1)));
-    }
-}
+const INTEGERS: [(&[u8], i64); 3] = [
+    (b" -17 ", -17),
+    (b"9223372036854775807", i64::MAX),
+    (b"-9223372036854775808", i64::MIN),
+];
 
-fn value_of_first(text: &[u8]) -> Option<i64> {
+// The integer at the front.
+fn first_integer(text: &[u8]) -> Option<i64> {
     let mut tokens = Tokens::new(text);
     match tokens.next() {
         Ok(
@@ -207,9 +225,14 @@ fn value_of_first(text: &[u8]) -> Option<i64> {
     }
 }
 
+fn has_value(row: &(&[u8], i64)) -> bool {
+    first_integer(row.0) == Some(row.1)
+}
+
 #[test]
-fn gives_the_value_of_an_integer(rt: HostRuntime) {
-    assert_eq!(rt; value_of_first(b" -17 "), Some(-17));
-    assert_eq!(rt; value_of_first(b"9223372036854775807"), Some(i64::MAX));
-    assert_eq!(rt; value_of_first(b"-9223372036854775808"), Some(i64::MIN));
+fn integers_have_values(rt: HostRuntime) -> Result<(), Fail> {
+    for row in &INTEGERS {
+        assert!(rt; has_value(row), "{}", row.1);
+    }
+    Ok(())
 }
