@@ -4,6 +4,7 @@
 mod components;
 mod directories;
 mod error;
+mod laws;
 mod output_directories;
 mod parts;
 mod path;
@@ -17,6 +18,7 @@ mod texts;
 pub use components::{is_source, is_system};
 pub use directories::directory;
 pub use error::PathError;
+pub use laws::{what_is_seen_leads_back, what_is_shown_in_the_system_leads_back, what_is_shown_leads_back};
 pub use output_directories::{gen_directory, leads_down, obj_directory};
 pub use parts::{PathPart, part};
 pub use path::Path;
