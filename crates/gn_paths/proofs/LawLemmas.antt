@@ -12,12 +12,12 @@ use Rattle.std.proofs.lemmas.List.Elements.{All-nil, All-cons, All-head, All-tai
 use Rattle.gn_paths.specs.declared.error.PathError.TheVariants.{AboveRoot}
 use Rattle.gn_paths.specs.Components.{is_slash, slash, two_slashes, dot, two_dots, HasNoSlash, pieces, trail, top_of, is_absolute, is_source, is_system, components, spelled, ends_in_slash}
 use Rattle.gn_paths.specs.Normal.{is_path_text, IsNormal, IsInSource, IsPlain}
-use Rattle.gn_paths.specs.Resolve.{stays_there, without_last, stepped, walked, start_of, led, resolved}
+use Rattle.gn_paths.specs.Resolve.{stays_there, moves, without_last, stepped, walked, start_of, led, path_meant, resolved}
 use Rattle.gn_paths.specs.Directory.{as_directory}
 use Rattle.gn_paths.specs.Rebase.{relative, or_dot, joined, keeps_slash, closed, system_components, system_path, shown_from, rebased, seen_from}
-use Rattle.gn_paths.specs.Laws.{moves, NeverClimbs, LeadsTo}
+use Rattle.gn_paths.specs.Laws.{NeverClimbs, LeadsTo}
 use Rattle.gn_paths.proofs.PieceLemmas.{Ends, ends, slash_is, one_slash, trail-append, pieces-joined, ends_in_slash-last, components_plain}
-use Rattle.gn_paths.proofs.ResolveLemmas.{resolved-system, resolved-led}
+use Rattle.gn_paths.proofs.ResolveLemmas.{resolved-system, resolved-led, meant_ok}
 use Rattle.gn_paths.proofs.LedLemmas.{IsClean, clean-append, clean-slash, clean-nil, clean-trail, clean-components, clean-path_text, path_text-clean, absolute-normal, components-spelled, plain_slashes}
 use Rattle.gn_paths.proofs.RebaseLemmas.{relative-none, map-dots, system_plain}
 use Rattle.gn_paths.proofs.DirectoryLemmas.{EndsPlain, source-as_directory}
@@ -352,3 +352,40 @@ shown_back path base root b s h q =
     filled : (t : List ℕ) → is_source t ≡ true → bytes_eq t [] ≡ false
     filled [] e = absurd (false≢true e)
     filled (x ∷ xs) e = refl
+
+-- a path in normal form means itself
+spelled_source : (parts : List (List ℕ)) (final : Bool) → is_source (spelled slash parts final) ≡ true
+spelled_source [] final = refl
+spelled_source (c ∷ cs) final = refl
+
+walked_itself : (parts : List (List ℕ)) (final : Bool) → All IsPlain parts → walked (components two_slashes) (pieces (spelled slash parts final)) ≡ Some parts
+walked_itself parts final h = ap (λ l. walked l (pieces (spelled slash parts final))) (components-spelled [] false (All-nil _)) ∙ by parts h
+  where
+    none : HasNoSlash []
+    none = All-nil _
+
+    by : (cs : List (List ℕ)) → All IsPlain cs → walked [] (pieces (spelled slash cs final)) ≡ Some cs
+    by [] k = walked_closed [] [] ([] ∷ []) true none (All-cons HasNoSlash [] [] none (All-nil _))
+    by (c ∷ cs) k =
+        walked_closed [] [] ([] ∷ c ∷ cs) final none (All-cons HasNoSlash [] (c ∷ cs) none (plain_slashes (c ∷ cs) k)) ∙ walked_on (c ∷ cs) [] (never_plain (c ∷ cs) k) ∙ ap Some (moves_plain (c ∷ cs) k)
+
+closes_itself : (parts : List (List ℕ)) (final : Bool) → All IsPlain parts → spelled slash parts (ends_in_slash (spelled slash parts final)) ≡ spelled slash parts final
+closes_itself [] final h = refl
+closes_itself (c ∷ cs) final h =
+    let filled : All IsFilled (c ∷ cs) = All-weaker IsPlain IsFilled filled_plain (c ∷ cs) h in
+    ap (spelled slash (c ∷ cs)) (closed_ends (slash ++ trail (c ∷ cs)) final (ends_trail (47 ∷ 47 ∷ []) c cs (All-head IsFilled c cs filled) (All-tail IsFilled c cs filled)))
+
+source_itself : (current path : List ℕ) → IsNormal path → IsInSource path → resolved current path ≡ Ok path
+source_itself current path h w =
+    let s : is_source path ≡ true = ap is_source w.spelling ∙ spelled_source w.parts w.final in
+    let start : start_of current path ≡ two_slashes = ap (λ b. cond b two_slashes current) s in
+    let walk : walked (components two_slashes) (pieces path) ≡ Some w.parts = ap (λ p. walked (components two_slashes) (pieces p)) w.spelling ∙ walked_itself w.parts w.final w.plain in
+    let spelling : spelled slash w.parts (ends_in_slash path) ≡ path = ap (λ p. spelled slash w.parts (ends_in_slash p)) w.spelling ∙ closes_itself w.parts w.final w.plain ∙ sym w.spelling in
+    resolved-led current path h.text (ap (λ b. cond b false (is_absolute path)) s) ∙ ap (λ o. ok_or o AboveRoot) (ap (λ x. led x path) start ∙ led_by two_slashes path refl w.parts walk ∙ ap Some spelling)
+
+pub means_itself : (current path : List ℕ) → IsNormal path → path_meant current path ≡ Ok path
+means_itself current path h = sym (meant_ok current path path (by h.shape))
+  where
+    by : (is_system path ≡ true) ⊎ IsInSource path → resolved current path ≡ Ok path
+    by (inl s) = resolved-system current path h.text s
+    by (inr w) = source_itself current path h w

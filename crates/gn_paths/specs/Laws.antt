@@ -1,13 +1,9 @@
 -- What a path that is shown leads back to.
-use Rattle.std.specs.Prelude.{ℕ, Bool, false, List, ◌≡◌, ◌++◌, Some, not}
+use Rattle.std.specs.Prelude.{ℕ, Bool, false, List, ◌≡◌, ◌++◌, Some}
 use Rattle.std.specs.List.{All, filter}
 use Rattle.std.specs.Str.{bytes_eq}
 use Rattle.gn_paths.specs.Components.{two_dots, pieces, is_absolute}
-use Rattle.gn_paths.specs.Resolve.{stays_there, walked}
-
--- whether a component leads anywhere: it isn't empty and isn't `.`
-abbrev pub moves : List ℕ → Bool
-moves component = not (stays_there component)
+use Rattle.gn_paths.specs.Resolve.{moves, walked}
 
 -- components none of which is `..`
 abbrev pub NeverClimbs : List (List ℕ) → Type 0

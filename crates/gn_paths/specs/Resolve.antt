@@ -1,5 +1,5 @@
 -- What a text means as a path at a current directory.
-use Rattle.std.specs.Prelude.{ℕ, Bool, List, [], ◌∷◌, ◌++◌, Option, None, Some, Result, Ok, Err, ◌||◌, if◌then◌else◌, length, take, option_and_then, option_map}
+use Rattle.std.specs.Prelude.{ℕ, Bool, List, [], ◌∷◌, ◌++◌, Option, None, Some, Result, Ok, Err, ◌||◌, not, if◌then◌else◌, length, take, option_and_then, option_map}
 use Rattle.std.specs.Option.{ok_or}
 use Rattle.std.specs.Str.{bytes_eq}
 use Rattle.gn_paths.specs.declared.error.PathFault.{PathFault}
@@ -12,6 +12,10 @@ use Rattle.gn_paths.specs.Normal.{is_path_text}
 -- the pieces that lead nowhere: the empty one and `.`
 abbrev pub stays_there : List ℕ → Bool
 stays_there piece = bytes_eq piece [] || bytes_eq piece dot
+
+-- the pieces that lead anywhere
+abbrev pub moves : List ℕ → Bool
+moves piece = not (stays_there piece)
 
 -- the components without the last one; nothing stands above the root
 abbrev pub without_last : List (List ℕ) → Option (List (List ℕ))

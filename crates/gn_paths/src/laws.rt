@@ -1,12 +1,17 @@
-// What is shown of a path leads back to it.
+// A path means itself, and what is shown of it leads back to it.
 
 ghost use Rattle.std.specs.Prelude.{◌≡◌, ◌≢◌, ◌&&◌, List, ℕ, [], true, false, Ok};
 ghost use Rattle.gn_paths.specs.Components.{is_source};
 ghost use Rattle.gn_paths.specs.Normal.{IsNormal};
-ghost use Rattle.gn_paths.specs.Resolve.{resolved};
+ghost use Rattle.gn_paths.specs.Resolve.{path_meant, resolved};
 ghost use Rattle.gn_paths.specs.Directory.{as_directory};
 ghost use Rattle.gn_paths.specs.Rebase.{system_components, rebased, seen_from};
 ghost use Rattle.gn_paths.specs.Laws.{NeverClimbs, LeadsTo};
+
+/// A path means itself, from wherever.
+pub fn a_path_means_itself()
+    ensures { (current path : List ℕ) → IsNormal path → path_meant current path ≡ Ok path }
+{}
 
 /// What is seen of a path from a directory of the source tree, resolved from that directory, is the path.
 pub fn what_is_seen_leads_back()

@@ -15,11 +15,11 @@ mod resolving;
 mod text;
 mod texts;
 
-pub use components::{is_source, is_system};
+pub use components::{is_path_byte, is_source, is_system, leads_down, stays_there};
 pub use directories::directory;
 pub use error::{PathError, PathFault};
-pub use laws::{what_is_seen_leads_back, what_is_shown_in_the_system_leads_back, what_is_shown_leads_back};
-pub use output_directories::{gen_directory, leads_down, obj_directory};
+pub use laws::{a_path_means_itself, what_is_seen_leads_back, what_is_shown_in_the_system_leads_back, what_is_shown_leads_back};
+pub use output_directories::{gen_directory, obj_directory};
 pub use parts::{PathPart, part};
 pub use path::Path;
 pub use place::Place;

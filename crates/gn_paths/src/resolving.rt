@@ -6,10 +6,12 @@ ghost use Rattle.gn_paths.specs.Components.{is_slash, pieces, without_final_slas
 ghost use Rattle.gn_paths.specs.declared.error.PathError.TheVariants.{BadPath};
 ghost use Rattle.gn_paths.specs.Normal.{IsNormal};
 ghost use Rattle.gn_paths.specs.Reading.{is_clean, IsFault};
-ghost use Rattle.gn_paths.specs.Resolve.{start_of, path_meant, resolved, stays_there};
+ghost use Rattle.gn_paths.specs.Resolve.{start_of, path_meant, resolved};
 ghost use Rattle.gn_paths.specs.Buffer.{buffer_stepped, buffer_walked, buffer_closed, buffer_led};
 
-use crate::components::{ends_in_slash, is_source, is_system, top_len, without_final_slash};
+use crate::components::{
+    ends_in_slash, is_source, is_system, stays_there, top_len, without_final_slash,
+};
 use crate::error::{PathError, PathFault};
 use crate::parts::len_after;
 use crate::path::Path;
@@ -127,14 +129,6 @@ fn walk(buffer: &mut Vec<u8>, top: usize, text: &[u8]) -> Result<(), PathError>
         rest = &rest[n + 1..];
     }
     Err(PathError::BadPath)
-}
-
-// Whether a piece leads nowhere.
-#[tactic(auto, using(crate::proofs::NormalLemmas::bytes_eq_nil))]
-pub(crate) fn stays_there(piece: &[u8]) -> bool
-    ensures { result ≡ stays_there piece.now }
-{
-    piece.is_empty() || piece == b".".as_slice()
 }
 
 // Takes one piece of a text.
