@@ -9,3 +9,4 @@ pub mod RebaseLemmas
 pub mod DirectoryLemmas
 pub mod BelowLemmas
 pub mod OutputLemmas
+pub mod LawLemmas

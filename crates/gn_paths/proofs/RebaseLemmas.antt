@@ -99,7 +99,7 @@ relative-same xs ys x y ds cs e f d =
     ap (λ l. relative l cs) e ∙ ap (relative (x ∷ xs)) f ∙ ap (λ b. cond b (relative xs ys) (map (λ _. two_dots) (x ∷ xs) ++ y ∷ ys)) d
 
 -- `..` for each component
-map-dots : (xs : List (List ℕ)) → map (λ _. two_dots) xs ≡ replicate (length xs) two_dots
+pub map-dots : (xs : List (List ℕ)) → map (λ _. two_dots) xs ≡ replicate (length xs) two_dots
 map-dots [] = refl
 map-dots (x ∷ xs) = ap (λ l. two_dots ∷ l) (map-dots xs)
 

@@ -7,10 +7,10 @@ ghost use Rattle.gn_paths.specs.Normal.{IsNormal};
 ghost use Rattle.gn_paths.specs.Directory.{leads_down, IsOutputName, output_directory, obj_directory_of, gen_directory_of};
 ghost use Rattle.gn_paths.specs.Rebase.{IsTrail, parts};
 
-use crate::components::without_final_slash;
+use crate::components::{leads_down, without_final_slash};
 use crate::path::Path;
 use crate::rebasing::{split_first, trail_of};
-use crate::resolving::{append_piece, stays_there};
+use crate::resolving::append_piece;
 use crate::text::Text;
 use std::alloc::{AllocError, Global};
 
@@ -73,11 +73,4 @@ fn append_if_down(text: &mut Vec<u8>, component: &[u8]) -> Result<(), AllocError
         append_piece(text, component)?;
     }
     Ok(())
-}
-
-/// Whether a component leads down: it isn't empty, `.` or `..`.
-pub fn leads_down(component: &[u8]) -> bool
-    ensures { result ≡ leads_down component.now }
-{
-    !stays_there(component) && component != b"..".as_slice()
 }
