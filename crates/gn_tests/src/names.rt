@@ -1,10 +1,10 @@
 // Names of functions and of kinds of targets.
 
-use crate::{Function, TargetKind};
 use gn_items::ItemKind;
+use gn_meaning::{Function, TargetKind};
 use std::test::Fail;
 
-const FUNCTIONS: [(&[u8], Function); 20] = [
+static FUNCTIONS: [(&[u8], Function); 20] = [
     (b"assert", Function::Assert),
     (b"defined", Function::Defined),
     (b"foreach", Function::Foreach),
@@ -27,7 +27,7 @@ const FUNCTIONS: [(&[u8], Function); 20] = [
     (b"", Function::Unknown),
 ];
 
-const KINDS: [(&[u8], TargetKind); 8] = [
+static KINDS: [(&[u8], TargetKind); 8] = [
     (b"group", TargetKind::Built(ItemKind::Group)),
     (b"action", TargetKind::NotBuilt),
     (b"source_set", TargetKind::NotBuilt),
@@ -38,18 +38,26 @@ const KINDS: [(&[u8], TargetKind); 8] = [
     (b"", TargetKind::NoKind),
 ];
 
+fn calls(row: &(&[u8], Function)) -> bool {
+    Function::named(row.0) == row.1
+}
+
+fn is_kind(row: &(&[u8], TargetKind)) -> bool {
+    TargetKind::named(row.0) == row.1
+}
+
 #[test]
 fn names_call_functions(rt: HostRuntime) -> Result<(), Fail> {
-    for (name, function) in FUNCTIONS {
-        assert!(rt; Function::named(name) == function);
+    for row in 0..FUNCTIONS.len() {
+        assert!(rt; calls(&FUNCTIONS[row]), "at row {row}");
     }
     Ok(())
 }
 
 #[test]
 fn texts_name_kinds_of_targets(rt: HostRuntime) -> Result<(), Fail> {
-    for (name, kind) in KINDS {
-        assert!(rt; TargetKind::named(name) == kind);
+    for row in 0..KINDS.len() {
+        assert!(rt; is_kind(&KINDS[row]), "at row {row}");
     }
     Ok(())
 }

@@ -27,8 +27,7 @@ fn read(scopes: &mut Scopes, name: usize) -> i64 {
 }
 
 // The number of the name that the end of the innermost scope reports; another refusal has the greatest number.
-fn reported(scopes: Scopes) -> Option<usize> {
-    let mut scopes = scopes;
+fn reported(scopes: &mut Scopes) -> Option<usize> {
     match scopes.leave() {
         Err(ScopeError::NoEffect(name, _position)) => Some(name),
         Err(_error) => Some(usize::MAX),
@@ -36,17 +35,35 @@ fn reported(scopes: Scopes) -> Option<usize> {
     }
 }
 
-#[test]
-fn scopes_report_what_nothing_reads(rt: HostRuntime) -> Result<(), Fail> {
-    let alloc = rt.alloc();
+// The numbers of two names.
+fn numbers(alloc: Global) -> Result<(usize, usize), AllocError> {
     let mut names = Names::new(alloc);
     let other = names.intern(b"y")?;
     let name = names.intern(b"x")?;
-    assert_eq!(rt; reported(with_seven(alloc, name)?), Some(1));
+    Ok((other, name))
+}
+
+// Whether a name that nothing reads is reported.
+fn unread_is_reported(alloc: Global, name: usize) -> Result<bool, Fail> {
     let mut scopes = with_seven(alloc, name)?;
-    assert_eq!(rt; read(&mut scopes, other), -1);
-    assert_eq!(rt; read(&mut scopes, name), 7);
-    assert_eq!(rt; reported(scopes), None);
+    Ok(reported(&mut scopes) == Some(1))
+}
+
+// Whether a name that is read has its value, another one has none, and then none is reported.
+fn read_is_not_reported(alloc: Global, name: usize, other: usize) -> Result<bool, Fail> {
+    let mut scopes = with_seven(alloc, name)?;
+    Ok(
+        read(&mut scopes, other) == -1
+            && read(&mut scopes, name) == 7
+            && reported(&mut scopes).is_none(),
+    )
+}
+
+#[test]
+fn scopes_report_what_nothing_reads(rt: HostRuntime) -> Result<(), Fail> {
+    let (other, name) = numbers(rt.alloc())?;
+    assert!(rt; unread_is_reported(rt.alloc(), name)?);
+    assert!(rt; read_is_not_reported(rt.alloc(), name, other)?);
     Ok(())
 }
 
@@ -65,10 +82,9 @@ fn environment(alloc: Global) -> Result<Env, AllocError> {
 }
 
 // What `+= 2` leaves of a name that has 5 behind the scopes. -1 is no integer.
-fn added_over_five(alloc: Global) -> Result<i64, Fail> {
+fn add_over_five(alloc: Global, env: &mut Env) -> Result<i64, Fail> {
     let name = Text::from_bytes(alloc, b"x")?;
     let position = Position { line: 1, column: 3 };
-    let mut env = environment(alloc)?;
     let (five, two) = (Value::Int(5), Value::Int(2));
     env.assign_over(alloc, &five, &name, AssignOp::Add, two, position)?;
     match env.look(&name) {
@@ -77,8 +93,13 @@ fn added_over_five(alloc: Global) -> Result<i64, Fail> {
     }
 }
 
+fn added_over_five(alloc: Global) -> Result<i64, Fail> {
+    let mut env = environment(alloc)?;
+    add_over_five(alloc, &mut env)
+}
+
 #[test]
 fn an_assignment_is_over_what_is_given(rt: HostRuntime) -> Result<(), Fail> {
-    assert_eq!(rt; added_over_five(rt.alloc())?, 7);
+    assert!(rt; added_over_five(rt.alloc())? == 7);
     Ok(())
 }
