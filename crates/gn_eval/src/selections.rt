@@ -30,7 +30,7 @@ pub(crate) enum Source {
 }
 
 /// Which names an argument selects.
-#[derive(Debug, Drop)]
+#[derive(Drop)]
 pub(crate) enum Selection {
     /// All of them: `"*"`.
     Every,
@@ -43,7 +43,7 @@ pub(crate) enum Selection {
 }
 
 /// The names that are selected, and those that are excepted.
-#[derive(Debug, Drop)]
+#[derive(Drop)]
 pub(crate) enum Selected {
     /// All names but these.
     Every(Texts),
