@@ -1,3 +1,4 @@
 pub mod PieceLemmas
 pub mod ReadLemmas
 pub mod LawLemmas
+pub mod JoinLemmas

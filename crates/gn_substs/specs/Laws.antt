@@ -1,6 +1,5 @@
 -- What is proved of substitution texts themselves.
-use Rattle.std.specs.Prelude.{ℕ, ◌≡◌, List, [], ◌∷◌, ◌++◌, length, Result, Ok, Err}
-use Rattle.std.specs.List.{All}
+use Rattle.std.specs.Prelude.{ℕ, ◌≡◌, List, [], ◌∷◌, ◌++◌, length, Result, Ok, Err, ⊤}
 use Rattle.gn_substs.specs.declared.names.Substitution.{Substitution}
 use Rattle.gn_substs.specs.declared.positions.Position.{Position}
 use Rattle.gn_substs.specs.declared.pieces.Piece.{Piece}
@@ -26,8 +25,13 @@ braced s = 123 ∷ 123 ∷ (name_of s ++ 125 ∷ 125 ∷ [])
 abbrev pub IsPieceAt : Position → Piece → Type 0
 IsPieceAt position p = StandsAt position p.substitution × (pair_at 123 p.before ≡ length p.before)
 
+-- the same of all pieces
+abbrev pub ArePiecesAt : Position → List Piece → Type 0
+ArePiecesAt position [] = ⊤
+ArePiecesAt position (p ∷ ps) = IsPieceAt position p × ArePiecesAt position ps
+
 -- The text is these pieces and the bytes behind them, with each substitution between its braces.
 pub record IsWrittenAs (position : Position) (text : List ℕ) (s : Subst) : Type 0 where
   pub joined : with_texts braced s.pieces s.last ≡ text
-  pub pieces : All (IsPieceAt position) s.pieces
+  pub pieces : ArePiecesAt position s.pieces
   pub last : pair_at 123 s.last ≡ length s.last

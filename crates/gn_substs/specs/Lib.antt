@@ -5,3 +5,4 @@ pub mod Reading
 pub mod Expansions
 pub mod Laws
 pub mod Variables
+pub mod Sources

@@ -1,17 +1,23 @@
 //! Laws of substitution texts, each as a call that does nothing and whose contract is the law.
 
-ghost use Rattle.std.specs.Prelude.{◌≡◌, ℕ, List, true, map};
+ghost use Rattle.std.specs.Prelude.{◌≡◌, ℕ, List, Ok, true, map};
 ghost use Rattle.gn_substs.specs.declared.names.Substitution.{Substitution};
 ghost use Rattle.gn_substs.specs.declared.positions.Position.{Position};
+ghost use Rattle.gn_substs.specs.declared.subst.Subst.{Subst};
 ghost use Rattle.gn_substs.specs.Names.{name_of};
 ghost use Rattle.gn_substs.specs.Positions.{names_at, all_differ, StandsAt};
 ghost use Rattle.gn_substs.specs.Reading.{subst_read};
 ghost use Rattle.gn_substs.specs.Expansions.{text_in};
-ghost use Rattle.gn_substs.specs.Laws.{HasOneReading};
+ghost use Rattle.gn_substs.specs.Laws.{HasOneReading, IsWrittenAs};
 
 /// Each text has just one reading at a position: its pieces and the bytes behind them, or the offset of its first bad `{{`.
 pub fn each_text_has_one_reading()
     ensures { (position : Position) (text : List ℕ) → HasOneReading position text (subst_read position text) }
+{}
+
+/// The pieces of a text, joined again with `{{name}}` for each substitution, are the text; no `{{` is left in the bytes before and behind the substitutions; and each substitution is one of the position.
+pub fn pieces_are_the_text()
+    ensures { (position : Position) (text : List ℕ) (s : Subst) → subst_read position text ≡ Ok s → IsWrittenAs position text s }
 {}
 
 /// The names of the substitutions of a position differ, and so do those of any two substitutions.
