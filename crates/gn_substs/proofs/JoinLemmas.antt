@@ -110,9 +110,9 @@ none_before b (x ∷ more) = by ((x == b) && first_is b more) refl (none_before 
     by false e again =
         let n : 1 + pair_at b more ≡ suc (pair_at b more) = omega arith in
         rw n (
-          let one : pair_at b (x ∷ take (pair_at b more) more) ≡ 1 + pair_at b (take (pair_at b more) more) =
-          ap (λ c. cond c 0 (1 + pair_at b (take (pair_at b more) more))) (lead (pair_at b more) more (x == b) e) in
-          omega (arith, one, again)
+        let one : pair_at b (x ∷ take (pair_at b more) more) ≡ 1 + pair_at b (take (pair_at b more) more) =
+        ap (λ c. cond c 0 (1 + pair_at b (take (pair_at b more) more))) (lead (pair_at b more) more (x == b) e) in
+        omega (arith, one, again)
         )
 
 pieces_at : (position : Position) (text : List ℕ) (ps : List Piece) (last : List ℕ) → LeadsTo position text ps last → ArePiecesAt position ps

@@ -37,7 +37,7 @@ pub is_found : (position : Position) (text : List ℕ) (start : ℕ) (found : Fo
 unfolding name_from
 is_found position text start found h =
     found_by position (drop (start + 2) text) start (pair_at 125 (drop (start + 2) text)) found (nat_lt (pair_at 125 (drop (start + 2) text)) (length (drop (start + 2) text)))
-        (substitution_at position (take (pair_at 125 (drop (start + 2) text)) (drop (start + 2) text))) refl refl h
+    (substitution_at position (take (pair_at 125 (drop (start + 2) text)) (drop (start + 2) text))) refl refl h
 
 pub pair_within : (b : ℕ) (t : List ℕ) → pair_at b t ≤ length t
 pair_within b [] = omega arith
@@ -67,8 +67,8 @@ pieces_read (suc n) position before text (p ∷ ps) last le h none =
     let room = found_room position text (pair_at 123 text) h.0 h.1 in
     let rest : length (drop h.0.end text) ≤ n = omega (arith, le, room.0, room.1, room.2, length-drop h.0.end text) in
     rw (lt-ltb (pair_at 123 text) (length text) room.0, h.1)
-        (ap (with_first (piece_of text h.0)) (pieces_read n position (before + h.0.end) (drop h.0.end text) ps last rest h.3 none)
-        ∙ ap (λ q. Ok (record { pieces = q ∷ ps; last = last })) (sym h.2))
+    (ap (with_first (piece_of text h.0)) (pieces_read n position (before + h.0.end) (drop h.0.end text) ps last rest h.3 none)
+    ∙ ap (λ q. Ok (record { pieces = q ∷ ps; last = last })) (sym h.2))
 
 pub bad_read : (n : ℕ) (position : Position) (before : ℕ) (text : List ℕ) (ps : List Piece) (rest : List ℕ) (offset : ℕ) → length text ≤ n → LeadsTo position text ps rest →
     pair_at 123 rest < length rest → name_from position rest (pair_at 123 rest) ≡ None → offset + length rest ≡ before + length text + pair_at 123 rest →
@@ -85,7 +85,7 @@ bad_read (suc n) position before text (p ∷ ps) rest offset le h lt none at =
     let l = length-drop h.0.end text in
     let less : length (drop h.0.end text) ≤ n = omega (arith, le, room.0, room.1, room.2, l) in
     rw (lt-ltb (pair_at 123 text) (length text) room.0, h.1)
-        (ap (with_first (piece_of text h.0)) (bad_read n position (before + h.0.end) (drop h.0.end text) ps rest offset less h.3 lt none (omega (arith, at, room.2, l))))
+    (ap (with_first (piece_of text h.0)) (bad_read n position (before + h.0.end) (drop h.0.end text) ps rest offset less h.3 lt none (omega (arith, at, room.2, l))))
 
 -- The reading is right, where so many bytes stand before the text.
 abbrev IsRightAt : Position → ℕ → List ℕ → Result Subst ℕ → Type 0
@@ -117,10 +117,10 @@ is_right zero position before [] le = (refl, refl)
 is_right zero position before (x ∷ text) le = absurd (omega (arith, le))
 is_right (suc n) position before text le =
     right_step position before text (λ found. read_within n position (before + found.end) (drop found.end text)) (nat_lt (pair_at 123 text) (length text))
-        (name_from position text (pair_at 123 text)) refl refl
-        (λ found e.
-          let room = found_room position text (pair_at 123 text) found e in
-          is_right n position (before + found.end) (drop found.end text) (omega (arith, le, room.0, room.1, room.2, length-drop found.end text)))
+    (name_from position text (pair_at 123 text)) refl refl
+    (λ found e.
+    let room = found_room position text (pair_at 123 text) found e in
+    is_right n position (before + found.end) (drop found.end text) (omega (arith, le, room.0, room.1, room.2, length-drop found.end text)))
 
 are_right : (position : Position) (text : List ℕ) (s : Subst) (r : Result Subst ℕ) → IsRightAt position 0 text r → r ≡ Ok s → IsReadAs position text s.pieces s.last
 are_right position text s (Ok x) h e = let same : x ≡ s = cc in subst (λ (y : Subst). IsReadAs position text y.pieces y.last) same h

@@ -65,7 +65,12 @@ fn source_text(
     }
 }
 
-fn dir_text(alloc: Global, position: Position, build: &Path, source: &Path) -> Result<Text, AllocError>
+fn dir_text(
+    alloc: Global,
+    position: Position,
+    build: &Path,
+    source: &Path,
+) -> Result<Text, AllocError>
     ensures { IfOk result (λ t. t ≡ shown position build.now (directory_of source.now)) }
 {
     let directory = directory(alloc, source)?;
@@ -80,7 +85,12 @@ fn root_relative(alloc: Global, source: &Path) -> Result<Text, AllocError>
     directory.seen_from(alloc, &root)
 }
 
-fn gen_text(alloc: Global, position: Position, source: &Path, around: &Around<'_>) -> Result<Text, AllocError>
+fn gen_text(
+    alloc: Global,
+    position: Position,
+    source: &Path,
+    around: &Around<'_>,
+) -> Result<Text, AllocError>
     ensures { IfOk result (λ t. t ≡ shown position around.now.build.now (gen_directory_of around.now.out.now (directory_of source.now))) }
 {
     let directory = directory(alloc, source)?;
@@ -88,7 +98,12 @@ fn gen_text(alloc: Global, position: Position, source: &Path, around: &Around<'_
     shown(alloc, position, around.build, &made)
 }
 
-fn out_text(alloc: Global, position: Position, source: &Path, around: &Around<'_>) -> Result<Text, AllocError>
+fn out_text(
+    alloc: Global,
+    position: Position,
+    source: &Path,
+    around: &Around<'_>,
+) -> Result<Text, AllocError>
     ensures { IfOk result (λ t. t ≡ shown position around.now.build.now (obj_directory_of around.now.out.now (directory_of source.now))) }
 {
     let directory = directory(alloc, source)?;
