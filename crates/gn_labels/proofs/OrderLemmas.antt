@@ -15,6 +15,11 @@ lt_then_equal Less = refl
 lt_then_equal Equal = refl
 lt_then_equal Greater = refl
 
+pub then_equal : (r : Ordering) → r ≡ ordering_then r Equal
+then_equal Less = refl
+then_equal Equal = refl
+then_equal Greater = refl
+
 -- the order of lists of texts
 abbrev texts_cmp : List (List ℕ) → List (List ℕ) → Ordering
 texts_cmp = slice_cmp (slice_cmp nat_cmp)

@@ -2,3 +2,5 @@ pub mod Labels
 pub mod Names
 pub mod Reading
 pub mod Patterns
+pub mod Laws
+pub mod Toolchains

@@ -2,14 +2,15 @@
 use Rattle.std.specs.Prelude.{ℕ, Bool, false, List, [], ◌∷◌, ◌++◌, ◌-◌, ◌==◌, ◌&&◌, ◌||◌, not, nat_eq, nat_lt, length, take, if◌then◌else◌, Option, Some, None, Result, Ok, Err}
 use Rattle.std.specs.List.{filter, list_any, position_or_len, before_first, after_first, ends_with}
 use Rattle.std.specs.Str.{bytes_eq}
-use Rattle.gn_paths.specs.declared.error.PathError.{PathError}
-use Rattle.gn_paths.specs.declared.error.PathError.TheVariants as path_errors
+use Rattle.gn_paths.specs.declared.error.PathFault.{PathFault}
 use Rattle.gn_paths.specs.Components.{dot, is_source, is_system, pieces}
 use Rattle.gn_paths.specs.Directory.{leads_down}
 use Rattle.gn_paths.specs.Parts.{file_of}
-use Rattle.gn_paths.specs.Resolve.{moves, resolved, start_of}
+use Rattle.gn_paths.specs.Resolve.{moves, path_meant, path_error, start_of}
+use Rattle.gn_labels.specs.declared.error.LabelFault.{LabelFault}
+use Rattle.gn_labels.specs.declared.error.LabelFault.TheVariants.{BadLabel, Path}
 use Rattle.gn_labels.specs.declared.error.LabelError.{LabelError}
-use Rattle.gn_labels.specs.declared.error.LabelError.TheVariants.{BadLabel, Path, Memory}
+use Rattle.gn_labels.specs.declared.error.LabelError.TheVariants as errors
 use Rattle.gn_labels.specs.declared.label.Label.{Label}
 use Rattle.gn_labels.specs.declared.named.Named.{Named}
 use Rattle.gn_labels.specs.Labels.{spelling}
@@ -33,33 +34,27 @@ has test text = nat_lt (position_or_len test text) (length text)
 abbrev pub named : List ℕ → List ℕ → Named
 named dir name = record { dir = dir; name = name }
 
--- a path's fault as a fault of the label
-abbrev pub path_fault : PathError → LabelError
-path_fault path_errors.AboveRoot = Path path_errors.AboveRoot
-path_fault path_errors.BadPath = Path path_errors.BadPath
-path_fault path_errors.Memory = Memory
-
 -- the path text of a directory, which resolves to a path without a final slash. An empty one is the
 -- current directory
 abbrev pub directory_text : List ℕ → List ℕ
 directory_text text = if bytes_eq text [] then dot else text ++ 47 ∷ 46 ∷ []
 
 -- the path of a directory
-abbrev pub directory_of : List ℕ → List ℕ → Result (List ℕ) PathError
-directory_of current text = resolved current (directory_text text)
+abbrev pub directory_of : List ℕ → List ℕ → Result (List ℕ) PathFault
+directory_of current text = path_meant current (directory_text text)
 
 -- whether a directory's text starts in the source tree
 abbrev pub starts_in_source : List ℕ → List ℕ → Bool
 starts_in_source current text = if is_system text then false else is_source (start_of current text)
 
 -- a name in a directory
-abbrev pub named_in : List ℕ → Result (List ℕ) PathError → Result Named LabelError
+abbrev pub named_in : List ℕ → Result (List ℕ) PathFault → Result Named LabelFault
 named_in name (Ok dir) = Ok (named dir name)
-named_in name (Err fault) = Err (path_fault fault)
+named_in name (Err fault) = Err (Path fault)
 
 -- what stands before and after a colon: the name is judged, and that the directory is one of the source
 -- tree, before the directory's path is
-abbrev pub named_apart : List ℕ → List ℕ → List ℕ → Result Named LabelError
+abbrev pub named_apart : List ℕ → List ℕ → List ℕ → Result Named LabelFault
 named_apart current dir name =
     if is_name name && starts_in_source current dir then named_in name (directory_of current dir) else Err BadLabel
 
@@ -77,25 +72,26 @@ written_last text = last_or [] (filter moves (pieces text))
 abbrev pub may_be_last : List ℕ → Bool
 may_be_last written = is_name written || not (leads_down written)
 
--- the fault of a wrong path whose last part may end it, or may not
-abbrev pub fault_behind : Bool → PathError → LabelError
-fault_behind may path_errors.AboveRoot = if may then Path path_errors.AboveRoot else BadLabel
-fault_behind may path_errors.BadPath = if may then Path path_errors.BadPath else BadLabel
-fault_behind may path_errors.Memory = Memory
+-- the fault of a wrong path with this last part as it is written
+abbrev pub fault_behind : List ℕ → PathFault → LabelFault
+fault_behind written fault = if may_be_last written then Path fault else BadLabel
 
--- a directory whose last component is also the name. Where the path is wrong, the last part as it is
--- written is judged
-abbrev pub named_last : List ℕ → Result (List ℕ) PathError → Result Named LabelError
-named_last written (Ok dir) = if is_name (file_of dir) then Ok (named dir (file_of dir)) else Err BadLabel
-named_last written (Err fault) = Err (fault_behind (may_be_last written) fault)
+-- a directory whose last component is also the name
+abbrev pub named_by_last : List ℕ → Result Named LabelFault
+named_by_last dir = if is_name (file_of dir) then Ok (named dir (file_of dir)) else Err BadLabel
+
+-- the same where the path may be wrong: the last part as it is written is judged then
+abbrev pub named_last : List ℕ → Result (List ℕ) PathFault → Result Named LabelFault
+named_last written (Ok dir) = named_by_last dir
+named_last written (Err fault) = Err (fault_behind written fault)
 
 -- a text without a colon, which begins with two slashes
-abbrev pub named_whole : List ℕ → List ℕ → Result Named LabelError
+abbrev pub named_whole : List ℕ → List ℕ → Result Named LabelFault
 named_whole current text =
     if is_source text then named_last (written_last text) (directory_of current text) else Err BadLabel
 
 -- a label's text without a toolchain; its first colon ends the directory
-unfoldable pub named_read : List ℕ → List ℕ → Result Named LabelError
+unfoldable pub named_read : List ℕ → List ℕ → Result Named LabelFault
 named_read current text =
     if has is_colon text then named_apart current (before_first is_colon text) (after_first is_colon text) else named_whole current text
 
@@ -107,32 +103,28 @@ abbrev pub is_closed : List ℕ → Bool
 is_closed tail = ends_with nat_eq tail (41 ∷ []) && not (list_any is_parenthesis (without_last tail))
 
 -- the text of the toolchain that a label's text names
-abbrev pub toolchain_of : Result Named LabelError → Result (Option (List ℕ)) LabelError
+abbrev pub toolchain_of : Result Named LabelFault → Result (Option (List ℕ)) LabelFault
 toolchain_of (Ok label) = Ok (Some (spelling label.dir label.name))
 toolchain_of (Err fault) = Err fault
 
 -- what stands behind the opening parenthesis: a label's text without a toolchain, and a closing one
-abbrev pub toolchain_read : List ℕ → List ℕ → Result (Option (List ℕ)) LabelError
+abbrev pub toolchain_read : List ℕ → List ℕ → Result (Option (List ℕ)) LabelFault
 toolchain_read current tail =
     if is_closed tail then toolchain_of (named_read current (without_last tail)) else Err BadLabel
 
 -- the toolchain that a text names in parentheses, if it names one; the first `(` begins it
-unfoldable pub toolchain_in : List ℕ → List ℕ → Result (Option (List ℕ)) LabelError
+unfoldable pub toolchain_in : List ℕ → List ℕ → Result (Option (List ℕ)) LabelFault
 toolchain_in current text =
     if has is_open text then toolchain_read current (after_first is_open text) else Ok None
 
 -- which of two faults is told: a bad form stands before a path's fault, and the first path before the second
-abbrev pub told : LabelError → LabelError → LabelError
-told Memory second = Memory
-told BadLabel Memory = Memory
-told BadLabel BadLabel = BadLabel
-told BadLabel (Path e) = BadLabel
-told (Path e) Memory = Memory
+abbrev pub told : LabelFault → LabelFault → LabelFault
+told BadLabel second = BadLabel
 told (Path e) BadLabel = BadLabel
 told (Path e) (Path f) = Path e
 
 -- a text's two parts
-abbrev pub both : {A : Type 0} → Result A LabelError → Result (Option (List ℕ)) LabelError → Result (A × Option (List ℕ)) LabelError
+abbrev pub both : {A : Type 0} → Result A LabelFault → Result (Option (List ℕ)) LabelFault → Result (A × Option (List ℕ)) LabelFault
 both (Ok a) (Ok toolchain) = Ok (a, toolchain)
 both (Ok a) (Err fault) = Err fault
 both (Err fault) (Ok toolchain) = Err fault
@@ -143,13 +135,22 @@ abbrev pub label_under : Named → List ℕ → Label
 label_under part toolchain = record { dir = part.dir; name = part.name; toolchain = toolchain }
 
 -- the label of both parts; without a toolchain in parentheses the current one is meant
-abbrev pub label_of : List ℕ → Result (Named × Option (List ℕ)) LabelError → Result Label LabelError
+abbrev pub label_of : List ℕ → Result (Named × Option (List ℕ)) LabelFault → Result Label LabelFault
 label_of toolchain (Ok (part, Some other)) = Ok (label_under part other)
 label_of toolchain (Ok (part, None)) = Ok (label_under part toolchain)
 label_of toolchain (Err fault) = Err fault
 
 -- the label that a text means at a current directory under a current toolchain. `BadLabel` of either part
 -- stands before a path's fault
-unfoldable pub label_read : List ℕ → List ℕ → List ℕ → Result Label LabelError
+unfoldable pub label_read : List ℕ → List ℕ → List ℕ → Result Label LabelFault
 label_read current toolchain text =
     label_of toolchain (both (named_read current (before_first is_open text)) (toolchain_in current text))
+
+-- a label as code answers it, whose error may also be want of memory; a meaning's never is
+abbrev pub label_error : LabelFault → LabelError
+label_error BadLabel = errors.BadLabel
+label_error (Path fault) = errors.Path (path_error fault)
+
+abbrev pub label_answered : Result Label LabelFault → Result Label LabelError
+label_answered (Ok label) = Ok label
+label_answered (Err fault) = Err (label_error fault)

@@ -1,9 +1,7 @@
 // A label, how it is printed, and label order.
 
 ghost use Rattle.std.specs.Prelude.{◌≡◌, ◌++◌, IfOk, OnOk};
-ghost use Rattle.std.specs.Ordering.{nat_cmp, is_lt};
-ghost use Rattle.std.specs.Cmp.Lexicographic.{slice_cmp};
-ghost use Rattle.gn_labels.specs.Labels.{spelling, toolchain_suffix, printed, toolchain_key, is_before};
+ghost use Rattle.gn_labels.specs.Labels.{spelling, toolchain_suffix, printed, toolchain_order, label_order, is_before};
 
 use gn_paths::{Path, Text};
 use std::alloc::{AllocError, Global};
@@ -34,21 +32,28 @@ impl Label {
         })
     }
 
-    /// Whether this label comes before the other in label order: by directory bytes, then name bytes,
-    /// then the toolchain, where `default` is first and the others go by their text. It takes no memory.
-    #[tactic(auto, using(crate::proofs::OrderLemmas::lt_then_equal))]
+    /// How this label compares with the other in label order: by directory bytes, then name bytes, then
+    /// the toolchain, where `default` is first and the others go by their text. It takes no memory.
+    #[tactic(auto, using(crate::proofs::OrderLemmas::then_equal))]
+    pub fn compare(&self, other: &Label, default: &Text) -> Ordering
+        ensures { result ≡ label_order default.now self.now other.now }
+    {
+        match self.dir.cmp(&other.dir) {
+            Ordering::Less => Ordering::Less,
+            Ordering::Greater => Ordering::Greater,
+            Ordering::Equal => match self.name.cmp(&other.name) {
+                Ordering::Less => Ordering::Less,
+                Ordering::Greater => Ordering::Greater,
+                Ordering::Equal => compare_toolchains(&self.toolchain, &other.toolchain, default),
+            },
+        }
+    }
+
+    /// Whether this label comes before the other in label order. It takes no memory.
     pub fn before(&self, other: &Label, default: &Text) -> bool
         ensures { result ≡ is_before default.now self.now other.now }
     {
-        match self.dir.cmp(&other.dir) {
-            Ordering::Less => true,
-            Ordering::Greater => false,
-            Ordering::Equal => match self.name.cmp(&other.name) {
-                Ordering::Less => true,
-                Ordering::Greater => false,
-                Ordering::Equal => toolchain_before(&self.toolchain, &other.toolchain, default),
-            },
-        }
+        self.compare(other, default) == Ordering::Less
     }
 
     /// The label as text: `//dir:name`, with `(toolchain)` behind it unless the toolchain is the default
@@ -62,14 +67,21 @@ impl Label {
     }
 }
 
-// Whether a toolchain comes before another: the default one is first.
-fn toolchain_before(own: &Text, other: &Text, default: &Text) -> bool
-    ensures { result ≡ is_lt (slice_cmp nat_cmp (toolchain_key default.now own.now) (toolchain_key default.now other.now)) }
+/// How a toolchain compares with another: `default` is first, the others go by their text. It takes no memory.
+pub fn compare_toolchains(own: &Text, other: &Text, default: &Text) -> Ordering
+    ensures { result ≡ toolchain_order default.now own.now other.now }
 {
     if own == default {
-        return other != default;
+        return if other == default {
+            Ordering::Equal
+        } else {
+            Ordering::Less
+        };
     }
-    other != default && own.cmp(other) == Ordering::Less
+    if other == default {
+        return Ordering::Greater;
+    }
+    own.cmp(other)
 }
 
 // A directory, a colon and a name.

@@ -1,34 +1,21 @@
 // The label that a text means.
 
-ghost use Rattle.std.specs.Prelude.{◌≡◌, ◌⊎◌, ◌++◌, ◌∷◌, [], List, ℕ, Ok, Err, IfOk, IfErr};
+ghost use Rattle.std.specs.Prelude.{◌≡◌, ◌⊎◌, ◌++◌, ◌∷◌, [], Ok, Err, IfOk, IfErr};
 ghost use Rattle.std.specs.List.{filter};
-ghost use Rattle.gn_paths.specs.Resolve.{moves, resolved};
-ghost use Rattle.gn_labels.specs.Reading.{path_fault, directory_of, named_in, named_apart, may_be_last, fault_behind, named_last, named_whole, last_or, written_last, named_read, label_under, label_of, label_read};
+ghost use Rattle.gn_paths.specs.Resolve.{moves};
+ghost use Rattle.gn_labels.specs.Reading.{named, directory_of, named_apart, may_be_last, fault_behind, named_by_last, named_whole, last_or, written_last, named_read, label_under, label_of, label_read, label_error, label_answered};
 
 use crate::bytes::{len_before, starts_in_source};
-use crate::error::LabelError;
+use crate::error::{LabelError, LabelFault};
 use crate::label::Label;
 use crate::name::is_name;
 use crate::named::Named;
 use crate::toolchain::{both, toolchain_in};
-use gn_paths::{Path, PathError, PathPart, Text, is_source, leads_down, part, resolve, stays_there};
+use gn_paths::{
+    Path, PathError, PathFault, PathPart, Text, is_source, leads_down, part, path_meant,
+    stays_there,
+};
 use std::alloc::{AllocError, Global};
-
-pub(crate) fn path_fault(fault: PathError) -> LabelError
-    ensures { result ≡ path_fault fault }
-{
-    match fault {
-        PathError::AboveRoot => LabelError::Path(PathError::AboveRoot),
-        PathError::BadPath => LabelError::Path(PathError::BadPath),
-        PathError::Memory => LabelError::Memory,
-    }
-}
-
-fn resolve_or_memory(alloc: Global, current: &Path, text: &[u8]) -> Result<Path, PathError>
-    ensures { (result ≡ Err PathError.Memory) ⊎ (result ≡ resolved current.now text.now) }
-{
-    resolve(alloc, current, text)
-}
 
 // The path text of a directory that isn't empty.
 fn dotted(alloc: Global, text: &[u8]) -> Result<Text, AllocError>
@@ -41,52 +28,42 @@ fn dotted(alloc: Global, text: &[u8]) -> Result<Text, AllocError>
 
 // The path of a directory, without a final slash.
 #[tactic(auto, using(crate::proofs::NameLemmas::bytes_eq_nil))]
-pub(crate) fn directory(alloc: Global, current: &Path, text: &[u8]) -> Result<Path, PathError>
-    ensures { (result ≡ Err PathError.Memory) ⊎ (result ≡ directory_of current.now text.now) }
+pub(crate) fn directory(
+    alloc: Global,
+    current: &Path,
+    text: &[u8],
+) -> Result<Result<Path, PathFault>, AllocError>
+    ensures { IfOk result (λ found. found ≡ directory_of current.now text.now) }
 {
     if text.is_empty() {
-        return resolve_or_memory(alloc, current, b".");
+        return path_meant(alloc, current, b".");
     }
-    match dotted(alloc, text) {
-        Ok(whole) => resolve_or_memory(alloc, current, whole.as_bytes()),
-        Err(_) => Err(PathError::Memory),
-    }
+    let whole = dotted(alloc, text)?;
+    path_meant(alloc, current, whole.as_bytes())
 }
 
-fn named_in(name: Text, found: Result<Path, PathError>) -> Result<Named, LabelError>
-    ensures { result ≡ named_in name found }
+fn named(alloc: Global, dir: Path, name: &[u8]) -> Result<Result<Named, LabelFault>, AllocError>
+    ensures { IfOk result (λ found. found ≡ Ok (named dir name.now)) }
 {
-    match found {
-        Ok(dir) => Ok(Named { dir, name }),
-        Err(fault) => Err(path_fault(fault)),
-    }
+    let name = Text::from_bytes(alloc, name)?;
+    Ok(Ok(Named { dir, name }))
 }
 
 // A directory and a name around a colon.
-fn read_apart(alloc: Global, current: &Path, dir: &[u8], name: &[u8]) -> Result<Named, LabelError>
-    ensures { (result ≡ Err LabelError.Memory) ⊎ (result ≡ named_apart current.now dir.now name.now) }
+fn read_apart(
+    alloc: Global,
+    current: &Path,
+    dir: &[u8],
+    name: &[u8],
+) -> Result<Result<Named, LabelFault>, AllocError>
+    ensures { IfOk result (λ found. found ≡ named_apart current.now dir.now name.now) }
 {
     if !(is_name(name) && starts_in_source(current, dir)) {
-        return Err(LabelError::BadLabel);
+        return Ok(Err(LabelFault::BadLabel));
     }
-    match Text::from_bytes(alloc, name) {
-        Ok(name) => named_in(name, directory(alloc, current, dir)),
-        Err(_) => Err(LabelError::Memory),
-    }
-}
-
-fn fault_behind(may: bool, fault: PathError) -> LabelError
-    ensures { result ≡ fault_behind may fault }
-{
-    match fault {
-        PathError::Memory => LabelError::Memory,
-        PathError::AboveRoot | PathError::BadPath => {
-            if may {
-                LabelError::Path(fault)
-            } else {
-                LabelError::BadLabel
-            }
-        }
+    match directory(alloc, current, dir)? {
+        Ok(dir) => named(alloc, dir, name),
+        Err(fault) => Ok(Err(LabelFault::Path(fault))),
     }
 }
 
@@ -97,32 +74,25 @@ fn may_be_last(written: &[u8]) -> bool
     is_name(written) || !leads_down(written)
 }
 
-// A directory whose last component is the name.
-fn name_by_last(alloc: Global, dir: Path) -> Result<Named, LabelError>
-    ensures { (result ≡ Err LabelError.Memory) ⊎ ((written : List ℕ) → result ≡ named_last written (Ok dir)) }
+fn fault_behind(written: &[u8], fault: PathFault) -> LabelFault
+    ensures { result ≡ fault_behind written.now fault }
 {
-    match part(alloc, dir.as_bytes(), PathPart::File) {
-        Ok(name) => {
-            if is_name(name.as_bytes()) {
-                Ok(Named { dir, name })
-            } else {
-                Err(LabelError::BadLabel)
-            }
-        }
-        Err(_) => Err(LabelError::Memory),
+    if may_be_last(written) {
+        LabelFault::Path(fault)
+    } else {
+        LabelFault::BadLabel
     }
 }
 
-fn named_last(
-    alloc: Global,
-    written: &[u8],
-    found: Result<Path, PathError>,
-) -> Result<Named, LabelError>
-    ensures { (result ≡ Err LabelError.Memory) ⊎ (result ≡ named_last written.now found) }
+// A directory whose last component is the name.
+fn name_by_last(alloc: Global, dir: Path) -> Result<Result<Named, LabelFault>, AllocError>
+    ensures { IfOk result (λ found. found ≡ named_by_last dir) }
 {
-    match found {
-        Ok(dir) => name_by_last(alloc, dir),
-        Err(fault) => Err(fault_behind(may_be_last(written), fault)),
+    let name = part(alloc, dir.as_bytes(), PathPart::File)?;
+    if is_name(name.as_bytes()) {
+        Ok(Ok(Named { dir, name }))
+    } else {
+        Ok(Err(LabelFault::BadLabel))
     }
 }
 
@@ -151,19 +121,30 @@ fn later<'a>(last: &'a [u8], part: &'a [u8]) -> &'a [u8]
 }
 
 // A text without a colon.
-fn read_whole(alloc: Global, current: &Path, text: &[u8]) -> Result<Named, LabelError>
-    ensures { (result ≡ Err LabelError.Memory) ⊎ (result ≡ named_whole current.now text.now) }
+fn read_whole(
+    alloc: Global,
+    current: &Path,
+    text: &[u8],
+) -> Result<Result<Named, LabelFault>, AllocError>
+    ensures { IfOk result (λ found. found ≡ named_whole current.now text.now) }
 {
     if !is_source(text) {
-        return Err(LabelError::BadLabel);
+        return Ok(Err(LabelFault::BadLabel));
     }
-    named_last(alloc, written_last(text), directory(alloc, current, text))
+    match directory(alloc, current, text)? {
+        Ok(dir) => name_by_last(alloc, dir),
+        Err(fault) => Ok(Err(fault_behind(written_last(text), fault))),
+    }
 }
 
 // A label's text without a toolchain.
 #[tactic(auto, unfolding(crate::specs::Reading::named_read))]
-pub(crate) fn read_named(alloc: Global, current: &Path, text: &[u8]) -> Result<Named, LabelError>
-    ensures { (result ≡ Err LabelError.Memory) ⊎ (result ≡ named_read current.now text.now) }
+pub(crate) fn read_named(
+    alloc: Global,
+    current: &Path,
+    text: &[u8],
+) -> Result<Result<Named, LabelFault>, AllocError>
+    ensures { IfOk result (λ found. found ≡ named_read current.now text.now) }
 {
     let n = len_before(text, b':');
     if n < text.len() {
@@ -187,19 +168,52 @@ fn label_under(part: Named, toolchain: Text) -> Label
 fn label_of(
     alloc: Global,
     toolchain: &Text,
-    parts: Result<(Named, Option<Text>), LabelError>,
-) -> Result<Label, LabelError>
-    ensures { (result ≡ Err LabelError.Memory) ⊎ (result ≡ label_of toolchain.now parts) }
+    parts: Result<(Named, Option<Text>), LabelFault>,
+) -> Result<Result<Label, LabelFault>, AllocError>
+    ensures { IfOk result (λ found. found ≡ label_of toolchain.now parts) }
 {
     match parts {
         Ok((part, named)) => match named {
-            Some(named) => Ok(label_under(part, named)),
-            None => match toolchain.copy(alloc) {
-                Ok(current) => Ok(label_under(part, current)),
-                Err(_) => Err(LabelError::Memory),
-            },
+            Some(named) => Ok(Ok(label_under(part, named))),
+            None => current_label(alloc, part, toolchain),
         },
-        Err(fault) => Err(fault),
+        Err(fault) => Ok(Err(fault)),
+    }
+}
+
+fn current_label(
+    alloc: Global,
+    part: Named,
+    toolchain: &Text,
+) -> Result<Result<Label, LabelFault>, AllocError>
+    ensures { IfOk result (λ found. found ≡ Ok (label_under part toolchain.now)) }
+{
+    let toolchain = toolchain.copy(alloc)?;
+    Ok(Ok(label_under(part, toolchain)))
+}
+
+#[tactic(auto, unfolding(crate::specs::Reading::label_read))]
+fn label_meant(
+    alloc: Global,
+    text: &[u8],
+    current: &Path,
+    toolchain: &Text,
+) -> Result<Result<Label, LabelFault>, AllocError>
+    ensures { IfOk result (λ found. found ≡ label_read current.now toolchain.now text.now) }
+{
+    let n = len_before(text, b'(');
+    let part = read_named(alloc, current, &text[..n])?;
+    let named = toolchain_in(alloc, current, text)?;
+    label_of(alloc, toolchain, both(part, named))
+}
+
+fn label_error(fault: LabelFault) -> LabelError
+    ensures { result ≡ label_error fault }
+{
+    match fault {
+        LabelFault::BadLabel => LabelError::BadLabel,
+        LabelFault::Path(PathFault::AboveRoot) => LabelError::Path(PathError::AboveRoot),
+        LabelFault::Path(PathFault::BadPath) => LabelError::Path(PathError::BadPath),
     }
 }
 
@@ -209,8 +223,9 @@ impl Label {
     /// `:name` and `dir:name`, each with an optional `(toolchain)` behind it. The first `(` begins the
     /// toolchain, which ends with the text and is itself such a text without parentheses; the first `:`
     /// ends the directory. `BadLabel` comes exactly where a form or a name is wrong, also in the
-    /// toolchain, and else `Path` where a directory is no path.
-    #[tactic(auto, unfolding(crate::specs::Reading::label_read))]
+    /// toolchain, and else `Path` where a directory is no path. Of a wrong path without a colon the last
+    /// part as it is written is judged as a name, empty parts and `.` aside.
+    #[tactic(auto, using(crate::proofs::ReadingLemmas::meant_ok, crate::proofs::ReadingLemmas::meant_err))]
     pub fn read(
         alloc: Global,
         text: &[u8],
@@ -218,11 +233,12 @@ impl Label {
         toolchain: &Text,
     ) -> Result<Label, LabelError>
         ensures ok { IfOk result (λ l. label_read current.now toolchain.now text.now ≡ Ok l) }
-        ensures err { IfErr result (λ e. (e ≡ LabelError.Memory) ⊎ (label_read current.now toolchain.now text.now ≡ Err e)) }
+        ensures err { IfErr result (λ e. (e ≡ LabelError.Memory) ⊎ (label_answered (label_read current.now toolchain.now text.now) ≡ Err e)) }
     {
-        let n = len_before(text, b'(');
-        let part = read_named(alloc, current, &text[..n]);
-        let parts = both(part, toolchain_in(alloc, current, text));
-        label_of(alloc, toolchain, parts)
+        match label_meant(alloc, text, current, toolchain) {
+            Ok(Ok(label)) => Ok(label),
+            Ok(Err(fault)) => Err(label_error(fault)),
+            Err(_) => Err(LabelError::Memory),
+        }
     }
 }

@@ -11,10 +11,16 @@ mod named;
 mod pattern;
 mod pattern_reading;
 mod toolchain;
+mod toolchain_name;
 
-pub use error::{LabelError, PatternError};
-pub use label::Label;
-pub use laws::{label_order_has_no_ties, label_order_is_strict, label_order_is_transitive};
+pub use error::{LabelError, LabelFault, PatternError, PatternFault};
+pub use label::{Label, compare_toolchains};
+pub use laws::{
+    a_bad_form_is_a_bad_label, a_pattern_without_a_star_is_a_label,
+    a_star_in_the_toolchain_alone_is_a_bad_pattern, a_toolchain_spells_its_name,
+    label_order_has_no_ties, label_order_is_strict, label_order_is_transitive,
+    what_is_read_is_a_label,
+};
 pub use name::is_name;
 pub use named::Named;
 pub use pattern::{Extent, Pattern};

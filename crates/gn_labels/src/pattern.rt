@@ -1,11 +1,12 @@
 // Patterns of labels.
 
-ghost use Rattle.std.specs.Prelude.{◌≡◌};
-ghost use Rattle.gn_labels.specs.Patterns.{has_label, has_toolchain, is_within, matches};
+ghost use Rattle.std.specs.Prelude.{◌≡◌, IfOk};
+ghost use Rattle.gn_labels.specs.Patterns.{pattern_under, has_label, has_toolchain, is_within, matches};
 
 use crate::label::Label;
 use crate::named::Named;
 use gn_paths::{Path, Text};
+use std::alloc::{AllocError, Global};
 
 /// Which directories and names a pattern has.
 #[derive(Debug, Drop, PartialEq, Eq)]
@@ -20,21 +21,77 @@ pub enum Extent {
     All,
 }
 
-/// A pattern: which labels it matches.
+impl Extent {
+    /// A new extent equal to this one.
+    pub fn copy(&self, alloc: Global) -> Result<Extent, AllocError>
+        ensures { IfOk result (λ e. e ≡ self.now) }
+    {
+        match self {
+            Extent::Exact(part) => Ok(Extent::Exact(part.copy(alloc)?)),
+            Extent::Directory(dir) => Ok(Extent::Directory(dir.copy(alloc)?)),
+            Extent::Below(dir) => Ok(Extent::Below(dir.copy(alloc)?)),
+            Extent::All => Ok(Extent::All),
+        }
+    }
+}
+
+/// A pattern: which labels it matches, and the text that it was read from.
 #[derive(Debug, Drop, PartialEq, Eq)]
 pub struct Pattern {
     /// The directories and names.
     pub extent: Extent,
     /// The toolchain, spelled `//dir:name`; without one every toolchain matches.
     pub toolchain: Option<Text>,
+    text: Text,
 }
 
 impl Pattern {
+    // A pattern of these parts, which was read from `text`.
+    pub(crate) fn new(extent: Extent, toolchain: Option<Text>, text: Text) -> Pattern
+        ensures { result ≡ pattern_under text extent toolchain }
+    {
+        Pattern {
+            extent,
+            toolchain,
+            text,
+        }
+    }
+
+    /// The text that the pattern was read from.
+    pub fn text(&self) -> &Text
+        ensures { result.now ≡ self.now.text }
+    {
+        &self.text
+    }
+
+    /// A new pattern equal to this one.
+    pub fn copy(&self, alloc: Global) -> Result<Pattern, AllocError>
+        ensures { IfOk result (λ p. p ≡ self.now) }
+    {
+        let text = self.text.copy(alloc)?;
+        let toolchain = copy_toolchain(alloc, &self.toolchain)?;
+        let extent = self.extent.copy(alloc)?;
+        Ok(Pattern {
+            extent,
+            toolchain,
+            text,
+        })
+    }
+
     /// Whether the pattern matches a label. It takes no memory.
     pub fn matches(&self, label: &Label) -> bool
         ensures { result ≡ matches self.now label.now }
     {
         has_label(&self.extent, label) && has_toolchain(&self.toolchain, &label.toolchain)
+    }
+}
+
+fn copy_toolchain(alloc: Global, toolchain: &Option<Text>) -> Result<Option<Text>, AllocError>
+    ensures { IfOk result (λ t. t ≡ toolchain.now) }
+{
+    match toolchain {
+        Some(text) => Ok(Some(text.copy(alloc)?)),
+        None => Ok(None),
     }
 }
 

@@ -3,17 +3,18 @@
 ghost use Rattle.std.specs.Prelude.{◌≡◌, ◌⊎◌, Ok, Err, IfOk, IfErr};
 ghost use Rattle.std.specs.List.{list_any};
 ghost use Rattle.gn_labels.specs.Names.{is_mark};
-ghost use Rattle.gn_labels.specs.Patterns.{is_star, directory_found, directory_read, in_directory, from_directory, exact, wild_read, extent_read, pattern_error, pattern_of, pattern_read};
+ghost use Rattle.gn_labels.specs.Reading.{named_read};
+ghost use Rattle.gn_labels.specs.Patterns.{is_star, directory_found, directory_read, in_directory, from_directory, exact, wild_read, extent_read, pattern_fault, pattern_of, pattern_read, pattern_error, pattern_answered};
 
 use crate::bytes::{len_before, starts_in_source};
-use crate::error::{LabelError, PatternError};
-use crate::label_reading::{directory, path_fault, read_named};
+use crate::error::{LabelFault, PatternError, PatternFault};
+use crate::label_reading::{directory, read_named};
 use crate::name::is_mark;
 use crate::named::Named;
 use crate::pattern::{Extent, Pattern};
 use crate::toolchain::{both, toolchain_in};
-use gn_paths::{Path, PathError, Text};
-use std::alloc::Global;
+use gn_paths::{Path, PathError, PathFault, Text};
+use std::alloc::{AllocError, Global};
 
 fn has_mark(text: &[u8]) -> bool
     ensures { result ≡ list_any is_mark text.now }
@@ -27,26 +28,31 @@ fn has_star(text: &[u8]) -> bool
     text.contains(&b'*')
 }
 
-fn directory_found(found: Result<Path, PathError>) -> Result<Path, LabelError>
+fn directory_found(found: Result<Path, PathFault>) -> Result<Path, LabelFault>
     ensures { result ≡ directory_found found }
 {
     match found {
         Ok(dir) => Ok(dir),
-        Err(fault) => Err(path_fault(fault)),
+        Err(fault) => Err(LabelFault::Path(fault)),
     }
 }
 
 // The directory of a pattern.
-fn read_directory(alloc: Global, current: &Path, text: &[u8]) -> Result<Path, LabelError>
-    ensures { (result ≡ Err LabelError.Memory) ⊎ (result ≡ directory_read current.now text.now) }
+fn read_directory(
+    alloc: Global,
+    current: &Path,
+    text: &[u8],
+) -> Result<Result<Path, LabelFault>, AllocError>
+    ensures { IfOk result (λ found. found ≡ directory_read current.now text.now) }
 {
     if has_mark(text) || !starts_in_source(current, text) {
-        return Err(LabelError::BadLabel);
+        return Ok(Err(LabelFault::BadLabel));
     }
-    directory_found(directory(alloc, current, text))
+    let found = directory(alloc, current, text)?;
+    Ok(directory_found(found))
 }
 
-fn in_directory(found: Result<Path, LabelError>) -> Result<Extent, LabelError>
+fn in_directory(found: Result<Path, LabelFault>) -> Result<Extent, LabelFault>
     ensures { result ≡ in_directory found }
 {
     match found {
@@ -55,7 +61,7 @@ fn in_directory(found: Result<Path, LabelError>) -> Result<Extent, LabelError>
     }
 }
 
-fn from_directory(found: Result<Path, LabelError>) -> Result<Extent, LabelError>
+fn from_directory(found: Result<Path, LabelFault>) -> Result<Extent, LabelFault>
     ensures { result ≡ from_directory found }
 {
     match found {
@@ -64,7 +70,7 @@ fn from_directory(found: Result<Path, LabelError>) -> Result<Extent, LabelError>
     }
 }
 
-fn exact(found: Result<Named, LabelError>) -> Result<Extent, LabelError>
+fn exact(found: Result<Named, LabelFault>) -> Result<Extent, LabelFault>
     ensures { result ≡ exact found }
 {
     match found {
@@ -74,49 +80,101 @@ fn exact(found: Result<Named, LabelError>) -> Result<Extent, LabelError>
 }
 
 // What stands before the toolchain, in a text with a `*`.
-fn read_wild(alloc: Global, current: &Path, text: &[u8]) -> Result<Extent, LabelError>
-    ensures { (result ≡ Err LabelError.Memory) ⊎ (result ≡ wild_read current.now text.now) }
+fn read_wild(
+    alloc: Global,
+    current: &Path,
+    text: &[u8],
+) -> Result<Result<Extent, LabelFault>, AllocError>
+    ensures { IfOk result (λ found. found ≡ wild_read current.now text.now) }
 {
     if text == b"*".as_slice() {
-        return Ok(Extent::All);
+        return Ok(Ok(Extent::All));
     }
     if text.ends_with(b":*") {
-        return in_directory(read_directory(alloc, current, &text[..text.len() - 2]));
+        let found = read_directory(alloc, current, &text[..text.len() - 2])?;
+        return Ok(in_directory(found));
     }
     if text.ends_with(b"/*") {
-        return from_directory(read_directory(alloc, current, &text[..text.len() - 1]));
+        let found = read_directory(alloc, current, &text[..text.len() - 1])?;
+        return Ok(from_directory(found));
     }
-    Err(LabelError::BadLabel)
+    Ok(Err(LabelFault::BadLabel))
+}
+
+fn read_exact(
+    alloc: Global,
+    current: &Path,
+    text: &[u8],
+) -> Result<Result<Extent, LabelFault>, AllocError>
+    ensures { IfOk result (λ found. found ≡ exact (named_read current.now text.now)) }
+{
+    let found = read_named(alloc, current, text)?;
+    Ok(exact(found))
 }
 
 // What stands before the toolchain, in a text that holds a `*` or doesn't.
 #[tactic(auto, unfolding(crate::specs::Patterns::extent_read))]
-fn read_extent(alloc: Global, current: &Path, wild: bool, text: &[u8]) -> Result<Extent, LabelError>
-    ensures { (result ≡ Err LabelError.Memory) ⊎ (result ≡ extent_read current.now wild text.now) }
+fn read_extent(
+    alloc: Global,
+    current: &Path,
+    wild: bool,
+    text: &[u8],
+) -> Result<Result<Extent, LabelFault>, AllocError>
+    ensures { IfOk result (λ found. found ≡ extent_read current.now wild text.now) }
 {
     if wild {
         read_wild(alloc, current, text)
     } else {
-        exact(read_named(alloc, current, text))
+        read_exact(alloc, current, text)
     }
 }
 
-fn pattern_error(fault: LabelError) -> PatternError
+fn pattern_fault(fault: LabelFault) -> PatternFault
+    ensures { result ≡ pattern_fault fault }
+{
+    match fault {
+        LabelFault::BadLabel => PatternFault::BadPattern,
+        LabelFault::Path(fault) => PatternFault::Path(fault),
+    }
+}
+
+fn pattern_of(
+    alloc: Global,
+    text: &[u8],
+    parts: Result<(Extent, Option<Text>), LabelFault>,
+) -> Result<Result<Pattern, PatternFault>, AllocError>
+    ensures { IfOk result (λ found. found ≡ pattern_of text.now parts) }
+{
+    match parts {
+        Ok((extent, toolchain)) => {
+            let text = Text::from_bytes(alloc, text)?;
+            Ok(Ok(Pattern::new(extent, toolchain, text)))
+        }
+        Err(fault) => Ok(Err(pattern_fault(fault))),
+    }
+}
+
+#[tactic(auto, unfolding(crate::specs::Patterns::pattern_read))]
+fn pattern_meant(
+    alloc: Global,
+    text: &[u8],
+    current: &Path,
+) -> Result<Result<Pattern, PatternFault>, AllocError>
+    ensures { IfOk result (λ found. found ≡ pattern_read current.now text.now) }
+{
+    let n = len_before(text, b'(');
+    let extent = read_extent(alloc, current, has_star(text), &text[..n])?;
+    let toolchain = toolchain_in(alloc, current, text)?;
+    pattern_of(alloc, text, both(extent, toolchain))
+}
+
+fn pattern_error(fault: PatternFault) -> PatternError
     ensures { result ≡ pattern_error fault }
 {
     match fault {
-        LabelError::BadLabel => PatternError::BadPattern,
-        LabelError::Path(fault) => PatternError::Path(fault),
-        LabelError::Memory => PatternError::Memory,
-    }
-}
-
-fn pattern_of(parts: Result<(Extent, Option<Text>), LabelError>) -> Result<Pattern, PatternError>
-    ensures { result ≡ pattern_of parts }
-{
-    match parts {
-        Ok((extent, toolchain)) => Ok(Pattern { extent, toolchain }),
-        Err(fault) => Err(pattern_error(fault)),
+        PatternFault::BadPattern => PatternError::BadPattern,
+        PatternFault::Path(PathFault::AboveRoot) => PatternError::Path(PathError::AboveRoot),
+        PatternFault::Path(PathFault::BadPath) => PatternError::Path(PathError::BadPath),
     }
 }
 
@@ -125,14 +183,17 @@ impl Pattern {
     /// is exact. `//d:*` is all of a directory, `//d/*` a directory and all below, `//*` the root and all
     /// below, `*` is all; `:*`, `./*`, `d:*` and `d/*` start at the current directory. Each may end in a
     /// toolchain in parentheses. `BadPattern` comes exactly where a form or a name is wrong, also in the
-    /// toolchain, and else `Path` where a directory is no path.
-    #[tactic(auto, unfolding(crate::specs::Patterns::pattern_read))]
+    /// toolchain, and else `Path` where a directory is no path. A text with a `*` in its toolchain alone
+    /// has none of these forms.
+    #[tactic(auto, using(crate::proofs::ReadingLemmas::pattern_ok, crate::proofs::ReadingLemmas::pattern_err))]
     pub fn read(alloc: Global, text: &[u8], current: &Path) -> Result<Pattern, PatternError>
         ensures ok { IfOk result (λ p. pattern_read current.now text.now ≡ Ok p) }
-        ensures err { IfErr result (λ e. (e ≡ PatternError.Memory) ⊎ (pattern_read current.now text.now ≡ Err e)) }
+        ensures err { IfErr result (λ e. (e ≡ PatternError.Memory) ⊎ (pattern_answered (pattern_read current.now text.now) ≡ Err e)) }
     {
-        let n = len_before(text, b'(');
-        let extent = read_extent(alloc, current, has_star(text), &text[..n]);
-        pattern_of(both(extent, toolchain_in(alloc, current, text)))
+        match pattern_meant(alloc, text, current) {
+            Ok(Ok(pattern)) => Ok(pattern),
+            Ok(Err(fault)) => Err(pattern_error(fault)),
+            Err(_) => Err(PatternError::Memory),
+        }
     }
 }

@@ -1,16 +1,17 @@
 // The toolchain that a text names in parentheses, and a text's two parts.
 
-ghost use Rattle.std.specs.Prelude.{◌≡◌, ◌⊎◌, Err, take, ◌-◌, length};
+ghost use Rattle.std.specs.Prelude.{◌≡◌, Ok, Some, IfOk, take, ◌-◌, length};
+ghost use Rattle.gn_labels.specs.Labels.{spelling};
 ghost use Rattle.std.specs.List.{list_any};
-ghost use Rattle.gn_labels.specs.Reading.{is_parenthesis, without_last, is_closed, toolchain_of, toolchain_read, toolchain_in, told, both};
+ghost use Rattle.gn_labels.specs.Reading.{is_parenthesis, without_last, is_closed, toolchain_read, toolchain_in, told, both};
 
 use crate::bytes::len_before;
-use crate::error::LabelError;
+use crate::error::LabelFault;
 use crate::label::spell;
 use crate::label_reading::read_named;
 use crate::named::Named;
 use gn_paths::{Path, Text};
-use std::alloc::Global;
+use std::alloc::{AllocError, Global};
 
 fn has_parenthesis(text: &[u8]) -> bool
     ensures { result ≡ list_any is_parenthesis text.now }
@@ -31,25 +32,27 @@ fn is_closed(tail: &[u8]) -> bool
     tail.ends_with(b")") && !has_parenthesis(without_last(tail))
 }
 
-fn toolchain_of(alloc: Global, part: Result<Named, LabelError>) -> Result<Option<Text>, LabelError>
-    ensures { (result ≡ Err LabelError.Memory) ⊎ (result ≡ toolchain_of part) }
+fn toolchain_of(alloc: Global, part: &Named) -> Result<Result<Option<Text>, LabelFault>, AllocError>
+    ensures { IfOk result (λ found. found ≡ Ok (Some (spelling part.now.dir part.now.name))) }
 {
-    match part {
-        Ok(part) => match spell(alloc, &part.dir, &part.name) {
-            Ok(text) => Ok(Some(text)),
-            Err(_) => Err(LabelError::Memory),
-        },
-        Err(fault) => Err(fault),
-    }
+    let text = spell(alloc, &part.dir, &part.name)?;
+    Ok(Ok(Some(text)))
 }
 
-fn read_toolchain(alloc: Global, current: &Path, tail: &[u8]) -> Result<Option<Text>, LabelError>
-    ensures { (result ≡ Err LabelError.Memory) ⊎ (result ≡ toolchain_read current.now tail.now) }
+fn read_toolchain(
+    alloc: Global,
+    current: &Path,
+    tail: &[u8],
+) -> Result<Result<Option<Text>, LabelFault>, AllocError>
+    ensures { IfOk result (λ found. found ≡ toolchain_read current.now tail.now) }
 {
     if !is_closed(tail) {
-        return Err(LabelError::BadLabel);
+        return Ok(Err(LabelFault::BadLabel));
     }
-    toolchain_of(alloc, read_named(alloc, current, without_last(tail)))
+    match read_named(alloc, current, without_last(tail))? {
+        Ok(part) => toolchain_of(alloc, &part),
+        Err(fault) => Ok(Err(fault)),
+    }
 }
 
 // The toolchain that a text names in parentheses, if it names one.
@@ -58,33 +61,32 @@ pub(crate) fn toolchain_in(
     alloc: Global,
     current: &Path,
     text: &[u8],
-) -> Result<Option<Text>, LabelError>
-    ensures { (result ≡ Err LabelError.Memory) ⊎ (result ≡ toolchain_in current.now text.now) }
+) -> Result<Result<Option<Text>, LabelFault>, AllocError>
+    ensures { IfOk result (λ found. found ≡ toolchain_in current.now text.now) }
 {
     let n = len_before(text, b'(');
     if n < text.len() {
         read_toolchain(alloc, current, &text[n + 1..])
     } else {
-        Ok(None)
+        Ok(Ok(None))
     }
 }
 
 // Which of two faults is told.
-fn told(first: LabelError, second: LabelError) -> LabelError
+fn told(first: LabelFault, second: LabelFault) -> LabelFault
     ensures { result ≡ told first second }
 {
     match (first, second) {
-        (LabelError::Memory, _) | (_, LabelError::Memory) => LabelError::Memory,
-        (LabelError::Path(fault), LabelError::Path(_)) => LabelError::Path(fault),
-        _ => LabelError::BadLabel,
+        (LabelFault::Path(fault), LabelFault::Path(_)) => LabelFault::Path(fault),
+        _ => LabelFault::BadLabel,
     }
 }
 
 // A text's two parts, or the fault of them that is told.
 pub(crate) fn both<A: Drop>(
-    first: Result<A, LabelError>,
-    toolchain: Result<Option<Text>, LabelError>,
-) -> Result<(A, Option<Text>), LabelError>
+    first: Result<A, LabelFault>,
+    toolchain: Result<Option<Text>, LabelFault>,
+) -> Result<(A, Option<Text>), LabelFault>
     ensures { result ≡ both first toolchain }
 {
     match first {

@@ -109,12 +109,12 @@ or_true true b = refl
 or_true false true = refl
 or_true false false = refl
 
-directory-plain : (d : List ℕ) → EndsPlain d → is_directory d ≡ true
+pub directory-plain : (d : List ℕ) → EndsPlain d → is_directory d ≡ true
 unfolding is_directory
 directory-plain d w =
     ap (λ b. bytes_eq d two_slashes || (bytes_eq d slash || not b)) (ap ends_in_slash w.is ∙ ends_in_slash-last w.front w.last ∙ w.plain) ∙ or_true (bytes_eq d two_slashes) (bytes_eq d slash)
 
-root-directory : (b : Bool) → IsDirectory (cond b slash [] ++ slash)
+pub root-directory : (b : Bool) → IsDirectory (cond b slash [] ++ slash)
 unfolding is_directory
 root-directory true = record { normal = IsNormal-root; form = refl }
 root-directory false = record { normal = record { text = path_text-clean 47 [] clean-slash; shape = inl refl }; form = refl }

@@ -10,17 +10,20 @@ use Rattle.std.proofs.lemmas.Slice.Eq.{bytes_eq-Decides}
 use Rattle.std.proofs.lemmas.List.{append-nil, take_at, length-append, get_or_at}
 use Rattle.std.proofs.lemmas.List.Elements.{All-nil, All-cons, All-head, All-tail, All-append, All-replicate, All-weaker, filter-append}
 use Rattle.gn_paths.specs.declared.error.PathError.TheVariants.{AboveRoot}
+use Rattle.gn_paths.specs.declared.error.PathFault.{PathFault}
+use Rattle.gn_paths.specs.declared.error.PathFault.TheVariants as faults
 use Rattle.gn_paths.specs.Components.{is_slash, slash, two_slashes, dot, two_dots, HasNoSlash, pieces, trail, top_of, is_absolute, is_source, is_system, components, spelled, ends_in_slash}
 use Rattle.gn_paths.specs.Normal.{is_path_text, IsNormal, IsInSource, IsPlain}
 use Rattle.gn_paths.specs.Resolve.{stays_there, moves, without_last, stepped, walked, start_of, led, path_meant, resolved}
-use Rattle.gn_paths.specs.Directory.{as_directory}
+use Rattle.gn_paths.specs.Directory.{as_directory, is_directory}
 use Rattle.gn_paths.specs.Rebase.{relative, or_dot, joined, keeps_slash, closed, system_components, system_path, shown_from, rebased, seen_from}
-use Rattle.gn_paths.specs.Laws.{NeverClimbs, LeadsTo}
-use Rattle.gn_paths.proofs.PieceLemmas.{Ends, ends, slash_is, one_slash, trail-append, pieces-joined, ends_in_slash-last, components_plain}
-use Rattle.gn_paths.proofs.ResolveLemmas.{resolved-system, resolved-led, meant_ok}
-use Rattle.gn_paths.proofs.LedLemmas.{IsClean, clean-append, clean-slash, clean-nil, clean-trail, clean-components, clean-path_text, path_text-clean, absolute-normal, components-spelled, plain_slashes}
+use Rattle.gn_paths.specs.Laws.{NeverClimbs, LeadsTo, IsSourceDirectory}
+use Rattle.gn_paths.proofs.NormalLemmas.{IsNormal-root}
+use Rattle.gn_paths.proofs.PieceLemmas.{Ends, ends, pieces_plain, slash_is, one_slash, trail-append, pieces-joined, ends_in_slash-last, components_plain}
+use Rattle.gn_paths.proofs.ResolveLemmas.{IsKept, walked_keeps, resolved-system, resolved-led, meant_ok}
+use Rattle.gn_paths.proofs.LedLemmas.{IsClean, clean-append, clean-slash, clean-nil, clean-trail, clean-components, clean-path_text, path_text-clean, absolute-normal, components-spelled, plain_slashes, led_normal, source_plain, kept_plain}
 use Rattle.gn_paths.proofs.RebaseLemmas.{relative-none, map-dots, system_plain}
-use Rattle.gn_paths.proofs.DirectoryLemmas.{EndsPlain, source-as_directory}
+use Rattle.gn_paths.proofs.DirectoryLemmas.{EndsPlain, source-as_directory, directory-plain, root-directory}
 
 -- `..` takes the last component away
 without_last-push : (xs : List (List ℕ)) (x : List ℕ) → without_last (xs ++ x ∷ []) ≡ Some xs
@@ -274,14 +277,14 @@ source-absolute [] e = absurd (false≢true e)
 source-absolute (b ∷ []) e = let k = and_parts (nat_eq 47 b) false e in absurd (false≢true k.1)
 source-absolute (b ∷ c ∷ r) e = let k = and_parts (nat_eq 47 b) (nat_eq 47 c && true) e in ap (λ x. x && true) k.0
 
-not_source : (t : List ℕ) → is_absolute t ≡ false → is_source t ≡ false
+pub not_source : (t : List ℕ) → is_absolute t ≡ false → is_source t ≡ false
 not_source t h = by (is_source t) refl
   where
     by : (b : Bool) → is_source t ≡ b → is_source t ≡ false
     by true e = absurd (false≢true (sym h ∙ source-absolute t e))
     by false e = e
 
-not_system : (t : List ℕ) → is_absolute t ≡ false → is_system t ≡ false
+pub not_system : (t : List ℕ) → is_absolute t ≡ false → is_system t ≡ false
 not_system t h = ap (λ b. cond b false (is_absolute t)) (not_source t h) ∙ h
 
 -- the final slash of a path with components is kept
@@ -389,3 +392,71 @@ means_itself current path h = sym (meant_ok current path path (by h.shape))
     by : (is_system path ≡ true) ⊎ IsInSource path → resolved current path ≡ Ok path
     by (inl s) = resolved-system current path h.text s
     by (inr w) = source_itself current path h w
+
+-- what a text means is a path in normal form, and a directory where the text has no final slash
+start_normal : (current text : List ℕ) → IsNormal current → IsNormal (start_of current text)
+start_normal current text h = by (is_source text)
+  where
+    by : (b : Bool) → IsNormal (cond b two_slashes current)
+    by true = IsNormal-root
+    by false = h
+
+record IsMeant (current text path : List ℕ) : Type 0 where
+  named : is_path_text text ≡ true
+  found : (is_system text ≡ true) × (path ≡ text) ⊎ (is_system text ≡ false) × (led (start_of current text) text ≡ Some path)
+
+meant_cases : (current text path : List ℕ) → path_meant current text ≡ Ok path → IsMeant current text path
+unfolding path_meant
+meant_cases current text path e = by (is_path_text text) (is_system text) refl refl e
+  where
+    led_case : (o : Option (List ℕ)) → ok_or o faults.AboveRoot ≡ Ok path → o ≡ Some path
+    led_case None q = absurd cc
+    led_case (Some x) q = let same : x ≡ path = cc in ap Some same
+
+    by : (a b : Bool) → is_path_text text ≡ a → is_system text ≡ b → cond a (cond b (Ok text) (ok_or (led (start_of current text) text) faults.AboveRoot)) (Err faults.BadPath) ≡ Ok path → IsMeant current text path
+    by true true f g q = let same : text ≡ path = cc in record { named = f; found = inl (g, sym same) }
+    by true false f g q = record { named = f; found = inr (g, led_case (led (start_of current text) text) q) }
+    by false b f g q = absurd cc
+
+pub meant_normal : (current text path : List ℕ) → IsNormal current → path_meant current text ≡ Ok path → IsNormal path
+meant_normal current text path h e = by (meant_cases current text path e)
+  where
+    by : IsMeant current text path → IsNormal path
+    by m = go m.found
+      where
+        go : (is_system text ≡ true) × (path ≡ text) ⊎ (is_system text ≡ false) × (led (start_of current text) text ≡ Some path) → IsNormal path
+        go (inl k) = subst IsNormal (sym k.1) (record { text = m.named; shape = inl k.0 })
+        go (inr k) = led_normal (start_of current text) text path (start_normal current text h) m.named k.1
+
+spelled_directory : (cs : List (List ℕ)) → All IsPlain cs → IsSourceDirectory (spelled slash cs false)
+spelled_directory [] h = record { source = refl; form = (root-directory true).form }
+spelled_directory (c ∷ cs) h =
+    let filled : All IsFilled (c ∷ cs) = All-weaker IsPlain IsFilled filled_plain (c ∷ cs) h in
+    record {
+      source = refl;
+      form = directory-plain (spelled slash (c ∷ cs) false) (subst EndsPlain (sym (append-nil (slash ++ trail (c ∷ cs)))) (ends_trail (47 ∷ 47 ∷ []) c cs (All-head IsFilled c cs filled) (All-tail IsFilled c cs filled)));
+    }
+
+led_directory : (start text path : List ℕ) → IsNormal start → is_source start ≡ true → ends_in_slash text ≡ false → led start text ≡ Some path → IsSourceDirectory path
+unfolding led
+led_directory start text path h s n e = by (walked (components start) (pieces text)) refl e
+  where
+    plain : (cs : List (List ℕ)) → walked (components start) (pieces text) ≡ Some cs → All IsPlain cs
+    plain cs w = walked_keeps IsPlain (pieces text) (components start) cs (source_plain start h s) (All-weaker HasNoSlash (λ p. IsKept p → IsPlain p) (λ p k q. kept_plain p k q) (pieces text) (pieces_plain text)) w
+
+    by : (o : Option (List (List ℕ))) → walked (components start) (pieces text) ≡ o → option_map (λ cs. spelled (top_of start) cs (ends_in_slash text)) o ≡ Some path → IsSourceDirectory path
+    by None w q = absurd cc
+    by (Some cs) w q =
+        let same : spelled (top_of start) cs (ends_in_slash text) ≡ path = cc in
+        let shape : spelled (top_of start) cs (ends_in_slash text) ≡ spelled slash cs false = ap (λ b. spelled (cond b slash []) cs (ends_in_slash text)) s ∙ ap (spelled slash cs) n in
+        subst IsSourceDirectory (sym shape ∙ same) (spelled_directory cs (plain cs w))
+
+pub meant_directory : (current text path : List ℕ) → IsNormal current → is_source (start_of current text) ≡ true → is_system text ≡ false → ends_in_slash text ≡ false → path_meant current text ≡ Ok path → IsSourceDirectory path
+meant_directory current text path h s y n e = by (meant_cases current text path e)
+  where
+    by : IsMeant current text path → IsSourceDirectory path
+    by m = go m.found
+      where
+        go : (is_system text ≡ true) × (path ≡ text) ⊎ (is_system text ≡ false) × (led (start_of current text) text ≡ Some path) → IsSourceDirectory path
+        go (inl k) = absurd (false≢true (sym y ∙ k.0))
+        go (inr k) = led_directory (start_of current text) text path (start_normal current text h) s n k.1

@@ -1,8 +1,9 @@
 -- What a path that is shown leads back to.
-use Rattle.std.specs.Prelude.{ℕ, Bool, false, List, ◌≡◌, ◌++◌, Some}
+use Rattle.std.specs.Prelude.{ℕ, Bool, false, true, List, ◌≡◌, ◌++◌, Some}
 use Rattle.std.specs.List.{All, filter}
 use Rattle.std.specs.Str.{bytes_eq}
-use Rattle.gn_paths.specs.Components.{two_dots, pieces, is_absolute}
+use Rattle.gn_paths.specs.Components.{two_dots, pieces, is_absolute, is_source}
+use Rattle.gn_paths.specs.Directory.{is_directory}
 use Rattle.gn_paths.specs.Resolve.{moves, walked}
 
 -- components none of which is `..`
@@ -16,3 +17,8 @@ pub record LeadsTo (start : List (List ℕ)) (text : List ℕ) (path : List (Lis
   pub end : List (List ℕ)
   pub leads : walked start (pieces text) ≡ Some end
   pub same : filter moves end ≡ filter moves path
+
+-- a directory of the source tree
+pub record IsSourceDirectory (path : List ℕ) : Type 0 where
+  pub source : is_source path ≡ true
+  pub form : is_directory path ≡ true

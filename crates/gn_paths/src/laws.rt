@@ -1,16 +1,26 @@
 // A path means itself, and what is shown of it leads back to it.
 
 ghost use Rattle.std.specs.Prelude.{◌≡◌, ◌≢◌, ◌&&◌, List, ℕ, [], true, false, Ok};
-ghost use Rattle.gn_paths.specs.Components.{is_source};
+ghost use Rattle.gn_paths.specs.Components.{is_source, is_system, ends_in_slash};
 ghost use Rattle.gn_paths.specs.Normal.{IsNormal};
-ghost use Rattle.gn_paths.specs.Resolve.{path_meant, resolved};
+ghost use Rattle.gn_paths.specs.Resolve.{start_of, path_meant, resolved};
 ghost use Rattle.gn_paths.specs.Directory.{as_directory};
 ghost use Rattle.gn_paths.specs.Rebase.{system_components, rebased, seen_from};
-ghost use Rattle.gn_paths.specs.Laws.{NeverClimbs, LeadsTo};
+ghost use Rattle.gn_paths.specs.Laws.{NeverClimbs, LeadsTo, IsSourceDirectory};
 
 /// A path means itself, from wherever.
 pub fn a_path_means_itself()
     ensures { (current path : List ℕ) → IsNormal path → path_meant current path ≡ Ok path }
+{}
+
+/// What a text means at a path in normal form is one.
+pub fn what_is_meant_is_in_normal_form()
+    ensures { (current text path : List ℕ) → IsNormal current → path_meant current text ≡ Ok path → IsNormal path }
+{}
+
+/// A text that starts in the source tree and has no final slash means a directory of it, without a final slash.
+pub fn what_ends_in_no_slash_is_a_directory()
+    ensures { (current text path : List ℕ) → IsNormal current → is_source (start_of current text) ≡ true → is_system text ≡ false → ends_in_slash text ≡ false → path_meant current text ≡ Ok path → IsSourceDirectory path }
 {}
 
 /// What is seen of a path from a directory of the source tree, resolved from that directory, is the path.

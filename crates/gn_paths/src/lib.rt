@@ -18,7 +18,10 @@ mod texts;
 pub use components::{is_path_byte, is_source, is_system, leads_down, stays_there};
 pub use directories::directory;
 pub use error::{PathError, PathFault};
-pub use laws::{a_path_means_itself, what_is_seen_leads_back, what_is_shown_in_the_system_leads_back, what_is_shown_leads_back};
+pub use laws::{
+    a_path_means_itself, what_ends_in_no_slash_is_a_directory, what_is_meant_is_in_normal_form,
+    what_is_seen_leads_back, what_is_shown_in_the_system_leads_back, what_is_shown_leads_back,
+};
 pub use output_directories::{gen_directory, obj_directory};
 pub use parts::{PathPart, part};
 pub use path::Path;
