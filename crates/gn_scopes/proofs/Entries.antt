@@ -9,11 +9,7 @@ use Rattle.std.specs.Map.{lookup, remove_entry}
 use Rattle.std.specs.BTreeMap.{is_at, insert_entry}
 use Rattle.std.specs.FinMap.{find, put, is_sorted, IsAntisymmetric}
 use Rattle.std.specs.FinMap.Entries.{by_order as put_by_order, where_key, below_all, is_sorted-put, is_sorted-where_key, find-put, find-where_key, same_entries}
-
-pub by_order : (P : Ordering → Type 0) (r : Ordering) → P Less → P Equal → P Greater → P r
-by_order P Less a b c = a
-by_order P Equal a b c = b
-by_order P Greater a b c = c
+use Rattle.gn_values.proofs.Tables.{by_order}
 
 pub first : (a b : Bool) → T (a && b) → T a
 first true b p = tt

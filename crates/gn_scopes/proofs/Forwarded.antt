@@ -1,6 +1,8 @@
 -- Forwarding as what it does to the innermost layer and to the callers.
-use Rattle.std.proofs.Common.{◌≡◌, ℕ, true, false, not, cond, List, [], ◌∷◌, Option, Some, None, Ok, Err, refl, sym, ap, ◌∙◌}
-use Rattle.std.specs.List.{find}
+use Rattle.std.proofs.Common.{◌≡◌, ℕ, true, false, not, cond, map, List, [], ◌∷◌, Option, Some, None, Ok, Err, refl, sym, ap, ◌∙◌}
+use Rattle.std.specs.List.{find, filter}
+use Rattle.gn_values.specs.View.{entry_of}
+use Rattle.gn_values.specs.declared.value.Entry.{Entry}
 use Rattle.gn_values.specs.Val.{Val}
 use Rattle.gn_values.specs.Tables.{Table}
 use Rattle.gn_scopes.specs.Chains.{is_one_of, chain_read}
@@ -8,11 +10,17 @@ use Rattle.gn_scopes.specs.Environment.{Environment, restored, given}
 use Rattle.gn_scopes.specs.Templates.{with_caller, in_block}
 use Rattle.gn_scopes.specs.Invoker.{entries_by, invoker_entries, after_invoker_read, after_caller_read}
 use Rattle.gn_scopes.specs.Forwarding.{Origin, from_entries, from_invoker, origin_value, forwarded_names, given_if, names_given, is_set_here, forwarded_unless, names_forwarded, entries_given, target_name, all_forwarded}
-use Rattle.gn_scopes.specs.Giving.{all_given, entries_but, found_before, entries_at, read_at, read_at_origin}
+use Rattle.gn_scopes.specs.Giving.{all_given, entries_but, found_before, entries_at, origin_entries, read_at, read_at_origin, read_all_at}
 
 -- the environment with these names given their values in the innermost scope
 abbrev pub giving : Table Val → Environment → Environment
 giving entries env = record env { chain = in_block (all_given entries) env.chain }
+
+-- entries but the excepted ones, by the entries that the code has
+pub but_seen : (except : List (List ℕ)) (es : List Entry) → map entry_of (filter (λ (e : Entry). not (is_one_of e.name except)) es) ≡ entries_but except (map entry_of es)
+but_seen except [] = refl
+but_seen except (e ∷ es) =
+    elim (is_one_of e.name except) as (λ b. map entry_of (cond (not b) (e ∷ filter (λ (x : Entry). not (is_one_of x.name except)) es) (filter (λ (x : Entry). not (is_one_of x.name except)) es)) ≡ cond (not b) (entry_of e ∷ entries_but except (map entry_of es)) (entries_but except (map entry_of es))) [ true ↦ but_seen except es | false ↦ ap (λ xs. entry_of e ∷ xs) (but_seen except es) ]
 
 -- each entry but the excepted ones is given there
 pub entries_given_is : (except : List (List ℕ)) (es : Table Val) (env : Environment) → entries_given except es env ≡ giving (entries_but except es) env
@@ -70,3 +78,8 @@ module _ (except : List (List ℕ)) (given : Table Val) (env new : Environment) 
   unfolding all_forwarded after_invoker_read invoker_entries
   forwards_invoker copied is =
       is ∙ ap (λ (g : Table Val). after_invoker_read (giving g env)) copied ∙ sym (entries_given_is (target_name ∷ except) (entries_by env.callers) (after_invoker_read env))
+
+  pub forwards_all : (origin : Origin) → given ≡ entries_but (target_name ∷ except) (origin_entries origin env.callers) → new ≡ record (giving given env) { callers = read_all_at origin env.callers } → new ≡ all_forwarded origin except env
+  unfolding after_invoker_read
+  forwards_all (from_entries entries) copied is = forwards_entries entries copied is
+  forwards_all from_invoker copied is = forwards_invoker copied is

@@ -14,7 +14,8 @@ use Rattle.gn_scopes.specs.Layers.{VariableState}
 use Rattle.gn_scopes.specs.Named.{key, name_of, named, texted, IsNumber, IsNumbered}
 use Rattle.gn_scopes.specs.Unread.{first_unread_of, earlier, unread_at}
 use Rattle.gn_scopes.proofs.Earlier.{earlier_swap}
-use Rattle.gn_scopes.proofs.Entries.{by_order, first, second, lookup_behind}
+use Rattle.gn_values.proofs.Tables.{by_order}
+use Rattle.gn_scopes.proofs.Entries.{first, second, lookup_behind}
 use Rattle.gn_scopes.proofs.NamedTables.{name_at, at_number}
 
 -- a name that is new to a table

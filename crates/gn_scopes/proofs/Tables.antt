@@ -22,11 +22,7 @@ use Rattle.std.specs.Cmp.{IsTotalOrder}
 use Rattle.std.proofs.lemmas.Map.{lookup-none}
 use Rattle.std.proofs.lemmas.Map.Entries.{none_below_head}
 use Rattle.gn_values.proofs.Sorted.{by_answer}
-
-by_order : (P : Ordering → Type 0) (r : Ordering) → P Less → P Equal → P Greater → P r
-by_order P Less a b c = a
-by_order P Equal a b c = b
-by_order P Greater a b c = c
+use Rattle.gn_values.proofs.Tables.{by_order}
 
 module _ {K X Y : Type 0} (g : X → Y) where
   -- the entries with each value seen by g

@@ -3,9 +3,10 @@ use Rattle.std.specs.Prelude.{ℕ, not, List, [], ◌∷◌, filter, Option, Som
 use Rattle.gn_values.specs.Val.{Val}
 use Rattle.gn_values.specs.Tables.{Table, with_name}
 use Rattle.gn_scopes.specs.Layers.{VariableState, LayerState}
-use Rattle.gn_scopes.specs.Chains.{is_one_of, chain_read}
+use Rattle.gn_scopes.specs.Chains.{is_one_of, chain_read, all_read}
 use Rattle.gn_scopes.specs.Environment.{Caller}
-use Rattle.gn_scopes.specs.Templates.{with_caller}
+use Rattle.gn_scopes.specs.Templates.{with_caller, in_block}
+use Rattle.gn_scopes.specs.Invoker.{entries_by}
 use Rattle.gn_scopes.specs.Forwarding.{Origin, from_entries, from_invoker}
 
 -- variables, after these names are given values in order; they count as read
@@ -31,6 +32,11 @@ abbrev pub entries_at : (List ℕ → Option Val) → List (List ℕ) → Table 
 entries_at value [] = []
 entries_at value (n ∷ ns) = found_before n (value n) (entries_at value ns)
 
+-- what stands directly there from where names are forwarded
+abbrev pub origin_entries : Origin → List Caller → Table Val
+origin_entries (from_entries entries) callers = entries
+origin_entries from_invoker callers = entries_by callers
+
 -- callers after a read of each of these names where the innermost one called
 abbrev pub read_at : List (List ℕ) → List Caller → List Caller
 read_at [] callers = callers
@@ -40,3 +46,8 @@ read_at (n ∷ ns) callers = read_at ns (with_caller (chain_read n) callers)
 abbrev pub read_at_origin : Origin → List (List ℕ) → List Caller → List Caller
 read_at_origin (from_entries entries) names callers = callers
 read_at_origin from_invoker names callers = read_at names callers
+
+-- callers after a read of all that stands directly there
+abbrev pub read_all_at : Origin → List Caller → List Caller
+read_all_at (from_entries entries) callers = callers
+read_all_at from_invoker callers = with_caller (in_block all_read) callers

@@ -40,6 +40,14 @@ pub(crate) fn copied_but(
     Ok(copies)
 }
 
+/// Takes away `target_name` and the excepted entries. It takes no memory.
+pub(crate) fn keep_forwarded(entries: &mut Vec<Entry>, except: &NameSet<'_>)
+    ensures { map entry_of entries.new.items
+        ≡ entries_but (target_name ∷ except.now) (map entry_of entries.old.items) }
+{
+    entries.retain(|entry| !is_kept_back(&entry.name, except));
+}
+
 // Whether `"*"` doesn't forward a name: `target_name`, and the excepted ones.
 fn is_kept_back(name: &Text, except: &NameSet<'_>) -> bool
     ensures { result ≡ is_one_of name.now (target_name ∷ except.now) }

@@ -110,13 +110,6 @@ impl Env {
         }
     }
 
-    /// The stage that the faults of the evaluation have.
-    pub fn stage(&self) -> Stage
-        ensures { result ≡ self.now.setting.stage }
-    {
-        self.stage
-    }
-
     /// The toolchain that the faults of the evaluation have: its label, or the empty text for the default one.
     pub fn toolchain(&self) -> &Text
         ensures { result.now ≡ self.now.setting.toolchain }
@@ -376,17 +369,27 @@ impl Env {
     ) -> Result<Fault, AllocError>
         ensures { IfOk result (λ f. f ≡ fault_in self.now.setting position code detail) }
     {
-        let place = Place {
-            file: self.file.copy(alloc)?,
-            line: position.line,
-            column: position.column,
-        };
+        let place = self.place(alloc, position)?;
+        let toolchain = self.toolchain.copy(alloc)?;
         Ok(Fault {
             stage: self.stage,
             place: Some(place),
-            toolchain: self.toolchain.copy(alloc)?,
+            toolchain,
             code,
             detail,
+        })
+    }
+
+    /// The place of a position of the file that is evaluated.
+    pub(crate) fn place(&self, alloc: Global, position: Position) -> Result<Place, AllocError>
+        ensures { IfOk result (λ p. p
+            ≡ record { file = self.now.setting.file; line = position.line; column = position.column }) }
+    {
+        let file = self.file.copy(alloc)?;
+        Ok(Place {
+            file,
+            line: position.line,
+            column: position.column,
         })
     }
 

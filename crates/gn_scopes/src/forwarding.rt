@@ -5,13 +5,13 @@ ghost use Rattle.std.specs.List.{find};
 ghost use Rattle.gn_values.specs.View.{val_of, entry_of};
 ghost use Rattle.gn_scopes.specs.Invoker.{entries_by};
 ghost use Rattle.gn_scopes.specs.Forwarding.{origin_value, forwarded_names, names_given, is_set_here, names_forwarded, all_forwarded, after_names_read_here, after_all_read_here, target_name};
-ghost use Rattle.gn_scopes.specs.Giving.{entries_but, entries_at, read_at, read_at_origin};
+ghost use Rattle.gn_scopes.specs.Giving.{entries_but, entries_at, origin_entries, read_at, read_at_origin, read_all_at};
 ghost use Rattle.gn_scopes.specs.Origins.{origin_of, name_set};
 
 use crate::caller::Caller;
 use crate::copies::copied_but;
 use crate::env::Env;
-use crate::invoker::{caller_value, read_at_caller};
+use crate::invoker::{caller_value, read_at_caller, read_block};
 use crate::name_set::NameSet;
 use gn_paths::{Text, Texts};
 use gn_values::{Entries, Entry, Value};
@@ -91,19 +91,10 @@ impl Env {
         ensures ok { OnOk result (self.new ≡ all_forwarded (origin_of from.entry) except.now self.old) }
         ensures err { OnErr result (self.new ≡ self.old) }
     {
-        let except = NameSet::new(alloc, except)?;
-        match from {
-            Origin::Entries(entries) => {
-                let copies = copied_but(alloc, entries.as_slice(), &except)?;
-                self.scopes.give_all(alloc, copies)
-            }
-            Origin::Invoker => {
-                let copies = block_but(alloc, &self.callers, &except)?;
-                self.scopes.give_all(alloc, copies)?;
-                self.read_invoker();
-                Ok(())
-            }
-        }
+        let copies = copies_but(alloc, &self.callers, from, except)?;
+        self.scopes.give_all(alloc, copies)?;
+        read_all_at(&mut self.callers, from);
+        Ok(())
     }
 
     /// `not_needed` with a list of names: those that the innermost scope has, but for the excepted ones, count as read.
@@ -212,13 +203,47 @@ impl Env {
         let mut entries = Vec::new(alloc);
         for name in names {
             if let Some(value) = self.origin_value(from, name) {
-                entries.push(Entry {
-                    name: name.copy(alloc)?,
-                    value: value.copy(alloc)?,
-                })?;
+                entries.push(copied_entry(alloc, name, value)?)?;
             }
         }
         Ok(entries)
+    }
+}
+
+// An entry of copies of a name and a value.
+fn copied_entry(alloc: Global, name: &Text, value: &Value) -> Result<Entry, AllocError>
+    ensures { IfOk result (λ entry. entry_of entry ≡ (name.now, val_of value.now)) }
+{
+    let name = name.copy(alloc)?;
+    let value = value.copy(alloc)?;
+    Ok(Entry { name, value })
+}
+
+// Copies of what stands directly there from where names are forwarded, but for `target_name` and the excepted names.
+fn copies_but(
+    alloc: Global,
+    callers: &VecDeque<Caller>,
+    from: Origin<'_>,
+    except: &Texts,
+) -> Result<Vec<Entry>, AllocError>
+    ensures { IfOk result (λ copies. map entry_of copies.items
+        ≡ entries_but (target_name ∷ except.now)
+        (origin_entries (origin_of from.entry) callers.now.items)) }
+{
+    let except = NameSet::new(alloc, except)?;
+    match from {
+        Origin::Entries(entries) => copied_but(alloc, entries.as_slice(), &except),
+        Origin::Invoker => block_but(alloc, callers, &except),
+    }
+}
+
+// A read of all that stands directly there from where names are forwarded.
+fn read_all_at(callers: &mut VecDeque<Caller>, from: Origin<'_>)
+    ensures { callers.new.items ≡ read_all_at (origin_of from.entry) callers.old.items }
+{
+    match from {
+        Origin::Entries(_) => {}
+        Origin::Invoker => read_block(callers),
     }
 }
 

@@ -8,7 +8,7 @@ ghost use Rattle.gn_scopes.specs.Conflicts.{conflict_of};
 use crate::env::Env;
 use crate::named_scopes::NamedScopes;
 use gn_paths::Text;
-use gn_values::{Definition, DefinitionName, Definitions, ImportValue, MadeBy};
+use gn_values::{Definition, DefinitionName, Definitions, ImportValue, KeptScope, MadeBy};
 use std::alloc::{AllocError, Global};
 use std::collections::BTreeMap;
 use std::sync::Arc;
@@ -133,11 +133,31 @@ fn import_left(
     ensures { IfOk result (λ value. value
         ≡ record { scope = scope_left scopes.inner; definitions = with_name execution made definitions }) }
 {
-    let mut scopes = scopes;
-    let mut definitions = definitions;
-    let scope = scopes.leave_public(alloc)?;
-    definitions.set(execution, Arc::new(alloc, made)?)?;
+    let definitions = with_made(alloc, execution, made, definitions)?;
+    let scope = scope_left(alloc, scopes)?;
     ImportValue::new(alloc, scope, definitions)
+}
+
+// The scope that is left of these layers.
+fn scope_left(alloc: Global, scopes: NamedScopes) -> Result<KeptScope, AllocError>
+    ensures { IfOk result (λ scope. scope ≡ scope_left scopes.inner) }
+{
+    let mut scopes = scopes;
+    scopes.leave_public(alloc)
+}
+
+// The definitions that are known, and those that the execution made.
+fn with_made(
+    alloc: Global,
+    execution: Text,
+    made: Definitions,
+    definitions: MadeBy,
+) -> Result<MadeBy, AllocError>
+    ensures { IfOk result (λ known. known ≡ with_name execution made definitions) }
+{
+    let mut definitions = definitions;
+    definitions.set(execution, Arc::new(alloc, made)?)?;
+    Ok(definitions)
 }
 
 // Whether two definitions stand at one place.

@@ -157,8 +157,7 @@ fn block_entries(callers: &VecDeque<Caller>, alloc: Global) -> Result<Entries, V
     }
 }
 
-// Reads in the block of the innermost caller's call.
-
+// A read of a name in the block of the innermost caller's call.
 fn read_in_block(callers: &mut VecDeque<Caller>, name: &Text)
     ensures { callers.new.items ≡ with_caller (in_block (read_in name.now)) callers.old.items }
 {
@@ -167,7 +166,8 @@ fn read_in_block(callers: &mut VecDeque<Caller>, name: &Text)
     }
 }
 
-fn read_block(callers: &mut VecDeque<Caller>)
+/// A read of all names of the block of the innermost caller's call.
+pub(crate) fn read_block(callers: &mut VecDeque<Caller>)
     ensures { callers.new.items ≡ with_caller (in_block all_read) callers.old.items }
 {
     if let Some(caller) = callers.front_mut() {
@@ -175,6 +175,7 @@ fn read_block(callers: &mut VecDeque<Caller>)
     }
 }
 
+// A read of all names but these there.
 fn read_block_but(callers: &mut VecDeque<Caller>, except: &NameSet<'_>)
     ensures { callers.new.items ≡ with_caller (in_block (all_read_but except.now)) callers.old.items }
 {
@@ -183,6 +184,7 @@ fn read_block_but(callers: &mut VecDeque<Caller>, except: &NameSet<'_>)
     }
 }
 
+// A read of these names there, but for the excepted ones.
 fn read_block_names(callers: &mut VecDeque<Caller>, names: &Texts, except: &NameSet<'_>)
     ensures { callers.new.items
         ≡ with_caller (in_block (names_read names.now except.now)) callers.old.items }

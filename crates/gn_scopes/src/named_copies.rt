@@ -9,7 +9,7 @@ ghost use Rattle.gn_scopes.specs.Imports.{scope_left};
 ghost use Rattle.gn_scopes.specs.Kept.{layers_over, layers_texted_over};
 ghost use Rattle.gn_scopes.specs.Layers.{values_in};
 
-use crate::copies::copied_but;
+use crate::copies::keep_forwarded;
 use crate::laid::{Laid, copies_by_name};
 use crate::layer::Layer;
 use crate::name_set::NameSet;
@@ -59,8 +59,9 @@ impl NamedScopes {
         ensures { IfOk result (λ entries. map entry_of entries.items
             ≡ entries_but (target_name ∷ except.now) (values_in self.now.inner)) }
     {
-        let copies = self.copies_here(alloc)?;
-        copied_but(alloc, copies.as_slice(), except)
+        let mut entries = self.copies_here(alloc)?.into_vec();
+        keep_forwarded(&mut entries, except);
+        Ok(entries)
     }
 
     /// Lays copies of the names of all layers over those of a scope. After want of memory some of them are.

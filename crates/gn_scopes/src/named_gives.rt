@@ -1,6 +1,6 @@
 // Names of the innermost scope that are given values all at once, or not at all.
 
-ghost use Rattle.std.specs.Prelude.{◌≡◌, IfOk, IfSome, OnOk, OnErr, map, option_map};
+ghost use Rattle.std.specs.Prelude.{◌≡◌, ◌++◌, [], ◌∷◌, IfOk, IfSome, OnOk, OnErr, map, option_map};
 ghost use Rattle.std.specs.List.{AllByRecursion};
 ghost use Rattle.gn_text.specs.Names.{AllDifferent};
 ghost use Rattle.gn_values.specs.View.{entry_of};
@@ -80,8 +80,29 @@ fn numbered(
 {
     let mut values = Vec::with_capacity(alloc, entries.len())?;
     for entry in entries {
-        let number = names.intern(entry.name.as_bytes())?;
-        values.push((Key::new(number), entry.value))?;
+        push_numbered(names, &mut values, entry)?;
     }
     Ok(values)
+}
+
+// Puts the value of an entry behind others, by the number of its name, which the table has from then on.
+fn push_numbered(
+    names: &mut Names,
+    values: &mut Vec<(Key, Value)>,
+    entry: Entry,
+) -> Result<(), AllocError>
+    requires different { AllDifferent names.old }
+    requires numbers { AllByRecursion (λ e. IsNumber names.old e.0) (value_pairs values.old.items) }
+    ensures values { OnOk result
+        (texted names.new (value_pairs values.new.items)
+        ≡ texted names.old (value_pairs values.old.items) ++ entry_of entry ∷ []) }
+    ensures numbers { OnOk result
+        (AllByRecursion (λ e. IsNumber names.new e.0) (value_pairs values.new.items)) }
+    ensures longer { IsLonger names.old names.new }
+    ensures different { AllDifferent names.new }
+{
+    values.reserve(1)?;
+    let number = names.intern(entry.name.as_bytes())?;
+    values.push_reserved((Key::new(number), entry.value));
+    Ok(())
 }

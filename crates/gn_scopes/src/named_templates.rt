@@ -69,17 +69,14 @@ impl NamedScopes {
             }) }
         ensures err { OnErr result (self.new ≡ self.old) }
     {
-        let target_name = Text::from_bytes(alloc, b"target_name")?;
-        let variable = Variable {
-            value: Value::Str(name.copy(alloc)?),
-            unread: None,
-        };
         self.enter(true)?;
-        if let Err(error) = self.put(&target_name, variable) {
-            self.leave();
-            return Err(error);
+        match self.put_target_name(alloc, name) {
+            Ok(()) => Ok(()),
+            Err(error) => {
+                self.leave();
+                Err(error)
+            }
         }
-        Ok(())
     }
 
     /// One checked layer in which `target_name` is this name, and counts as read.
@@ -90,13 +87,27 @@ impl NamedScopes {
           outer = [];
         }) }
     {
+        let mut scopes = NamedScopes::new(alloc, true);
+        scopes.put_target_name(alloc, name)?;
+        Ok(scopes)
+    }
+
+    // Lets `target_name` be this name in the innermost layer, where it counts as read. After want of memory the layers are
+    // as before.
+    fn put_target_name(&mut self, alloc: Global, name: &Text) -> Result<(), AllocError>
+        ensures ok { OnOk result
+            (self.new ≡ record self.old {
+              inner = set_in (codes "target_name") (Some (record { value = vstr name.now; unread = None }))
+                  self.old.inner;
+            }) }
+        ensures err { OnErr result (self.new ≡ self.old) }
+    {
         let target_name = Text::from_bytes(alloc, b"target_name")?;
+        let value = Value::Str(name.copy(alloc)?);
         let variable = Variable {
-            value: Value::Str(name.copy(alloc)?),
+            value,
             unread: None,
         };
-        let mut scopes = NamedScopes::new(alloc, true);
-        scopes.put(&target_name, variable)?;
-        Ok(scopes)
+        self.put(&target_name, variable)
     }
 }

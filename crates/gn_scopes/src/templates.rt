@@ -1,18 +1,18 @@
 // Templates: what a name means, what a definition keeps, and the scopes in which a call's block and its body run.
 
-ghost use Rattle.std.specs.Prelude.{◌≡◌, ◌++◌, [], ◌∷◌, IfOk, OnOk, OnErr, IfErr, IfSome, Ok, Err, map, option_map};
+ghost use Rattle.std.specs.Prelude.{◌≡◌, ◌++◌, [], ◌∷◌, IfOk, OnOk, OnErr, IfErr, IfSome, Ok, Err, length, map, option_map};
 ghost use Rattle.std.specs.List.{list_any};
 ghost use Rattle.gn_tree.specs.Depth.{IsShallow};
 ghost use Rattle.gn_values.specs.Tables.{at_name};
 ghost use Rattle.gn_values.specs.View.{entry_of};
 ghost use Rattle.gn_scopes.specs.Environment.{kept_by, behind};
-ghost use Rattle.gn_scopes.specs.Templates.{with_caller, in_block, same_place, definition_of, is_visible, if_visible, if_named, template_among, template_of, has_template_here, standing_in, scope_here, new_definition, template_defined, defaults_of, defaults_among, defaults_set, table_given, defaults_given, at_depth, block_begins, body_begins, body_ends, reported_by_invoker};
-ghost use Rattle.gn_scopes.specs.Chains.{all_read};
+ghost use Rattle.gn_scopes.specs.Templates.{same_place, definition_of, is_visible, if_visible, if_named, template_among, template_of, has_template_here, standing_in, scope_here, new_definition, template_defined, defaults_of, defaults_among, defaults_set, table_given, defaults_given, at_depth, block_begins, body_begins, body_ends, reported_by_invoker};
 ghost use Rattle.gn_scopes.specs.Kept.{kept_scope, already_set};
 
 use crate::caller::Caller;
 use crate::copies::copy_entries;
 use crate::env::Env;
+use crate::invoker::read_block;
 use crate::laid::Laid;
 use crate::layer::Layer;
 use crate::named_scopes::NamedScopes;
@@ -43,6 +43,15 @@ impl From<AllocError> for GiveError {
     fn from(_error: AllocError) -> GiveError {
         GiveError::Memory
     }
+}
+
+// What a definition has beside its block: where it stands, what it keeps, and where the definitions stand in whose
+// bodies it is made.
+#[derive(Drop)]
+struct Surroundings {
+    place: Place,
+    scope: Arc<KeptScope>,
+    enclosing: Vec<Place>,
 }
 
 impl Env {
@@ -85,15 +94,12 @@ impl Env {
             (self.new ≡ template_defined name.now position nesting block self.old) }
         ensures err { OnErr result (self.new ≡ self.old) }
     {
+        let named = self.next_name(alloc)?;
         let definition = self.new_definition(alloc, position, nesting, block)?;
-        let named = DefinitionName {
-            execution: self.execution.copy(alloc)?,
-            number: self.made.len(),
-        };
         self.scopes
             .define(alloc, name, named, &mut self.made, definition)?;
         self.scopes.read_all();
-        read_block_of_caller(&mut self.callers);
+        read_block(&mut self.callers);
         Ok(())
     }
 
@@ -148,9 +154,9 @@ impl Env {
         ensures ok { OnOk result (self.new ≡ body_begins definition.value name.now self.old) }
         ensures err { OnErr result (self.new ≡ self.old) }
     {
-        let scopes = NamedScopes::named(alloc, name)?;
-        let file = definition.place().file.copy(alloc)?;
         self.callers.reserve(1)?;
+        let file = definition.place().file.copy(alloc)?;
+        let scopes = NamedScopes::named(alloc, name)?;
         let caller = Caller {
             scopes: mem::replace(&mut self.scopes, scopes),
             body: mem::replace(&mut self.body, Some(definition)),
@@ -317,14 +323,49 @@ impl Env {
         requires { IsShallow block }
         ensures { IfOk result (λ d. d ≡ new_definition position nesting block self.now) }
     {
-        let place = Place {
-            file: self.file.copy(alloc)?,
-            line: position.line,
-            column: position.column,
-        };
-        let scope = Arc::new(alloc, self.scope_here(alloc)?)?;
-        let enclosing = self.standing_in(alloc)?;
+        let Surroundings {
+            place,
+            scope,
+            enclosing,
+        } = self.surroundings(alloc, position)?;
         Ok(Definition::new(place, nesting, block, scope, enclosing))
+    }
+
+    // The name of the definition that this execution makes next.
+    fn next_name(&self, alloc: Global) -> Result<DefinitionName, AllocError>
+        ensures { IfOk result
+            (λ n. n ≡ record { execution = self.now.execution; number = length self.now.made }) }
+    {
+        let execution = self.execution.copy(alloc)?;
+        Ok(DefinitionName {
+            execution,
+            number: self.made.len(),
+        })
+    }
+
+    // What a definition has that is made here, at this position, but for its block.
+    fn surroundings(&self, alloc: Global, position: Position) -> Result<Surroundings, AllocError>
+        ensures place { IfOk result (λ s. s.place
+            ≡ record { file = self.now.setting.file; line = position.line; column = position.column }) }
+        ensures scope { IfOk result (λ s. s.scope.value ≡ scope_here self.now) }
+        ensures enclosing { IfOk result (λ s. s.enclosing.items ≡ standing_in self.now.body) }
+    {
+        let enclosing = self.standing_in(alloc)?;
+        let scope = self.shared_scope(alloc)?;
+        let place = self.place(alloc, position)?;
+        Ok(Surroundings {
+            place,
+            scope,
+            enclosing,
+        })
+    }
+
+    // A copy of all that is in scope, to be shared.
+    fn shared_scope(&self, alloc: Global) -> Result<Arc<KeptScope>, AllocError>
+        ensures { IfOk result (λ scope. scope.value ≡ scope_here self.now) }
+    {
+        let scope = self.scope_here(alloc)?;
+        Ok(Arc::new(alloc, scope)?)
     }
 
     // The defaults of a kind of call behind the layers.
@@ -416,15 +457,6 @@ fn is_among(place: &Place, places: &[Place]) -> bool
         }
     }
     false
-}
-
-// A read of all names of the block of the innermost caller.
-fn read_block_of_caller(callers: &mut VecDeque<Caller>)
-    ensures { callers.new.items ≡ with_caller (in_block all_read) callers.old.items }
-{
-    if let Some(caller) = callers.front_mut() {
-        caller.scopes.read_all_here();
-    }
 }
 
 // Copies places behind others.
