@@ -1,11 +1,13 @@
 // Assignments, once their sides are evaluated.
 
-ghost use Rattle.std.specs.Prelude.{◌≡◌};
+ghost use Rattle.std.specs.Prelude.{◌≡◌, Result, Err, IfSome};
 ghost use Rattle.gn_items.specs.Effects.{Effects};
 ghost use Rattle.gn_values.specs.View.{val_of};
-ghost use Rattle.gn_scopes.specs.Environment.{after_assignment, after_assignment_over, after_element_assignment, after_element_assignment_over};
+ghost use Rattle.gn_scopes.specs.Environment.{Environment, after_assignment, after_assignment_over, after_element_assignment, after_element_assignment_over};
 ghost use Rattle.gn_meaning.specs.Words.{changes_value, over_invoker, assigned_to, element_assigned_to, name_assigned_runs, element_assigned_runs};
-ghost use Rattle.gn_eval.specs.Ends.{IsStep};
+ghost use Rattle.gn_scopes.specs.Assigning.{Refusal, ElementRefusal};
+ghost use Rattle.gn_scopes.specs.Errors.{refusal_of, element_refusal_of};
+ghost use Rattle.gn_eval.specs.Ends.{IsStepFailure, IsStep};
 
 use crate::faults::{refused, refused_element, wrong_with};
 use crate::step::StepEnd;
@@ -15,6 +17,26 @@ use gn_scopes::{AssignError, ElementAssignError, Env};
 use gn_tree::{AssignOp, Position};
 use gn_values::Value;
 use std::alloc::Global;
+
+// The end of an evaluation in which an assignment to a name isn't made.
+#[tactic(auto, unfolding(gn_meaning::specs::Words::assigned_to))]
+fn not_assigned(
+    alloc: Global,
+    env: &Env,
+    error: AssignError,
+    name: &Text,
+    at: Position,
+    position: Position,
+) -> StepEnd
+    ensures { (after : Result Environment Refusal) (out : Effects) → IfSome (refusal_of error) (λ r. after ≡ Err r) → IsStepFailure result (assigned_to after name.now at position env.now out) }
+{
+    match error {
+        AssignError::Overwrite => wrong_with(alloc, env, Code::Overwrite, position, name),
+        AssignError::Undefined => wrong_with(alloc, env, Code::Undefined, at, name),
+        AssignError::Value(error) => refused(alloc, env, error, position),
+        AssignError::Memory => StepEnd::Memory,
+    }
+}
 
 #[tactic(auto, unfolding(gn_meaning::specs::Words::assigned_to))]
 fn assign_variable(
@@ -30,12 +52,7 @@ fn assign_variable(
 {
     match env.assign(alloc, name, operator, value, position) {
         Ok(()) => Ok(()),
-        Err(AssignError::Overwrite) => {
-            Err(wrong_with(alloc, env, Code::Overwrite, position, name))
-        }
-        Err(AssignError::Undefined) => Err(wrong_with(alloc, env, Code::Undefined, at, name)),
-        Err(AssignError::Value(error)) => Err(refused(alloc, env, error, position)),
-        Err(AssignError::Memory) => Err(StepEnd::Memory),
+        Err(error) => Err(not_assigned(alloc, env, error, name, at, position)),
     }
 }
 
@@ -54,12 +71,7 @@ fn assign_over(
 {
     match env.assign_over(alloc, old, name, operator, value, position) {
         Ok(()) => Ok(()),
-        Err(AssignError::Overwrite) => {
-            Err(wrong_with(alloc, env, Code::Overwrite, position, name))
-        }
-        Err(AssignError::Undefined) => Err(wrong_with(alloc, env, Code::Undefined, at, name)),
-        Err(AssignError::Value(error)) => Err(refused(alloc, env, error, position)),
-        Err(AssignError::Memory) => Err(StepEnd::Memory),
+        Err(error) => Err(not_assigned(alloc, env, error, name, at, position)),
     }
 }
 
@@ -115,6 +127,30 @@ pub(crate) fn assign_name(
     }
 }
 
+// The end of an evaluation in which an assignment to an element isn't made.
+#[tactic(auto, unfolding(gn_meaning::specs::Words::element_assigned_to))]
+fn element_not_assigned(
+    alloc: Global,
+    env: &Env,
+    error: ElementAssignError,
+    base: &Text,
+    base_position: Position,
+    at: &Value,
+    subscript: Position,
+    position: Position,
+) -> StepEnd
+    ensures { (after : Result Environment ElementRefusal) (out : Effects) → IfSome (element_refusal_of error) (λ r. after ≡ Err r) → IsStepFailure result (element_assigned_to after base.now base_position (val_of at.now) subscript position env.now out) }
+{
+    match error {
+        ElementAssignError::Undefined => {
+            wrong_with(alloc, env, Code::Undefined, base_position, base)
+        }
+        ElementAssignError::Subscript(error) => refused_element(alloc, env, error, at, subscript),
+        ElementAssignError::Operator(error) => refused(alloc, env, error, position),
+        ElementAssignError::Memory => StepEnd::Memory,
+    }
+}
+
 #[tactic(auto, unfolding(gn_meaning::specs::Words::element_assigned_to))]
 fn assign_variable_element(
     alloc: Global,
@@ -131,14 +167,16 @@ fn assign_variable_element(
 {
     match env.assign_element(alloc, base, at, operator, value, position) {
         Ok(()) => Ok(()),
-        Err(ElementAssignError::Undefined) => {
-            Err(wrong_with(alloc, env, Code::Undefined, base_position, base))
-        }
-        Err(ElementAssignError::Subscript(error)) => {
-            Err(refused_element(alloc, env, error, at, subscript))
-        }
-        Err(ElementAssignError::Operator(error)) => Err(refused(alloc, env, error, position)),
-        Err(ElementAssignError::Memory) => Err(StepEnd::Memory),
+        Err(error) => Err(element_not_assigned(
+            alloc,
+            env,
+            error,
+            base,
+            base_position,
+            at,
+            subscript,
+            position,
+        )),
     }
 }
 
@@ -159,14 +197,16 @@ fn assign_element_over(
 {
     match env.assign_element_over(alloc, old, base, at, operator, value, position) {
         Ok(()) => Ok(()),
-        Err(ElementAssignError::Undefined) => {
-            Err(wrong_with(alloc, env, Code::Undefined, base_position, base))
-        }
-        Err(ElementAssignError::Subscript(error)) => {
-            Err(refused_element(alloc, env, error, at, subscript))
-        }
-        Err(ElementAssignError::Operator(error)) => Err(refused(alloc, env, error, position)),
-        Err(ElementAssignError::Memory) => Err(StepEnd::Memory),
+        Err(error) => Err(element_not_assigned(
+            alloc,
+            env,
+            error,
+            base,
+            base_position,
+            at,
+            subscript,
+            position,
+        )),
     }
 }
 

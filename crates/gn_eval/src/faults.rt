@@ -24,8 +24,9 @@ fn fault_with(
 ) -> Result<Fault, AllocError>
     ensures { IfOk result (λ f. f ≡ fault_in env.now.setting position code (detail.now ∷ [])) }
 {
+    let text = Text::from_bytes(alloc, detail)?;
     let mut details = Texts::new(alloc);
-    details.push(Text::from_bytes(alloc, detail)?)?;
+    details.push(text)?;
     env.fault(alloc, code, position, details)
 }
 
@@ -76,9 +77,10 @@ fn fault_elsewhere(
     ensures { IfOk result (λ f. f
         ≡ fault_in (record env.now.setting { file = file.now }) position Code.NoEffect (name.now ∷ [])) }
 {
+    let elsewhere = file.copy(alloc)?;
     let mut fault = fault_with(alloc, env, Code::NoEffect, position, name)?;
     fault.place = Some(Place {
-        file: file.copy(alloc)?,
+        file: elsewhere,
         line: position.line,
         column: position.column,
     });

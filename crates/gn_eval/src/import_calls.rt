@@ -11,6 +11,7 @@ ghost use Rattle.gn_meaning.specs.Imports.{max_import_nesting, imported_runs};
 ghost use Rattle.gn_meaning.specs.Meaning.{world, body_steps, import_runs};
 ghost use Rattle.gn_eval.specs.Ends.{Covers, IsRun};
 ghost use Rattle.gn_eval.specs.Library.{GoesOn};
+ghost use Rattle.gn_eval.specs.Resolved.{path_asked};
 
 use crate::definer::Definer;
 use crate::ending::EvalEnd;
@@ -21,6 +22,7 @@ use crate::imports::{merge_import, place_here, resolve_import};
 use crate::level::Level;
 use crate::library::{Imported, LibStop, Library};
 use gn_items::{Code, Outcome};
+use gn_paths::Path;
 use gn_scopes::Env;
 use gn_tree::{Call, Position};
 use gn_values::Value;
@@ -85,10 +87,31 @@ fn import_file<L: Library>(
     ensures goes { GoesOn (L.state library.old) (L.state library.new) }
     ensures rose { result ≡ Err EvalEnd.Stopped → (L.state library.old).stops < (L.state library.new).stops }
 {
-    let path = resolve_import(alloc, argument, at, env)?;
+    match resolve_import(alloc, argument, at, env) {
+        Ok(path) => import_path(alloc, path, at, position, env, library),
+        Err(end) => Err(end.into()),
+    }
+}
+
+// The import of the file at a path.
+fn import_path<L: Library>(
+    alloc: Global,
+    path: Path,
+    at: Position,
+    position: Position,
+    env: &mut Env,
+    library: &mut L,
+) -> Result<Option<Value>, EvalEnd>
+    ensures runs { (a : Answers) (out : Effects) → Covers (L.state library.new).told result a → IsRun (option_map val_of) (L.state library.new).need result env.new out (path_asked path a at position env.old out) }
+    ensures goes { GoesOn (L.state library.old) (L.state library.new) }
+    ensures rose { result ≡ Err EvalEnd.Stopped → (L.state library.old).stops < (L.state library.new).stops }
+{
     let place = place_here(alloc, position, env)?;
     match library.import(alloc, &path, &place) {
-        Ok(Imported::Value(value)) => Ok(merge_import(alloc, &value, position, env)?),
+        Ok(Imported::Value(value)) => match merge_import(alloc, value, position, env) {
+            Ok(merged) => Ok(merged),
+            Err(end) => Err(end.into()),
+        },
         Ok(Imported::Absent) => {
             Err(wrong_with(alloc, env, Code::NoFile, at, path.as_text()).into())
         }

@@ -74,13 +74,13 @@ pub(crate) fn resolve_import(
 /// Merges what an import left into the innermost scope. A conflict is a fault of the call.
 pub(crate) fn merge_import(
     alloc: Global,
-    value: &ImportValue,
+    value: ImportValue,
     position: Position,
     env: &mut Env,
 ) -> Result<Option<Value>, StepEnd>
-    ensures { (out : Effects) → IsStep (option_map val_of) result env.new out (merged_to (merged value.now env.old) position env.old out) }
+    ensures { (out : Effects) → IsStep (option_map val_of) result env.new out (merged_to (merged value env.old) position env.old out) }
 {
-    match env.merge(alloc, value) {
+    match env.merge(alloc, &value) {
         Ok(()) => Ok(None),
         Err(MergeError::Conflict(name)) => {
             Err(wrong_with(alloc, env, Code::Conflict, position, &name))

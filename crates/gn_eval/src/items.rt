@@ -1,11 +1,11 @@
 // The blocks of items, and the scopes in which the blocks of calls begin.
 
-ghost use Rattle.std.specs.Prelude.{◌≡◌, true, [], ◌∷◌, IfOk, IfErr, Ok, Err, option_map};
-ghost use Rattle.gn_items.specs.Effects.{Effects};
+ghost use Rattle.std.specs.Prelude.{◌≡◌, true, [], ◌∷◌, None, IfOk, IfErr, Ok, Err, option_map};
+ghost use Rattle.gn_items.specs.Effects.{Effects, with_item};
 ghost use Rattle.gn_values.specs.View.{val_of};
 ghost use Rattle.gn_scopes.specs.Environment.{in_item};
 ghost use Rattle.gn_scopes.specs.Faults.{fault_in};
-ghost use Rattle.gn_meaning.specs.Calls.{scope_begun_runs, item_end_runs};
+ghost use Rattle.gn_meaning.specs.Calls.{scope_begun_runs, item_runs, item_end_runs};
 ghost use Rattle.gn_meaning.specs.Templates.{is_build_file, allows_items};
 ghost use Rattle.gn_meaning.specs.Items.{defined, label_text};
 ghost use Rattle.gn_eval.specs.Ends.{IsFault, IfFault, IsStep};
@@ -100,6 +100,42 @@ fn define<D: Definer>(
     }
 }
 
+// The end of the block of an item that is defined: its label has to be new, then the names of its scope have to be read.
+fn close_item(
+    alloc: Global,
+    item: &Item,
+    position: Position,
+    env: &mut Env,
+    out: &Outcome,
+) -> Result<(), StepEnd>
+    ensures { IsStep (λ u. None) result env.new (with_item item.now out.now) (item_runs (Ok (item.now, env.old)) position env.old out.now) }
+{
+    if out.has(&item.label) {
+        return Err(duplicate(alloc, env, position, &item.label));
+    }
+    if let Some((unread, at)) = env.unread() {
+        return Err(no_effect(alloc, env, at, unread));
+    }
+    env.leave();
+    env.set_in_item(false);
+    Ok(())
+}
+
+// The same, and then the item stands behind the others.
+fn keep_item(
+    alloc: Global,
+    item: Item,
+    position: Position,
+    env: &mut Env,
+    out: &mut Outcome,
+) -> Result<Option<Value>, StepEnd>
+    ensures { IsStep (option_map val_of) result env.new out.new (item_runs (Ok (item, env.old)) position env.old out.old) }
+{
+    close_item(alloc, &item, position, env, out)?;
+    out.add_item(item)?;
+    Ok(None)
+}
+
 /// The end of an item's block: the item is defined, then its label has to be new, then the names of its scope have to
 /// be read.
 #[tactic(auto, unfolding(gn_meaning::specs::Calls::item_end_runs))]
@@ -115,15 +151,8 @@ pub(crate) fn end_item<D: Definer>(
     ensures runs { IsStep (option_map val_of) result env.new out.new (item_end_runs kind name.now position env.old out.old) }
     ensures same { definer.new ≡ definer.old }
 {
-    let item = define(alloc, kind, name, position, env, definer)?;
-    if out.has(&item.label) {
-        return Err(duplicate(alloc, env, position, &item.label));
+    match define(alloc, kind, name, position, env, definer) {
+        Ok(item) => keep_item(alloc, item, position, env, out),
+        Err(end) => Err(end),
     }
-    if let Some((unread, at)) = env.unread() {
-        return Err(no_effect(alloc, env, at, unread));
-    }
-    env.leave();
-    env.set_in_item(false);
-    out.add_item(item)?;
-    Ok(None)
 }

@@ -3,7 +3,7 @@
 ghost use Rattle.std.specs.Prelude.{◌≡◌, ◌≢◌, IfOk, IfErr};
 ghost use Rattle.gn_items.specs.Effects.{Effects};
 ghost use Rattle.gn_values.specs.View.{val_of};
-ghost use Rattle.gn_values.specs.Operators.{comparison_of};
+ghost use Rattle.gn_values.specs.Operators.{sum_of, comparison_of};
 ghost use Rattle.gn_values.specs.Equal.{equals};
 ghost use Rattle.gn_meaning.specs.Words.{value_or_fault, boolean_result, negation_runs, boolean_runs, operated};
 ghost use Rattle.gn_eval.specs.Ends.{IsStep};
@@ -61,7 +61,42 @@ fn equal(left: &Value, right: &Value) -> bool
     left.same(right)
 }
 
-// An operator whose sides are both evaluated first. `+` keeps what the left side has.
+// `+`, which keeps what the left side has.
+fn added(alloc: Global, mut left: Value, right: Value) -> Result<Value, ValueError>
+    ensures ok { IfOk result (λ v. sum_of (val_of left) (val_of right) ≡ Ok (val_of v)) }
+    ensures refused { IfErr result (λ e. e ≢ ValueError.Memory → sum_of (val_of left) (val_of right) ≡ Err e) }
+{
+    match left.combine(alloc, AssignOp::Add, right) {
+        Ok(()) => Ok(left),
+        Err(error) => Err(error),
+    }
+}
+
+// Any other operator whose sides are both evaluated first.
+#[tactic(auto, unfolding(gn_meaning::specs::Words::operated))]
+fn operated_lent(
+    alloc: Global,
+    operator: BinaryOp,
+    left: &Value,
+    right: &Value,
+) -> Result<Value, ValueError>
+    requires { operator ≢ BinaryOp.Add }
+    ensures ok { IfOk result (λ v. operated operator (val_of left.now) (val_of right.now) ≡ Ok (val_of v)) }
+    ensures refused { IfErr result (λ e. e ≢ ValueError.Memory → operated operator (val_of left.now) (val_of right.now) ≡ Err e) }
+{
+    match operator {
+        BinaryOp::Subtract => subtract(alloc, left, right),
+        BinaryOp::Less => compared(Compare::Less, left, right),
+        BinaryOp::LessEqual => compared(Compare::LessOrEqual, left, right),
+        BinaryOp::Greater => compared(Compare::Greater, left, right),
+        BinaryOp::GreaterEqual => compared(Compare::GreaterOrEqual, left, right),
+        BinaryOp::Equal => Ok(Value::Bool(equal(left, right))),
+        BinaryOp::NotEqual => Ok(Value::Bool(!equal(left, right))),
+        BinaryOp::And | BinaryOp::Or | BinaryOp::Add => Err(ValueError::BadTypes),
+    }
+}
+
+// An operator whose sides are both evaluated first.
 #[tactic(auto, unfolding(gn_meaning::specs::Words::operated))]
 fn operated(
     alloc: Global,
@@ -73,19 +108,8 @@ fn operated(
     ensures refused { IfErr result (λ e. e ≢ ValueError.Memory → operated operator (val_of left) (val_of right) ≡ Err e) }
 {
     match operator {
-        BinaryOp::Add => {
-            let mut sum = left;
-            sum.combine(alloc, AssignOp::Add, right)?;
-            Ok(sum)
-        }
-        BinaryOp::Subtract => subtract(alloc, &left, &right),
-        BinaryOp::Less => compared(Compare::Less, &left, &right),
-        BinaryOp::LessEqual => compared(Compare::LessOrEqual, &left, &right),
-        BinaryOp::Greater => compared(Compare::Greater, &left, &right),
-        BinaryOp::GreaterEqual => compared(Compare::GreaterOrEqual, &left, &right),
-        BinaryOp::Equal => Ok(Value::Bool(equal(&left, &right))),
-        BinaryOp::NotEqual => Ok(Value::Bool(!equal(&left, &right))),
-        BinaryOp::And | BinaryOp::Or => Err(ValueError::BadTypes),
+        BinaryOp::Add => added(alloc, left, right),
+        _ => operated_lent(alloc, operator, &left, &right),
     }
 }
 

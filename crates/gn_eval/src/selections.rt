@@ -21,7 +21,7 @@ use gn_values::Value;
 use std::alloc::{AllocError, Global};
 
 /// An argument that may be the invoker itself.
-#[derive(Debug, Drop)]
+#[derive(Drop)]
 pub(crate) enum Source {
     /// The invoker.
     Invoker,
@@ -30,7 +30,7 @@ pub(crate) enum Source {
 }
 
 /// Which names an argument selects.
-#[derive(Debug, Drop)]
+#[derive(Drop)]
 pub(crate) enum Selection {
     /// All of them: `"*"`.
     Every,
@@ -43,7 +43,7 @@ pub(crate) enum Selection {
 }
 
 /// The names that are selected, and those that are excepted.
-#[derive(Debug, Drop)]
+#[derive(Drop)]
 pub(crate) enum Selected {
     /// All names but these.
     Every(Texts),

@@ -4,7 +4,7 @@ use gn_items::Fault;
 use std::alloc::AllocError;
 
 /// Why a step that asks nothing has no value.
-#[derive(Debug, Drop)]
+#[derive(Drop)]
 pub(crate) enum StepEnd {
     /// Its first fault.
     Wrong(Fault),

@@ -1,4 +1,3 @@
 pub mod NameLemmas
 pub mod OrderLemmas
-pub mod PatternLemmas
 pub mod ReadingLemmas

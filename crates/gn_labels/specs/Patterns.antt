@@ -1,9 +1,9 @@
 -- What a text means as a pattern, and which labels a pattern matches.
 use Rattle.std.specs.Prelude.{ℕ, Bool, true, List, [], ◌∷◌, ◌++◌, ◌-◌, ◌==◌, ◌&&◌, ◌||◌, not, nat_eq, length, take, if◌then◌else◌, Option, Some, None, Result, Ok, Err}
-use Rattle.std.specs.List.{list_any, before_first, starts_with, ends_with}
+use Rattle.std.specs.List.{list_any, before_first, ends_with}
 use Rattle.std.specs.Str.{bytes_eq}
 use Rattle.gn_paths.specs.declared.error.PathError.{PathError}
-use Rattle.gn_paths.specs.Components.{ends_in_slash, slash}
+use Rattle.gn_paths.specs.Directory.{is_below}
 use Rattle.gn_labels.specs.declared.error.LabelError.{LabelError}
 use Rattle.gn_labels.specs.declared.error.LabelError.TheVariants.{BadLabel, Path, Memory}
 use Rattle.gn_labels.specs.declared.error.PatternError.{PatternError}
@@ -84,13 +84,9 @@ unfoldable pub pattern_read : List ℕ → List ℕ → Result Pattern PatternEr
 pattern_read current text =
     pattern_of (both (extent_read current (list_any is_star text) (before_first is_open text)) (toolchain_in current text))
 
--- a directory with a final slash
-abbrev pub with_slash : List ℕ → List ℕ
-with_slash dir = if ends_in_slash dir then dir else dir ++ slash
-
 -- whether a directory is another or stands below it
 abbrev pub is_within : List ℕ → List ℕ → Bool
-is_within outer dir = bytes_eq dir outer || starts_with nat_eq dir (with_slash outer)
+is_within outer dir = bytes_eq dir outer || is_below outer dir
 
 -- whether a label's directory and name are among those of a pattern
 abbrev pub has_label : Extent → Label → Bool

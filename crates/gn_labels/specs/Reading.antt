@@ -1,18 +1,19 @@
 -- What a text means as a label.
 use Rattle.std.specs.Prelude.{ℕ, Bool, false, List, [], ◌∷◌, ◌++◌, ◌-◌, ◌==◌, ◌&&◌, ◌||◌, not, nat_eq, nat_lt, length, take, if◌then◌else◌, Option, Some, None, Result, Ok, Err}
-use Rattle.std.specs.List.{list_any, position_or_len, before_first, after_first, ends_with}
+use Rattle.std.specs.List.{filter, list_any, position_or_len, before_first, after_first, ends_with}
 use Rattle.std.specs.Str.{bytes_eq}
 use Rattle.gn_paths.specs.declared.error.PathError.{PathError}
 use Rattle.gn_paths.specs.declared.error.PathError.TheVariants as path_errors
-use Rattle.gn_paths.specs.Components.{dot, is_source, is_system, without_final_slash}
+use Rattle.gn_paths.specs.Components.{dot, is_source, is_system, pieces}
+use Rattle.gn_paths.specs.Directory.{leads_down}
 use Rattle.gn_paths.specs.Parts.{file_of}
-use Rattle.gn_paths.specs.Resolve.{resolved, start_of}
+use Rattle.gn_paths.specs.Resolve.{moves, resolved, start_of}
 use Rattle.gn_labels.specs.declared.error.LabelError.{LabelError}
 use Rattle.gn_labels.specs.declared.error.LabelError.TheVariants.{BadLabel, Path, Memory}
 use Rattle.gn_labels.specs.declared.label.Label.{Label}
 use Rattle.gn_labels.specs.declared.named.Named.{Named}
 use Rattle.gn_labels.specs.Labels.{spelling}
-use Rattle.gn_labels.specs.Names.{is_name, is_plain_piece}
+use Rattle.gn_labels.specs.Names.{is_name}
 
 -- the bytes `(`, `)` and `:`
 abbrev pub is_open : ℕ → Bool
@@ -62,14 +63,19 @@ abbrev pub named_apart : List ℕ → List ℕ → List ℕ → Result Named Lab
 named_apart current dir name =
     if is_name name && starts_in_source current dir then named_in name (directory_of current dir) else Err BadLabel
 
--- the part after the last slash of a text as it is written
-abbrev pub written_last : List ℕ → List ℕ
-written_last text = file_of (without_final_slash text)
+-- the last of a list of texts, or another text where there is none
+abbrev pub last_or : List ℕ → List (List ℕ) → List ℕ
+last_or other [] = other
+last_or other (x ∷ xs) = last_or x xs
 
--- whether a last part as it is written may end the directory of a wrong path: it is a name, or leads
--- nowhere or up
+-- the last part of a text as it is written that is neither empty nor `.`, and nothing where it has none
+abbrev pub written_last : List ℕ → List ℕ
+written_last text = last_or [] (filter moves (pieces text))
+
+-- whether a last part as it is written may end the directory of a wrong path: it is a name, leads up, or there
+-- is none
 abbrev pub may_be_last : List ℕ → Bool
-may_be_last written = is_name written || not (is_plain_piece written)
+may_be_last written = is_name written || not (leads_down written)
 
 -- the fault of a wrong path whose last part may end it, or may not
 abbrev pub fault_behind : Bool → PathError → LabelError

@@ -2,11 +2,11 @@
 
 ghost use Rattle.std.specs.Prelude.{◌≡◌, ◌≤◌, ◌==◌, length};
 ghost use Rattle.std.specs.List.{position_or_len};
-ghost use Rattle.gn_paths.specs.Components.{is_source, is_system, is_absolute, without_final_slash};
+ghost use Rattle.gn_paths.specs.Components.{is_source, is_system};
 ghost use Rattle.gn_paths.specs.Resolve.{start_of};
 ghost use Rattle.gn_labels.specs.Reading.{starts_in_source};
 
-use gn_paths::Path;
+use gn_paths::{Path, is_source, is_system};
 
 // How many bytes stand before the first `byte`.
 pub(crate) fn len_before(text: &[u8], byte: u8) -> usize
@@ -19,25 +19,6 @@ pub(crate) fn len_before(text: &[u8], byte: u8) -> usize
         }
     }
     text.len()
-}
-
-// Whether a text begins with two slashes.
-pub(crate) fn is_source(text: &[u8]) -> bool
-    ensures { result ≡ is_source text.now }
-{
-    text.starts_with(b"//")
-}
-
-fn is_absolute(text: &[u8]) -> bool
-    ensures { result ≡ is_absolute text.now }
-{
-    text.starts_with(b"/")
-}
-
-fn is_system(text: &[u8]) -> bool
-    ensures { result ≡ is_system text.now }
-{
-    !is_source(text) && is_absolute(text)
 }
 
 fn start_is_source(current: &Path, text: &[u8]) -> bool
@@ -55,14 +36,4 @@ pub(crate) fn starts_in_source(current: &Path, text: &[u8]) -> bool
     ensures { result ≡ starts_in_source current.now text.now }
 {
     !is_system(text) && start_is_source(current, text)
-}
-
-pub(crate) fn without_final_slash(text: &[u8]) -> &[u8]
-    ensures { result.now ≡ without_final_slash text.now }
-{
-    if text.ends_with(b"/") {
-        &text[..text.len() - 1]
-    } else {
-        text
-    }
 }

@@ -1,16 +1,17 @@
 // The label that a text means.
 
 ghost use Rattle.std.specs.Prelude.{◌≡◌, ◌⊎◌, ◌++◌, ◌∷◌, [], List, ℕ, Ok, Err, IfOk, IfErr};
-ghost use Rattle.gn_paths.specs.Resolve.{resolved};
-ghost use Rattle.gn_labels.specs.Reading.{path_fault, directory_of, named_in, named_apart, may_be_last, fault_behind, named_last, named_whole, written_last, named_read, label_under, label_of, label_read};
+ghost use Rattle.std.specs.List.{filter};
+ghost use Rattle.gn_paths.specs.Resolve.{moves, resolved};
+ghost use Rattle.gn_labels.specs.Reading.{path_fault, directory_of, named_in, named_apart, may_be_last, fault_behind, named_last, named_whole, last_or, written_last, named_read, label_under, label_of, label_read};
 
-use crate::bytes::{is_source, len_before, starts_in_source, without_final_slash};
+use crate::bytes::{len_before, starts_in_source};
 use crate::error::LabelError;
 use crate::label::Label;
-use crate::name::{is_name, is_plain_piece};
+use crate::name::is_name;
 use crate::named::Named;
 use crate::toolchain::{both, toolchain_in};
-use gn_paths::{Path, PathError, PathPart, Text, part, resolve};
+use gn_paths::{Path, PathError, PathPart, Text, is_source, leads_down, part, resolve, stays_there};
 use std::alloc::{AllocError, Global};
 
 pub(crate) fn path_fault(fault: PathError) -> LabelError
@@ -93,7 +94,7 @@ fn fault_behind(may: bool, fault: PathError) -> LabelError
 fn may_be_last(written: &[u8]) -> bool
     ensures { result ≡ may_be_last written.now }
 {
-    is_name(written) || !is_plain_piece(written)
+    is_name(written) || !leads_down(written)
 }
 
 // A directory whose last component is the name.
@@ -125,10 +126,28 @@ fn named_last(
     }
 }
 
-fn written_last(alloc: Global, text: &[u8]) -> Result<Text, AllocError>
-    ensures { IfOk result (λ t. t ≡ written_last text.now) }
+// The last part that is neither empty nor `.`.
+fn written_last(text: &[u8]) -> &[u8]
+    ensures { result.now ≡ written_last text.now }
 {
-    part(alloc, without_final_slash(text), PathPart::File)
+    let mut last: &[u8] = b"";
+    let mut rest = text;
+    'walk: loop {
+        let n = len_before(rest, b'/');
+        let next = later(last, &rest[..n]);
+        if n == rest.len() {
+            return next;
+        }
+        last = next;
+        rest = &rest[n + 1..];
+    }
+}
+
+// The later of two parts, if it is neither empty nor `.`.
+fn later<'a>(last: &'a [u8], part: &'a [u8]) -> &'a [u8]
+    ensures { result.now ≡ last_or last.now (filter moves (part.now ∷ [])) }
+{
+    if stays_there(part) { last } else { part }
 }
 
 // A text without a colon.
@@ -138,10 +157,7 @@ fn read_whole(alloc: Global, current: &Path, text: &[u8]) -> Result<Named, Label
     if !is_source(text) {
         return Err(LabelError::BadLabel);
     }
-    match written_last(alloc, text) {
-        Ok(written) => named_last(alloc, written.as_bytes(), directory(alloc, current, text)),
-        Err(_) => Err(LabelError::Memory),
-    }
+    named_last(alloc, written_last(text), directory(alloc, current, text))
 }
 
 // A label's text without a toolchain.

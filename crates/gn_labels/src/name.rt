@@ -4,22 +4,17 @@ ghost use Rattle.std.specs.Prelude.{◌≡◌};
 ghost use Rattle.std.specs.List.{list_all};
 ghost use Rattle.std.specs.Str.{is_utf8};
 ghost use Rattle.gn_paths.specs.Components.{pieces};
-ghost use Rattle.gn_paths.specs.Normal.{is_path_byte};
-ghost use Rattle.gn_labels.specs.Names.{is_mark, is_name_byte, is_plain_piece, is_name};
+ghost use Rattle.gn_paths.specs.Directory.{leads_down};
+ghost use Rattle.gn_labels.specs.Names.{is_mark, is_name_byte, is_name};
 
 use crate::bytes::len_before;
+use gn_paths::{is_path_byte, leads_down};
 
 // Whether a byte has a meaning in labels and patterns.
 pub(crate) fn is_mark(byte: u8) -> bool
     ensures { result ≡ is_mark byte }
 {
     byte == b'(' || byte == b')' || byte == b'*' || byte == b':'
-}
-
-fn is_path_byte(byte: u8) -> bool
-    ensures { result ≡ is_path_byte byte }
-{
-    byte != 0 && byte != b'\n'
 }
 
 fn is_name_byte(byte: u8) -> bool
@@ -43,21 +38,13 @@ fn is_utf8(text: &[u8]) -> bool
     }
 }
 
-// Whether a part between slashes is a component: not empty, not `.` and not `..`.
-#[tactic(auto, using(crate::proofs::NameLemmas::bytes_eq_nil))]
-pub(crate) fn is_plain_piece(piece: &[u8]) -> bool
-    ensures { result ≡ is_plain_piece piece.now }
-{
-    !(piece.is_empty() || piece == b".".as_slice()) && piece != b"..".as_slice()
-}
-
 fn has_plain_pieces(text: &[u8]) -> bool
-    ensures { result ≡ list_all is_plain_piece (pieces text.now) }
+    ensures { result ≡ list_all leads_down (pieces text.now) }
 {
     let mut rest = text;
     loop {
         let n = len_before(rest, b'/');
-        if !is_plain_piece(&rest[..n]) {
+        if !leads_down(&rest[..n]) {
             return false;
         }
         if n == rest.len() {

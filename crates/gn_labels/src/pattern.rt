@@ -1,7 +1,6 @@
 // Patterns of labels.
 
-ghost use Rattle.std.specs.Prelude.{◌≡◌, ◌++◌, ◌∷◌, [], nat_eq};
-ghost use Rattle.std.specs.List.{starts_with};
+ghost use Rattle.std.specs.Prelude.{◌≡◌};
 ghost use Rattle.gn_labels.specs.Patterns.{has_label, has_toolchain, is_within, matches};
 
 use crate::label::Label;
@@ -45,7 +44,7 @@ fn has_label(extent: &Extent, label: &Label) -> bool
     match extent {
         Extent::Exact(part) => label.dir == part.dir && label.name == part.name,
         Extent::Directory(dir) => label.dir == *dir,
-        Extent::Below(dir) => is_within(dir.as_bytes(), label.dir.as_bytes()),
+        Extent::Below(dir) => is_within(dir, &label.dir),
         Extent::All => true,
     }
 }
@@ -60,24 +59,8 @@ fn has_toolchain(own: &Option<Text>, toolchain: &Text) -> bool
 }
 
 // Whether a directory is another or stands below it.
-fn is_within(outer: &[u8], dir: &[u8]) -> bool
+fn is_within(outer: &Path, dir: &Path) -> bool
     ensures { result ≡ is_within outer.now dir.now }
 {
-    if dir == outer {
-        return true;
-    }
-    if outer.ends_with(b"/") {
-        return dir.starts_with(outer);
-    }
-    begins_with_slash_behind(outer, dir)
-}
-
-// Whether a text begins with another and a slash.
-fn begins_with_slash_behind(outer: &[u8], dir: &[u8]) -> bool
-    ensures { result ≡ starts_with nat_eq dir.now (outer.now ++ 47 ∷ []) }
-{
-    match dir.strip_prefix(outer) {
-        Some(rest) => rest.starts_with(b"/"),
-        None => false,
-    }
+    dir == outer || dir.is_below(outer)
 }

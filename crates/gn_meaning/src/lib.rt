@@ -9,6 +9,3 @@ pub use laws::{
     evaluations_are_trees, evaluations_depend_on_what_they_ask, evaluations_stop_at_answers,
     more_answers_keep_evaluations,
 };
-
-#[cfg(test)]
-mod tests;

@@ -26,6 +26,10 @@ has_bare false (b ∷ more) = if b == 36 then has_bare true more else (b == 32 |
 unfoldable pub has_bare_separator : List ℕ → Bool
 has_bare_separator text = has_bare false text
 
+-- bytes of a value behind its beginning: each `$` is `$$`
+abbrev pub doubled : List ℕ → List ℕ
+doubled bytes = all_marked 36 (36 ∷ []) bytes
+
 -- a value in a Ninja file: `$` is `$$`, and a space at the beginning is `$ `
 unfoldable pub value_escaped : List ℕ → List ℕ
 value_escaped value = (if starts_with nat_eq value (32 ∷ []) then 36 ∷ [] else []) ++ all_marked 36 (36 ∷ []) value

@@ -1,7 +1,7 @@
 // Paths and values of a Ninja file.
 
-ghost use Rattle.std.specs.Prelude.{◌≡◌, IfOk, Some, false};
-ghost use Rattle.gn_ninja_text.specs.Escapes.{path_escaped, value_escaped, path_read, value_read, has_bare_separator};
+ghost use Rattle.std.specs.Prelude.{◌≡◌, ◌++◌, IfOk, OnOk, Some, false};
+ghost use Rattle.gn_ninja_text.specs.Escapes.{path_escaped, value_escaped, doubled, path_read, value_read, has_bare_separator};
 
 use crate::marks::append_marked;
 use gn_paths::Text;
@@ -42,4 +42,11 @@ pub fn escape_value(alloc: Global, value: &[u8]) -> Result<Text, AllocError>
     ensures reads_back { IfOk result (λ t. value_read t ≡ Some value.now) }
 {
     Ok(Text::from_vec(value_text(alloc, value)?))
+}
+
+/// Puts bytes that stand in a value behind its beginning at the end: each `$` is `$$`, and every other byte stands as it is.
+pub fn append_doubled(text: &mut Vec<u8>, bytes: &[u8]) -> Result<(), AllocError>
+    ensures { OnOk result (text.new.items ≡ text.old.items ++ doubled bytes.now) }
+{
+    append_marked(text, bytes, b'$', b"$")
 }

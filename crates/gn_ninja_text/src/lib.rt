@@ -5,7 +5,7 @@ mod escapes;
 mod marks;
 mod words;
 
-pub use escapes::{escape_path, escape_value};
+pub use escapes::{append_doubled, escape_path, escape_value};
 pub use words::shell_word;
 
 #[cfg(test)]

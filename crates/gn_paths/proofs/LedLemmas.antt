@@ -116,7 +116,7 @@ clean-spelled top (c ∷ cs) final t h = clean-append (top ++ trail (c ∷ cs)) 
     by false = clean-nil
 
 -- a kept piece is a plain component
-kept_plain : (p : List ℕ) → HasNoSlash p → IsKept p → IsPlain p
+pub kept_plain : (p : List ℕ) → HasNoSlash p → IsKept p → IsPlain p
 kept_plain p h k = record {
   not_empty = λ e. false≢true (sym k.moves ∙ ap stays_there e);
   not_dot = λ e. false≢true (sym k.moves ∙ ap stays_there e);
@@ -162,17 +162,17 @@ unslashed-spelled (c ∷ cs) false h =
         let same : slash ++ trail (c ∷ cs) ≡ ((slash ++ trail e.front) ++ 47 ∷ []) ++ e.last = ap (λ l. slash ++ trail l) e.is ∙ ap (λ t. slash ++ t) (trail-append e.front (e.last ∷ []) ∙ ap (λ t. trail e.front ++ 47 ∷ t) (append-nil e.last)) ∙ sym (append_assoc slash (trail e.front) (47 ∷ e.last)) ∙ sym (append_assoc (slash ++ trail e.front) (47 ∷ []) e.last) in
         ap without_final_slash same ∙ byte ((slash ++ trail e.front) ++ 47 ∷ []) e.last plain ∙ sym same
 
-plain_slashes : (parts : List (List ℕ)) → All IsPlain parts → All HasNoSlash parts
+pub plain_slashes : (parts : List (List ℕ)) → All IsPlain parts → All HasNoSlash parts
 plain_slashes parts h = All-weaker IsPlain HasNoSlash (λ x k. k.no_slash) parts h
 
 -- the components of a path in the source tree
-components-spelled : (parts : List (List ℕ)) (final : Bool) → All IsPlain parts → components (spelled slash parts final) ≡ parts
+pub components-spelled : (parts : List (List ℕ)) (final : Bool) → All IsPlain parts → components (spelled slash parts final) ≡ parts
 unfolding components
 components-spelled [] final h = refl
 components-spelled (c ∷ cs) final h =
     ap (λ w. drop 1 (pieces (drop 1 w))) (unslashed-spelled (c ∷ cs) final h) ∙ parts-trail (c ∷ cs) (plain_slashes (c ∷ cs) h)
 
-source_plain : (p : List ℕ) → IsNormal p → is_source p ≡ true → All IsPlain (components p)
+pub source_plain : (p : List ℕ) → IsNormal p → is_source p ≡ true → All IsPlain (components p)
 source_plain p h s = by h.shape
   where
     by : (is_system p ≡ true) ⊎ IsInSource p → All IsPlain (components p)
@@ -260,7 +260,7 @@ system_filled (b ∷ c ∷ r) a s =
         subst IsFilled (sym parts) (λ x. cc)
 
 -- a path of clean components may name a path
-path_text-source : (cs : List (List ℕ)) (final : Bool) → IsClean (spelled slash cs final) → is_path_text (spelled slash cs final) ≡ true
+pub path_text-source : (cs : List (List ℕ)) (final : Bool) → IsClean (spelled slash cs final) → is_path_text (spelled slash cs final) ≡ true
 path_text-source [] final h = path_text-clean 47 (47 ∷ []) h
 path_text-source (c ∷ cs) final h = path_text-clean 47 (trail (c ∷ cs) ++ cond final slash []) h
 
@@ -269,7 +269,7 @@ path_text-system [] final h = path_text-clean 47 [] h
 path_text-system (c ∷ cs) final h = path_text-clean 47 ((c ++ trail cs) ++ cond final slash []) h
 
 -- the path of what the walk leaves
-spelled_normal : (start text : List ℕ) (cs : List (List ℕ)) (final : Bool) → IsNormal start → is_path_text text ≡ true → walked (components start) (pieces text) ≡ Some cs → IsNormal (spelled (top_of start) cs final)
+pub spelled_normal : (start text : List ℕ) (cs : List (List ℕ)) (final : Bool) → IsNormal start → is_path_text text ≡ true → walked (components start) (pieces text) ≡ Some cs → IsNormal (spelled (top_of start) cs final)
 spelled_normal start text cs final h t e =
     let a = absolute-normal start h in
     let clean : All IsClean cs = walked_keeps IsClean (pieces text) (components start) cs (clean-components start a (clean-path_text start h.text)) (All-weaker IsClean (λ p. IsKept p → IsClean p) (λ p k _. k) (pieces text) (clean-pieces text (clean-path_text text t))) e in

@@ -6,3 +6,7 @@ pub mod BufferLemmas
 pub mod ResolveLemmas
 pub mod LedLemmas
 pub mod RebaseLemmas
+pub mod DirectoryLemmas
+pub mod BelowLemmas
+pub mod OutputLemmas
+pub mod LawLemmas

@@ -9,8 +9,8 @@ use Rattle.std.proofs.lemmas.List.Splits.{slice_split-cons_no, length-slice_spli
 use Rattle.std.proofs.lemmas.List.Sums.{prefix_len_stops}
 use Rattle.std.proofs.Math.Seq.{take-length, drop-cons, drop-length}
 use Rattle.gn_paths.specs.Components.{is_slash, two_dots, HasNoSlash, pieces, trail, is_absolute, is_source, components, without_final_slash}
-use Rattle.gn_paths.specs.Rebase.{relative, joined, parts, IsTrail, rooted, root_components, system_components, system_path, keeps_slash, closed, rebased}
-use Rattle.gn_paths.proofs.PieceLemmas.{cut, IsRooted, trail-parts, parts-trail, parts_plain, components_plain, pieces_last, pieces_more, trail-append, slash_is, one_slash}
+use Rattle.gn_paths.specs.Rebase.{relative, joined, parts, IsTrail, rooted, root_components, system_components, closed, or_dot, dotted}
+use Rattle.gn_paths.proofs.PieceLemmas.{Cut, cut, IsRooted, trail-parts, parts-trail, parts_plain, components_plain, pieces_last, pieces_more, trail-append, slash_is, one_slash}
 
 -- a text of components without slashes is their trail
 pub parts-from_trail : (t : List ℕ) (cs : List (List ℕ)) → t ≡ trail cs → All HasNoSlash cs → parts t ≡ cs
@@ -99,7 +99,7 @@ relative-same xs ys x y ds cs e f d =
     ap (λ l. relative l cs) e ∙ ap (relative (x ∷ xs)) f ∙ ap (λ b. cond b (relative xs ys) (map (λ _. two_dots) (x ∷ xs) ++ y ∷ ys)) d
 
 -- `..` for each component
-map-dots : (xs : List (List ℕ)) → map (λ _. two_dots) xs ≡ replicate (length xs) two_dots
+pub map-dots : (xs : List (List ℕ)) → map (λ _. two_dots) xs ≡ replicate (length xs) two_dots
 map-dots [] = refl
 map-dots (x ∷ xs) = ap (λ l. two_dots ∷ l) (map-dots xs)
 
@@ -140,23 +140,23 @@ relative-no_base b p e = ap (λ t. relative (parts t) (parts p)) e ∙ sym (ap (
 pub relative-no_path : (b p : List ℕ) → p ≡ [] → relative (parts b) (parts p) ≡ map (λ _. two_dots) (parts b) ++ parts p
 relative-no_path b p e = ap (λ t. relative (parts b) (parts t)) e ∙ relative-none (parts b) ∙ sym (ap (λ t. map (λ _. two_dots) (parts b) ++ parts t) e)
 
--- the cases of what is shown
-pub rebased-system : (path base root : List ℕ) → bytes_eq base [] ≡ true → rebased path base root ≡ system_path root path
-unfolding rebased
-rebased-system path base root e =
-    ap (λ b. cond b (system_path root path) (cond (is_source path && is_source base) (closed (joined (relative (components base) (components path))) (keeps_slash path)) (closed (joined (relative (system_components root base) (system_components root path))) (keeps_slash path)))) e
-
-pub rebased-source : (path base root : List ℕ) → bytes_eq base [] ≡ false → (is_source path && is_source base) ≡ true → rebased path base root ≡ closed (joined (relative (components base) (components path))) (keeps_slash path)
-unfolding rebased
-rebased-source path base root e s =
-    ap (λ b. cond b (system_path root path) (cond (is_source path && is_source base) (closed (joined (relative (components base) (components path))) (keeps_slash path)) (closed (joined (relative (system_components root base) (system_components root path))) (keeps_slash path)))) e ∙ ap (λ b. cond b (closed (joined (relative (components base) (components path))) (keeps_slash path)) (closed (joined (relative (system_components root base) (system_components root path))) (keeps_slash path))) s
-
-pub rebased-mixed : (path base root : List ℕ) → bytes_eq base [] ≡ false → (is_source path && is_source base) ≡ false → rebased path base root ≡ closed (joined (relative (system_components root base) (system_components root path))) (keeps_slash path)
-unfolding rebased
-rebased-mixed path base root e s =
-    ap (λ b. cond b (system_path root path) (cond (is_source path && is_source base) (closed (joined (relative (components base) (components path))) (keeps_slash path)) (closed (joined (relative (system_components root base) (system_components root path))) (keeps_slash path)))) e ∙ ap (λ b. cond b (closed (joined (relative (components base) (components path))) (keeps_slash path)) (closed (joined (relative (system_components root base) (system_components root path))) (keeps_slash path))) s
-
 -- what is shown for two trails is what their components give
 pub shown_as : (b p : List ℕ) (ds cs : List (List ℕ)) (f g : Bool) → b ≡ trail ds → All HasNoSlash ds → p ≡ trail cs → All HasNoSlash cs → f ≡ g → closed (joined (relative (parts b) (parts p))) f ≡ closed (joined (relative ds cs)) g
 shown_as b p ds cs f g e h k i q =
     ap (λ l. closed (joined (relative l (parts p))) f) (parts-from_trail b ds e h) ∙ ap (λ l. closed (joined (relative ds l)) f) (parts-from_trail p cs k i) ∙ ap (closed (joined (relative ds cs))) q
+
+-- components with a slash between two, where `.` stands instead of nothing
+pub joined_dotted : (t : List ℕ) → IsTrail t → joined (parts t) ≡ dotted (drop 1 t)
+joined_dotted [] h = refl
+joined_dotted (x ∷ r) h = ap (λ y. joined (parts (y ∷ r))) (slash_is x (first_slash x r h)) ∙ ap joined k.pieces_are ∙ by k.first k.more k.first_plain ∙ ap dotted (sym k.joins)
+  where
+    k : Cut r
+    k = cut r
+
+    down : (ms : List (List ℕ)) → 46 ∷ trail ms ≡ dotted (trail ms)
+    down [] = refl
+    down (m ∷ ms) = refl
+
+    by : (f : List ℕ) (ms : List (List ℕ)) → HasNoSlash f → or_dot f ++ trail ms ≡ dotted (f ++ trail ms)
+    by [] ms p = down ms
+    by (b ∷ bs) ms p = sym (ap (λ c. cond c (46 ∷ ((b ∷ bs) ++ trail ms)) ((b ∷ bs) ++ trail ms)) (one_slash b ∙ p 0 0 (omega arith)))

@@ -1,15 +1,18 @@
 -- The buffer holds what the components spell, and what a text leads to is in normal form.
-use Rattle.std.proofs.Common.{◌≡◌, ℕ, ◌<◌, Bool, true, false, cond, ◌||◌, List, [], ◌∷◌, ◌++◌, length, take, Option, None, Some, Ok, Err, option_and_then, option_map, refl, sym, ap, ◌∙◌, subst, arith, eqb, append_assoc}
+use Rattle.std.proofs.Common.{◌≡◌, ℕ, ◌<◌, Bool, true, false, cond, ◌||◌, List, [], ◌∷◌, ◌++◌, length, take, Option, None, Some, Ok, Err, option_and_then, option_map, refl, sym, ap, ◌∙◌, subst, arith, eqb, append_assoc, Result, ◌⊎◌, inl, inr}
 use Rattle.std.specs.Option.{ok_or}
 use Rattle.std.specs.List.{All, before_last}
 use Rattle.std.specs.Str.{bytes_eq}
 use Rattle.std.proofs.lemmas.Bool.Decides.{Decides-eqb}
 use Rattle.std.proofs.lemmas.List.{append-nil, take_at, length-append, get_or_at}
 use Rattle.std.proofs.lemmas.List.Elements.{All-head, All-tail, All-take, All-push}
-use Rattle.gn_paths.specs.declared.error.PathError.TheVariants.{AboveRoot, BadPath}
+use Rattle.gn_paths.specs.declared.error.PathFault.{PathFault}
+use Rattle.gn_paths.specs.declared.error.PathFault.TheVariants as faults
+use Rattle.gn_paths.specs.declared.error.PathError.{PathError}
+use Rattle.gn_paths.specs.declared.error.PathError.TheVariants.{AboveRoot, BadPath, Memory}
 use Rattle.gn_paths.specs.Components.{is_slash, slash, two_dots, HasNoSlash, pieces, trail, top_of, is_absolute, is_system, components, spelled, ends_in_slash}
 use Rattle.gn_paths.specs.Normal.{is_path_text}
-use Rattle.gn_paths.specs.Resolve.{stays_there, without_last, stepped, walked, start_of, led, resolved}
+use Rattle.gn_paths.specs.Resolve.{stays_there, without_last, stepped, walked, start_of, led, path_meant, path_answered, resolved}
 use Rattle.gn_paths.specs.Buffer.{buffer_stepped, buffer_walked, buffer_closed, buffer_led}
 use Rattle.gn_paths.proofs.PieceLemmas.{trail-append, ends, before_last-slash, top-components, components_plain, pieces_plain}
 
@@ -120,19 +123,52 @@ buffer_led-path start text h =
     by (Some cs) = ap Some (closes (top_of start) (ends_in_slash text) cs)
 
 -- the cases of what a text means
+meant-led : (o : Option (List ℕ)) → path_answered (ok_or o faults.AboveRoot) ≡ ok_or o AboveRoot
+meant-led None = refl
+meant-led (Some path) = refl
+
 pub resolved-bad : (current text : List ℕ) → is_path_text text ≡ false → resolved current text ≡ Err BadPath
-unfolding resolved
-resolved-bad current text e = ap (λ b. cond b (cond (is_system text) (Ok text) (ok_or (led (start_of current text) text) AboveRoot)) (Err BadPath)) e
+unfolding resolved path_meant
+resolved-bad current text e = ap (λ b. path_answered (cond b (cond (is_system text) (Ok text) (ok_or (led (start_of current text) text) faults.AboveRoot)) (Err faults.BadPath))) e
 
 pub resolved-system : (current text : List ℕ) → is_path_text text ≡ true → is_system text ≡ true → resolved current text ≡ Ok text
-unfolding resolved
+unfolding resolved path_meant
 resolved-system current text e s =
-    ap (λ b. cond b (cond (is_system text) (Ok text) (ok_or (led (start_of current text) text) AboveRoot)) (Err BadPath)) e ∙ ap (λ b. cond b (Ok text) (ok_or (led (start_of current text) text) AboveRoot)) s
+    ap (λ b. path_answered (cond b (cond (is_system text) (Ok text) (ok_or (led (start_of current text) text) faults.AboveRoot)) (Err faults.BadPath))) e ∙ ap (λ b. path_answered (cond b (Ok text) (ok_or (led (start_of current text) text) faults.AboveRoot))) s
 
 pub resolved-led : (current text : List ℕ) → is_path_text text ≡ true → is_system text ≡ false → resolved current text ≡ ok_or (led (start_of current text) text) AboveRoot
-unfolding resolved
+unfolding resolved path_meant
 resolved-led current text e s =
-    ap (λ b. cond b (cond (is_system text) (Ok text) (ok_or (led (start_of current text) text) AboveRoot)) (Err BadPath)) e ∙ ap (λ b. cond b (Ok text) (ok_or (led (start_of current text) text) AboveRoot)) s
+    ap (λ b. path_answered (cond b (cond (is_system text) (Ok text) (ok_or (led (start_of current text) text) faults.AboveRoot)) (Err faults.BadPath))) e ∙ ap (λ b. path_answered (cond b (Ok text) (ok_or (led (start_of current text) text) faults.AboveRoot))) s ∙ meant-led (led (start_of current text) text)
+
+-- what code answers is what the text means
+answered_ok : (r : Result (List ℕ) PathFault) (path : List ℕ) → path_answered r ≡ Ok path → r ≡ Ok path
+answered_ok (Ok p) path e = let same : p ≡ path = cc in ap Ok same
+answered_ok (Err f) path e = absurd cc
+
+answered_above : (r : Result (List ℕ) PathFault) → path_answered r ≡ Err AboveRoot → r ≡ Err faults.AboveRoot
+answered_above (Ok p) e = absurd cc
+answered_above (Err faults.AboveRoot) e = refl
+answered_above (Err faults.BadPath) e = absurd cc
+
+answered_bad : (r : Result (List ℕ) PathFault) → path_answered r ≡ Err BadPath → r ≡ Err faults.BadPath
+answered_bad (Ok p) e = absurd cc
+answered_bad (Err faults.AboveRoot) e = absurd cc
+answered_bad (Err faults.BadPath) e = refl
+
+pub meant_ok : (current text path : List ℕ) → resolved current text ≡ Ok path → Ok path ≡ path_meant current text
+unfolding resolved
+meant_ok current text path e = sym (answered_ok (path_meant current text) path e)
+
+pub meant_above : (current text : List ℕ) → (AboveRoot ≡ Memory) ⊎ (resolved current text ≡ Err AboveRoot) → Err faults.AboveRoot ≡ path_meant current text
+unfolding resolved
+meant_above current text (inl e) = absurd cc
+meant_above current text (inr e) = sym (answered_above (path_meant current text) e)
+
+pub meant_bad : (current text : List ℕ) → (BadPath ≡ Memory) ⊎ (resolved current text ≡ Err BadPath) → Err faults.BadPath ≡ path_meant current text
+unfolding resolved
+meant_bad current text (inl e) = absurd cc
+meant_bad current text (inr e) = sym (answered_bad (path_meant current text) e)
 
 -- a text that may name a path isn't a bad one
 pub resolved_not_bad : (current text : List ℕ) → is_path_text text ≡ true → resolved current text ≡ Err BadPath → ⊥

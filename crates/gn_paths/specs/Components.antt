@@ -1,6 +1,6 @@
 -- The parts of a path between its slashes.
-use Rattle.std.specs.Prelude.{ℕ, Bool, List, [], ◌∷◌, ◌++◌, ◌-◌, ◌==◌, ◌≡◌, false, if◌then◌else◌, nat_eq, drop, length, take}
-use Rattle.std.specs.List.{All, slice_split, starts_with, ends_with}
+use Rattle.std.specs.Prelude.{ℕ, Bool, List, [], ◌∷◌, ◌++◌, ◌-◌, ◌==◌, ◌≡◌, false, not, if◌then◌else◌, nat_eq, drop, length, take}
+use Rattle.std.specs.List.{All, slice_split, starts_with, ends_with, suffix_len}
 
 -- the texts `/`, `//`, `.` and `..`
 abbrev pub slash : List ℕ
@@ -51,6 +51,14 @@ ends_in_slash p = ends_with nat_eq p (slash)
 -- the text without its final slash, if it has one
 abbrev pub without_final_slash : List ℕ → List ℕ
 without_final_slash p = if ends_in_slash p then take (length p - 1) p else p
+
+-- the text without all its final slashes
+abbrev pub without_final_slashes : List ℕ → List ℕ
+without_final_slashes p = take (length p - suffix_len is_slash p) p
+
+-- the text up to its last slash and with it, and nothing where it has none
+abbrev pub up_to_last_slash : List ℕ → List ℕ
+up_to_last_slash p = take (length p - suffix_len (λ b. not (is_slash b)) p) p
 
 -- what stands before the slash of the first component: `/` at the source root, nothing at the system's
 abbrev pub top_of : List ℕ → List ℕ

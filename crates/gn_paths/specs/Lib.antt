@@ -6,3 +6,4 @@ pub mod Buffer
 pub mod Rebase
 pub mod Parts
 pub mod Directory
+pub mod Laws

@@ -4,16 +4,18 @@ ghost use Rattle.std.specs.Prelude.{◌≡◌, ◌≤◌, length};
 ghost use Rattle.std.specs.List.{position_or_len};
 ghost use Rattle.gn_paths.specs.Components.{is_slash, is_source, is_system, is_absolute, ends_in_slash, without_final_slash, top_of};
 ghost use Rattle.gn_paths.specs.Normal.{is_path_byte};
+ghost use Rattle.gn_paths.specs.Resolve.{stays_there};
+ghost use Rattle.gn_paths.specs.Directory.{leads_down};
 
-// Whether a byte may stand in a path.
-pub(crate) fn is_path_byte(byte: u8) -> bool
+/// Whether a byte may stand in a path: it is neither NUL nor a newline.
+pub fn is_path_byte(byte: u8) -> bool
     ensures { result ≡ is_path_byte byte }
 {
     byte != 0 && byte != b'\n'
 }
 
-// Whether a path stands in the source tree.
-pub(crate) fn is_source(text: &[u8]) -> bool
+/// Whether a text is a path of the source tree, which begins with two slashes.
+pub fn is_source(text: &[u8]) -> bool
     ensures { result ≡ is_source text.now }
 {
     text.starts_with(b"//")
@@ -26,11 +28,26 @@ pub(crate) fn is_absolute(text: &[u8]) -> bool
     text.starts_with(b"/")
 }
 
-// Whether a text is a system path.
-pub(crate) fn is_system(text: &[u8]) -> bool
+/// Whether a text is a system path, which begins with one slash and not with two.
+pub fn is_system(text: &[u8]) -> bool
     ensures { result ≡ is_system text.now }
 {
     !is_source(text) && is_absolute(text)
+}
+
+/// Whether a piece of a text leads nowhere: it is empty or `.`.
+#[tactic(auto, using(crate::proofs::NormalLemmas::bytes_eq_nil))]
+pub fn stays_there(piece: &[u8]) -> bool
+    ensures { result ≡ stays_there piece.now }
+{
+    piece.is_empty() || piece == b".".as_slice()
+}
+
+/// Whether a component leads down: it isn't empty, `.` or `..`.
+pub fn leads_down(component: &[u8]) -> bool
+    ensures { result ≡ leads_down component.now }
+{
+    !stays_there(component) && component != b"..".as_slice()
 }
 
 pub(crate) fn ends_in_slash(text: &[u8]) -> bool

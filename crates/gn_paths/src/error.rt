@@ -6,6 +6,15 @@ ghost use Rattle.gn_paths.specs.declared.error.PathError.TheVariants.{Memory};
 use std::alloc::AllocError;
 use thiserror::Error;
 
+/// What keeps a text from naming a path. Want of memory is none of it.
+#[derive(Clone, Copy, Debug, PartialEq, Eq)]
+pub enum PathFault {
+    /// A `..` climbs above the root.
+    AboveRoot,
+    /// The text is empty, holds a NUL or a newline, or isn't UTF-8. This stands before `AboveRoot`.
+    BadPath,
+}
+
 /// Why a text gives no path.
 #[derive(Clone, Copy, Debug, PartialEq, Eq, Error)]
 pub enum PathError {

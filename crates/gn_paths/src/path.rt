@@ -7,9 +7,10 @@ ghost use Rattle.std.specs.Cmp.Lexicographic.{pointwise, slice_cmp, nat_list_eq_
 ghost use Rattle.std.specs.Cmp.{partial_equiv_from_equiv};
 ghost use Rattle.std.specs.Cmp.Rules.{hashing};
 ghost use Rattle.std.proofs.Common.{rules};
-ghost use Rattle.gn_paths.specs.Components.{two_slashes};
+ghost use Rattle.gn_paths.specs.Components.{two_slashes, is_system};
 ghost use Rattle.gn_paths.specs.Normal.{IsNormal};
 
+use crate::components::is_system;
 use crate::text::Text;
 use std::alloc::{AllocError, Global};
 use std::cmp::Ordering;
@@ -48,12 +49,19 @@ impl Path {
         })
     }
 
-    /// The path of a text in normal form, which takes no memory.
-    pub fn from_normal(text: Text) -> Path
+    // The path of a text in normal form.
+    pub(crate) fn from_normal(text: Text) -> Path
         requires { IsNormal text }
         ensures { result ≡ text }
     {
         Path { text }
+    }
+
+    /// Whether the path is a system path, and no path of the source tree.
+    pub fn is_system(&self) -> bool
+        ensures { result ≡ is_system self.now }
+    {
+        is_system(self.as_bytes())
     }
 
     /// The bytes of the path.
@@ -70,14 +78,6 @@ impl Path {
         ensures normal { IsNormal self.now }
     {
         &self.text
-    }
-
-    /// The text of the path, which takes no memory.
-    pub fn into_text(self) -> Text
-        ensures value { result ≡ self }
-        ensures normal { IsNormal self }
-    {
-        self.text
     }
 
     /// The path as a `&str`.

@@ -1,41 +1,103 @@
 // A path as it is shown from another directory, or from the system's root.
 
-ghost use Rattle.std.specs.Prelude.{◌≡◌, ◌⊎◌, ◌&&◌, ◌∷◌, ◌++◌, [], IfOk, IfErr, IsTrue, OnOk, OnErr, ◌<◌, length, map, replicate};
+ghost use Rattle.std.specs.Prelude.{◌≡◌, ◌⊎◌, ◌&&◌, ◌∷◌, ◌++◌, [], IfOk, IfErr, IsTrue, OnOk, OnErr, ◌<◌, drop, length, map, replicate};
 ghost use Rattle.std.specs.List.{count_by};
 ghost use Rattle.gn_paths.specs.Components.{is_slash, is_source, two_dots, trail, components};
 ghost use Rattle.gn_paths.specs.Normal.{IsNormal};
-ghost use Rattle.gn_paths.specs.Rebase.{IsTrail, parts, relative, joined, keeps_slash, closed, rooted, root_components, system_components, system_path, rebased};
+ghost use Rattle.gn_paths.specs.Rebase.{IsTrail, parts, relative, joined, dotted, keeps_slash, closed, rooted, root_components, system_components, system_path, shown_from, rebased, seen_from};
 
 use crate::components::{
     ends_in_slash, is_absolute, is_source, piece_len, top_len, without_final_slash,
 };
+use crate::directories::as_directory;
 use crate::error::PathError;
 use crate::path::Path;
 use crate::text::Text;
 use std::alloc::{AllocError, Global};
 
 /// A path as it is shown from the directory `new_base`, or as the system's path where `new_base` is
-/// empty. `root` is the system's path of the source root. A final slash is kept; the source root `//`
-/// gives a text without one. `.` stands instead of nothing. Where `new_base` isn't empty and one of both
-/// is a system path, both are taken as system paths, over their components as they stand. The one error
-/// is `Memory`.
+/// empty. `root` is the system's path of the source root. All final slashes of `new_base` go; that of the
+/// path is kept, and the source root `//` gives a text without one. `.` stands instead of nothing. Where
+/// `new_base` isn't empty and one of both is a system path, both are taken as system paths, over their
+/// components as they stand; a first component that is empty is shown as `.`. The one error is `Memory`.
 pub fn rebase(alloc: Global, input: &Path, new_base: &[u8], root: &[u8]) -> Result<Text, PathError>
     requires { (new_base.now ≡ []) ⊎ IsNormal new_base.now }
     ensures ok { IfOk result (λ t. t ≡ rebased input.now new_base.now root.now) }
     ensures err { IfErr result (λ e. e ≡ PathError.Memory) }
 {
-    let path = input.as_bytes();
+    let text = rebased(alloc, input.as_bytes(), new_base, root)?;
+    Ok(Text::from_vec(text))
+}
+
+#[tactic(auto, using(crate::proofs::NormalLemmas::bytes_eq_nil), unfolding(crate::specs::Rebase::rebased))]
+fn rebased(alloc: Global, path: &[u8], new_base: &[u8], root: &[u8]) -> Result<Vec<u8>, AllocError>
+    requires path { IsNormal path.now }
+    requires base { (new_base.now ≡ []) ⊎ IsNormal new_base.now }
+    ensures { IfOk result (λ text. text.items ≡ rebased path.now new_base.now root.now) }
+{
     if new_base.is_empty() {
-        return Ok(Text::from_vec(system_path(alloc, path, root)?));
+        return system_path(alloc, path, root);
     }
-    if are_source(path, new_base) {
-        let text = show(alloc, trail_of(new_base), trail_of(path), keeps_slash(path))?;
-        return Ok(Text::from_vec(text));
+    shown_from(alloc, path, as_directory(new_base), root)
+}
+
+impl Path {
+    /// The path as it is seen from a directory of the source tree, as the build directory is: `../a.cc` for `//a.cc`
+    /// seen from `//out`, `.` for the directory itself, `obj/x` for what stands below it. A final slash is kept, but
+    /// that of `//`, and a system path stays as it is. What is seen, resolved from the directory, is the path again.
+    #[tactic(auto, unfolding(crate::specs::Rebase::seen_from))]
+    pub fn seen_from(&self, alloc: Global, directory: &Path) -> Result<Text, AllocError>
+        ensures { IfOk result (λ t. t ≡ seen_from directory.now self.now) }
+    {
+        let path = self.as_bytes();
+        if !is_source(path) {
+            return Text::from_bytes(alloc, path);
+        }
+        let text = shown_in_source(alloc, path, directory.as_bytes())?;
+        Ok(Text::from_vec(text))
     }
-    let base = system_trail(alloc, new_base, root)?;
+}
+
+// What leads from a directory to a path.
+fn shown_from(alloc: Global, path: &[u8], base: &[u8], root: &[u8]) -> Result<Vec<u8>, AllocError>
+    requires path { IsNormal path.now }
+    requires base { IsNormal base.now }
+    ensures { IfOk result (λ text. text.items ≡ shown_from path.now base.now root.now) }
+{
+    if are_source(path, base) {
+        shown_in_source(alloc, path, base)
+    } else {
+        shown_in_system(alloc, path, base, root)
+    }
+}
+
+// Over the components of the source tree.
+fn shown_in_source(alloc: Global, path: &[u8], base: &[u8]) -> Result<Vec<u8>, AllocError>
+    requires path { IsNormal path.now }
+    requires base { IsNormal base.now }
+    ensures { IfOk result (λ text. text.items ≡ closed (joined (relative (components base.now) (components path.now))) (keeps_slash path.now)) }
+{
+    let start = trail_of(base);
+    let end = trail_of(path);
+    let text = show(alloc, start, end, keeps_slash(path))?;
+    Ok(text)
+}
+
+// Over those of the system's paths.
+fn shown_in_system(
+    alloc: Global,
+    path: &[u8],
+    base: &[u8],
+    root: &[u8],
+) -> Result<Vec<u8>, AllocError>
+    requires path { IsNormal path.now }
+    requires base { IsNormal base.now }
+    ensures { IfOk result (λ text. text.items ≡ closed (joined (relative (system_components root.now base.now) (system_components root.now path.now))) (keeps_slash path.now)) }
+{
+    let base = system_trail(alloc, base, root)?;
     let shown = system_trail(alloc, path, root)?;
     let text = show(alloc, base.as_slice(), shown.as_slice(), keeps_slash(path))?;
-    Ok(Text::from_vec(text))
+    Ok(text)
 }
 
 fn are_source(path: &[u8], new_base: &[u8]) -> bool
@@ -51,7 +113,7 @@ fn keeps_slash(path: &[u8]) -> bool
 }
 
 // The components of an absolute path, each behind a slash.
-fn trail_of(path: &[u8]) -> &[u8]
+pub(crate) fn trail_of(path: &[u8]) -> &[u8]
     requires { IsNormal path.now }
     ensures { result.now ≡ trail (components path.now) }
 {
@@ -145,7 +207,7 @@ fn without_common<'a>(base: &'a [u8], path: &'a [u8]) -> (&'a [u8], &'a [u8])
 }
 
 // The first component, and the further ones.
-fn split_first(trail: &[u8]) -> (&[u8], &[u8])
+pub(crate) fn split_first(trail: &[u8]) -> (&[u8], &[u8])
     requires trail { IsTrail trail.now }
     requires filled { 0 < length trail.now }
     ensures value { parts trail.now ≡ result.0.now ∷ parts result.1.now }
@@ -181,11 +243,24 @@ fn append_down(text: &mut Vec<u8>, path: &[u8]) -> Result<(), AllocError>
     requires { IsTrail path.now }
     ensures { OnOk result (text.new.items ≡ text.old.items ++ joined (parts path.now)) }
 {
-    if path.is_empty() {
-        text.extend_from_slice(b".")
-    } else {
-        text.extend_from_slice(&path[1..])
+    append_dotted(text, without_first(path))?;
+    Ok(())
+}
+
+#[tactic(auto, using(crate::proofs::NormalLemmas::bytes_eq_nil))]
+fn append_dotted(text: &mut Vec<u8>, down: &[u8]) -> Result<(), AllocError>
+    ensures { OnOk result (text.new.items ≡ text.old.items ++ dotted down.now) }
+{
+    if down.is_empty() || is_absolute(down) {
+        text.push(b'.')?;
     }
+    text.extend_from_slice(down)
+}
+
+fn without_first(path: &[u8]) -> &[u8]
+    ensures { result.now ≡ drop 1 path.now }
+{
+    if path.is_empty() { path } else { &path[1..] }
 }
 
 fn append_ups(text: &mut Vec<u8>, ups: usize) -> Result<(), AllocError>

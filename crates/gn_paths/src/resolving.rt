@@ -6,11 +6,13 @@ ghost use Rattle.gn_paths.specs.Components.{is_slash, pieces, without_final_slas
 ghost use Rattle.gn_paths.specs.declared.error.PathError.TheVariants.{BadPath};
 ghost use Rattle.gn_paths.specs.Normal.{IsNormal};
 ghost use Rattle.gn_paths.specs.Reading.{is_clean, IsFault};
-ghost use Rattle.gn_paths.specs.Resolve.{start_of, resolved, stays_there};
+ghost use Rattle.gn_paths.specs.Resolve.{start_of, path_meant, resolved};
 ghost use Rattle.gn_paths.specs.Buffer.{buffer_stepped, buffer_walked, buffer_closed, buffer_led};
 
-use crate::components::{ends_in_slash, is_source, is_system, top_len, without_final_slash};
-use crate::error::PathError;
+use crate::components::{
+    ends_in_slash, is_source, is_system, stays_there, top_len, without_final_slash,
+};
+use crate::error::{PathError, PathFault};
 use crate::parts::len_after;
 use crate::path::Path;
 use crate::reading::{clean_piece_len, is_clean};
@@ -36,6 +38,24 @@ pub fn resolve(alloc: Global, current: &Path, text: &[u8]) -> Result<Path, PathE
     }
     let path = lead(alloc, start_of(current, text), text)?;
     Ok(Path::from_normal(Text::from_vec(path)))
+}
+
+/// The path that a text means at a current directory, or what keeps it from naming one, as `resolve` says; the outer
+/// error is want of memory alone.
+#[tactic(auto, using(crate::proofs::ResolveLemmas::meant_ok, crate::proofs::ResolveLemmas::meant_above, crate::proofs::ResolveLemmas::meant_bad))]
+pub fn path_meant(
+    alloc: Global,
+    current: &Path,
+    text: &[u8],
+) -> Result<Result<Path, PathFault>, AllocError>
+    ensures { IfOk result (λ meant. meant ≡ path_meant current.now text.now) }
+{
+    match resolve(alloc, current, text) {
+        Ok(path) => Ok(Ok(path)),
+        Err(PathError::AboveRoot) => Ok(Err(PathFault::AboveRoot)),
+        Err(PathError::BadPath) => Ok(Err(PathFault::BadPath)),
+        Err(PathError::Memory) => Err(AllocError),
+    }
 }
 
 fn start_of<'a>(current: &'a Path, text: &[u8]) -> &'a [u8]
@@ -111,14 +131,6 @@ fn walk(buffer: &mut Vec<u8>, top: usize, text: &[u8]) -> Result<(), PathError>
     Err(PathError::BadPath)
 }
 
-// Whether a piece leads nowhere.
-#[tactic(auto, using(crate::proofs::NormalLemmas::bytes_eq_nil))]
-fn stays_there(piece: &[u8]) -> bool
-    ensures { result ≡ stays_there piece.now }
-{
-    piece.is_empty() || piece == b".".as_slice()
-}
-
 // Takes one piece of a text.
 #[tactic(auto, unfolding(crate::specs::Buffer::buffer_stepped))]
 fn step(buffer: &mut Vec<u8>, top: usize, piece: &[u8]) -> Result<(), PathError>
@@ -147,7 +159,7 @@ fn climb(buffer: &mut Vec<u8>)
 }
 
 // Puts a component at the end.
-fn append_piece(buffer: &mut Vec<u8>, piece: &[u8]) -> Result<(), AllocError>
+pub(crate) fn append_piece(buffer: &mut Vec<u8>, piece: &[u8]) -> Result<(), AllocError>
     ensures { OnOk result (buffer.new.items ≡ buffer.old.items ++ 47 ∷ piece.now) }
 {
     buffer.push(b'/')?;

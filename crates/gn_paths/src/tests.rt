@@ -93,7 +93,7 @@ fn paths_are_keys(rt: HostRuntime) -> Result<(), Fail> {
     put(&mut map, root, 7)?;
     assert_eq!(rt; look_up(&map, &again), Some(7));
     let place = Place {
-        file: again.into_text(),
+        file: again.as_text().copy(alloc)?,
         line: 1,
         column: 2,
     };

@@ -1,7 +1,6 @@
 // A list of texts.
 
-ghost use Rattle.std.specs.Prelude.{◌≡◌, ◌++◌, [], ◌∷◌, length, IfOk, OnOk, OnErr, IsTrue, ◌↔◌, slice_get};
-ghost use Rattle.std.specs.Option.{option_copied};
+ghost use Rattle.std.specs.Prelude.{◌≡◌, ◌++◌, [], ◌∷◌, length, IfOk, OnOk, OnErr, IsTrue, ◌↔◌};
 
 use crate::text::Text;
 use std::alloc::{AllocError, Global};
@@ -67,13 +66,6 @@ impl Texts {
         ensures { IsTrue result ↔ (self.now ≡ []) }
     {
         self.list.is_empty()
-    }
-
-    /// The text number `index`, counted from 0. None comes exactly where there is no such text.
-    pub fn get(&self, index: usize) -> Option<&Text>
-        ensures { option_copied result ≡ slice_get self.now index }
-    {
-        self.list.get(index)
     }
 
     /// Puts a text at the end. After want of memory the list is as before.

@@ -10,7 +10,7 @@ use gn_values::{ElementError, ValueError};
 use std::alloc::AllocError;
 
 /// Why an assignment to a name isn't made.
-#[derive(Clone, Copy, Debug, PartialEq, Eq)]
+#[derive(Clone, Copy, Debug)]
 pub enum AssignError {
     /// `=` would replace a nonempty list by a nonempty list, or a nonempty scope by a nonempty scope.
     Overwrite,
@@ -47,7 +47,7 @@ impl AssignError {
 }
 
 /// Why an assignment to an element of a name's value isn't made.
-#[derive(Clone, Copy, Debug, PartialEq, Eq)]
+#[derive(Clone, Copy, Debug)]
 pub enum ElementAssignError {
     /// The name has no value.
     Undefined,

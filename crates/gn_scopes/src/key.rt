@@ -12,7 +12,7 @@ use std::marker::Model;
 
 /// The number of a name. Contracts see it as the list of the number alone, so that the words on layers serve names and
 /// their numbers alike.
-#[derive(Debug, Drop)]
+#[derive(Drop)]
 pub(crate) struct Key {
     number: Name,
 }

@@ -23,7 +23,7 @@ use std::marker::Model;
 
 /// The names that one scope has: its variables by the numbers of their names, its templates by the names of their
 /// definitions, and the defaults of each kind of call. Where it is checked, its end reports a name that nothing reads.
-#[derive(Debug, Drop)]
+#[derive(Drop)]
 pub struct Layer {
     pub(crate) variables: BTreeMap<Key, Variable>,
     pub(crate) templates: BTreeMap<Text, DefinitionName>,

@@ -29,7 +29,7 @@ use std::marker::Model;
 use std::mem;
 
 /// Where a name is found: in the innermost layer, in the outer one of this number, or in none.
-#[derive(Clone, Copy, Debug)]
+#[derive(Clone, Copy)]
 pub(crate) enum Found {
     Inner,
     Outer(usize),
@@ -38,7 +38,7 @@ pub(crate) enum Found {
 
 /// The layers of the scopes that are open, the innermost first. Their variables stand by the numbers that a table of names
 /// gives to names.
-#[derive(Debug, Drop)]
+#[derive(Drop)]
 pub struct Scopes {
     pub(crate) alloc: Global,
     pub(crate) inner: Layer,

@@ -13,7 +13,7 @@ use gn_values::Value;
 use std::alloc::Global;
 
 /// What a name stands for in a layer.
-#[derive(Debug, Drop)]
+#[derive(Drop)]
 pub struct Variable {
     /// The value of the name.
     pub value: Value,

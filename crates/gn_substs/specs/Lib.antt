@@ -3,3 +3,5 @@ pub mod Positions
 pub mod Pieces
 pub mod Reading
 pub mod Expansions
+pub mod Laws
+pub mod Variables

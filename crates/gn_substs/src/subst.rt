@@ -1,32 +1,24 @@
 // Substitution texts.
 
-ghost use Rattle.std.specs.Prelude.{◌≡◌, ◌++◌, [], ◌∷◌, ◌+◌, ◌<◌, ◌≤◌, length, drop, IfOk, IfSome, OnOk, IfErr};
+ghost use Rattle.std.specs.Prelude.{◌≡◌, ◌++◌, [], ◌∷◌, ◌+◌, ◌<◌, ◌≤◌, length, drop, Ok, IfOk, IfSome, OnOk, IfErr};
 ghost use Rattle.gn_substs.specs.Pieces.{pair_at, name_from, piece_of};
-ghost use Rattle.gn_substs.specs.Reading.{IsReadAs, IsErrorOf};
-ghost use Rattle.gn_substs.specs.Expansions.{expanded, given_for, piece_with};
+ghost use Rattle.gn_substs.specs.Reading.{IsErrorOf, subst_read};
+ghost use Rattle.gn_substs.specs.Expansions.{expanded, text_in, piece_with};
 
 use crate::error::SubstError;
 use crate::given::Given;
 use crate::names::Substitution;
 use crate::pairs::pair_at;
+use crate::pieces::{Piece, Pieces};
 use crate::positions::{Position, substitution_at};
 use gn_paths::Text;
 use std::alloc::{AllocError, Global};
-
-/// Bytes, and the substitution that stands behind them.
-#[derive(Debug, Drop)]
-pub struct Piece {
-    /// The bytes before the substitution, in which there is no `{{`.
-    pub before: Text,
-    /// The substitution.
-    pub substitution: Substitution,
-}
 
 /// A text with substitutions: pieces, and the bytes behind the last of them.
 #[derive(Debug, Drop)]
 pub struct Subst {
     /// The substitutions in order, each with the bytes before it.
-    pub pieces: Vec<Piece>,
+    pub pieces: Pieces,
     /// The bytes behind the last substitution, in which there is no `{{`.
     pub last: Text,
 }
@@ -92,7 +84,7 @@ fn push_piece(
 
 // Puts the bytes of a piece, and what is given for its substitution, at the end.
 fn append_piece(text: &mut Text, piece: &Piece, given: &Given) -> Result<(), AllocError>
-    ensures { OnOk result (text.new ≡ text.old ++ piece_with (given_for given.now.texts.items) piece.now) }
+    ensures { OnOk result (text.new ≡ text.old ++ piece_with (text_in given.now) piece.now) }
 {
     text.append(piece.before.as_bytes())?;
     text.append(given.text(piece.substitution))
@@ -101,9 +93,10 @@ fn append_piece(text: &mut Text, piece: &Piece, given: &Given) -> Result<(), All
 impl Subst {
     /// Reads a text of a position: `{{`, a name of the position and `}}` is a substitution, and every other byte stands
     /// for itself.
+    #[tactic(auto, using(crate::proofs::ReadLemmas::read_of_pieces, crate::proofs::ReadLemmas::read_of_bad))]
     pub fn read(alloc: Global, text: &[u8], position: Position) -> Result<Subst, SubstError>
-        ensures pieces { IfOk result (λ s. IsReadAs position text.now s.pieces.items s.last) }
-        ensures error { IfErr result (λ e. IsErrorOf position text.now e) }
+        ensures pieces { IfOk result (λ s. subst_read position text.now ≡ Ok s) }
+        ensures error { IfErr result (λ e. IsErrorOf e (subst_read position text.now)) }
     {
         let mut pieces = Vec::new(alloc);
         let mut rest = text;
@@ -119,15 +112,27 @@ impl Subst {
             rest = from(rest, found.end);
         }
         let last = Text::from_bytes(alloc, rest)?;
+        Ok(Subst {
+            pieces: Pieces::from_vec(pieces),
+            last,
+        })
+    }
+
+    /// A new text equal to this one.
+    pub fn copy(&self, alloc: Global) -> Result<Subst, AllocError>
+        ensures { IfOk result (λ s. s ≡ self.now) }
+    {
+        let pieces = self.pieces.copy(alloc)?;
+        let last = self.last.copy(alloc)?;
         Ok(Subst { pieces, last })
     }
 
     /// The text with what is given in place of each substitution.
     pub fn expand(&self, alloc: Global, given: &Given) -> Result<Text, AllocError>
-        ensures { IfOk result (λ t. t ≡ expanded given.now.texts.items self.now) }
+        ensures { IfOk result (λ t. t ≡ expanded given.now self.now) }
     {
         let mut text = Text::new(alloc);
-        for piece in &self.pieces {
+        for piece in self.pieces.as_slice() {
             append_piece(&mut text, piece, given)?;
         }
         text.append(self.last.as_bytes())?;

@@ -198,7 +198,7 @@ two_sides o p l r a d stack s m1 m2 rest w h left rights =
     )
 
 mutual
-  read_expr : (e : ExprTree) (least a d : ℕ) (stack : List Symbol) (s rest : List Lexeme) → Spells least e s rest → is_behind_operand (front rest) ≡ true →
+  pub read_expr : (e : ExprTree) (least a d : ℕ) (stack : List Symbol) (s rest : List Lexeme) → Spells least e s rest → is_behind_operand (front rest) ≡ true →
       (a ≡ d) ⊎ (6 ≤ least) → ExprDepths e a d stack s rest
   read_expr (name_expr p n) least a d stack s rest h e c =
       (a, omega arith, read_next k.Identifier (Operand a d ∷ stack) (Suffix d ∷ Operators a ∷ stack) s rest refl (p, (n, h)) ∙ run_suffix d (Operators a ∷ stack) rest e)
@@ -393,3 +393,8 @@ fits_run stack (t ∷ ts) = go (λ x. fits_run x ts) (next stack t.kind)
 -- The machine takes the tokens of a file.
 pub fits_spelled : (tree : BlockTree) (tokens : List Lexeme) → SpellsStatements tree tokens [] → fits whole_file tokens ≡ true
 fits_spelled tree tokens h = fits_run whole_file tokens ∙ ap (λ (r : Bool × List ℕ). r.0) (read_statements tree 0 [] tokens [] h refl)
+
+-- The machine takes the tokens of an expression.
+pub fits_spelled_expr : (tree : ExprTree) (tokens : List Lexeme) → Spells 1 tree tokens [] → fits (Operand 0 0 ∷ []) tokens ≡ true
+fits_spelled_expr tree tokens h =
+    let x = read_expr tree 1 0 0 [] tokens [] h refl (inl refl) in fits_run (Operand 0 0 ∷ []) tokens ∙ ap (λ (r : Bool × List ℕ). r.0) x.2

@@ -11,7 +11,7 @@ use Rattle.gn_tokens.specs.Number.{integer_value}
 use Rattle.gn_syntax.specs.Lexemes.{Lexeme, lexemes}
 use Rattle.gn_syntax.specs.Pieces.{pieces_of}
 use Rattle.gn_syntax.specs.Grammar.{priority, mark_of, assign_mark, boolean_word, IsKind, Brackets, LastComma, Spells, SpellsList, SpellsMore, SpellsCall, SpellsBody, SpellsTarget, SpellsStatement, SpellsCondition, SpellsOtherwise, SpellsStatements}
-use Rattle.gn_syntax.specs.Errors.{IsTree}
+use Rattle.gn_syntax.specs.Errors.{IsTree, IsExpr}
 use Rattle.gn_syntax.proofs.Fits.{absurd_false, no_six, front, is_behind_operand, is_behind_statement, is_behind_statements, begins_expr, behind_statement_operand, behind_statements_statement, mark_behind}
 use Rattle.gn_syntax.proofs.Spelled.{begins, front_is, statements_behind}
 use Rattle.gn_syntax.proofs.Grouping.{Link, link, first_of, later_of, built, built_same, SpellsLinks, spells_links}
@@ -486,3 +486,7 @@ mutual
 -- Bytes spell one tree.
 pub one_tree : (bytes : List ℕ) (a b : BlockTree) → IsTree bytes a → IsTree bytes b → a ≡ b
 one_tree bytes a b h i = (block_same a b (lexemes bytes) (lexemes bytes) [] [] refl h.spells i.spells refl refl).0
+
+-- Bytes spell one expression.
+pub one_expr : (bytes : List ℕ) (a b : ExprTree) → IsExpr bytes a → IsExpr bytes b → a ≡ b
+one_expr bytes a b h i = (expr_from_links a (both_same a).1 b (lexemes bytes) (lexemes bytes) [] [] refl h.spells i.spells refl refl).0

@@ -1,16 +1,17 @@
 -- The verdict of the machine is what the grammar says.
 use Rattle.std.proofs.Common.{◌≡◌, ℕ, ◌≤◌, Bool, true, false, List, [], ◌∷◌, ◌++◌, length, Option, Some, None, refl, sym, ◌∙◌, ap, subst, arith, true≢false, append_assoc, append-nil, nat_lt, if◌then◌else◌}
 use Rattle.std.proofs.lemmas.Bool.{ltb-true, ltb-false}
-use Rattle.gn_tree.specs.Tree.{BlockTree}
+use Rattle.gn_tree.specs.Tree.{ExprTree, BlockTree}
 use Rattle.gn_syntax.specs.declared.error.SyntaxError.{SyntaxError}
 use Rattle.gn_syntax.specs.declared.error.SyntaxError.TheVariants.{Unexpected, TooDeep}
 use Rattle.gn_syntax.specs.Lexemes.{Lexeme, Last, End, Wrong, lexemes, last_of}
-use Rattle.gn_syntax.specs.Grammar.{SpellsStatements}
-use Rattle.gn_syntax.specs.Machine.{Symbol, next, is_done, whole_file, Good, Bad, verdict, verdict_at, judged, max_nesting}
-use Rattle.gn_syntax.specs.Errors.{IsFile, BeginsFile, next_offset, deep_after, nesting_from, nesting, NoneTooDeep, IsError, IsTree}
-use Rattle.gn_syntax.specs.Laws.{IsAsJudged}
+use Rattle.gn_syntax.specs.Grammar.{Spells, SpellsStatements}
+use Rattle.gn_syntax.specs.Machine.{Symbol, next, is_done, Good, Bad, verdict, verdict_at, judged, max_nesting}
+use Rattle.gn_syntax.specs.Start.{Start, File, Expression, IsWhole, BeginsWhole, wanted_of}
+use Rattle.gn_syntax.specs.Errors.{next_offset, deep_after, nesting_from, nesting, NoneTooDeep}
+use Rattle.gn_syntax.specs.Laws.{IsAsJudged, IsJudgedRightly}
 use Rattle.gn_syntax.proofs.Fits.{fits, fits_after}
-use Rattle.gn_syntax.proofs.Spelled.{fits_spelled}
+use Rattle.gn_syntax.proofs.Spelled.{fits_spelled, fits_spelled_expr}
 use Rattle.gn_syntax.proofs.Taken.{taken}
 use Rattle.gn_syntax.proofs.Finish.{finish, fits_finish, is_linked, LinkedAfter, linked_next}
 
@@ -52,21 +53,32 @@ ends : (ts : List Lexeme) → fits [] ts ≡ true → ts ≡ []
 ends [] h = refl
 ends (t ∷ ts) h = absurd (true≢false (sym h))
 
--- What the machine takes is a file, and the other way round.
-pub file_from_fits : (ts : List Lexeme) → fits whole_file ts ≡ true → IsFile ts
-file_from_fits ts h =
+-- What the machine takes is whole, and the other way round.
+pub whole_from_fits : (start : Start) (ts : List Lexeme) → fits (wanted_of start) ts ≡ true → IsWhole start ts
+whole_from_fits File ts h =
     let x = (taken (length ts)).statements 0 [] ts (omega arith) h in
     (x.0, subst (λ r. SpellsStatements x.0 ts r) (ends x.1 x.3) x.2)
+whole_from_fits Expression ts h =
+    let x = (taken (length ts)).expr 0 [] ts (omega arith) h in
+    (x.0, subst (λ r. Spells 1 x.0 ts r) (ends x.1 x.3) x.2)
 
-pub fits_from_file : (ts : List Lexeme) → IsFile ts → fits whole_file ts ≡ true
-fits_from_file ts f = fits_spelled f.0 ts f.1
+pub fits_from_whole : (start : Start) (ts : List Lexeme) → IsWhole start ts → fits (wanted_of start) ts ≡ true
+fits_from_whole File ts f = fits_spelled f.0 ts f.1
+fits_from_whole Expression ts f = fits_spelled_expr f.0 ts f.1
 
-pub begins_from_reads : (u : List Lexeme) (wanted : List Symbol) → reads whole_file u ≡ Some wanted → BeginsFile u
-begins_from_reads u wanted h =
-    (finish wanted, file_from_fits (u ++ finish wanted) (fits_reads whole_file wanted u (finish wanted) h ∙ fits_finish wanted (linked_reads whole_file wanted u refl h)))
+linked_start : (start : Start) → is_linked false (wanted_of start) ≡ true
+linked_start File = refl
+linked_start Expression = refl
 
-pub reads_from_begins : (u : List Lexeme) → BeginsFile u → (wanted : List Symbol) × (reads whole_file u ≡ Some wanted)
-reads_from_begins u b = reads_fits whole_file u b.0 (fits_from_file (u ++ b.0) b.1)
+pub begins_from_reads : (start : Start) (u : List Lexeme) (wanted : List Symbol) → reads (wanted_of start) u ≡ Some wanted → BeginsWhole start u
+begins_from_reads start u wanted h = (
+  finish wanted,
+  whole_from_fits start (u ++ finish wanted)
+      (fits_reads (wanted_of start) wanted u (finish wanted) h ∙ fits_finish wanted (linked_reads (wanted_of start) wanted u (linked_start start) h)),
+)
+
+pub reads_from_begins : (start : Start) (u : List Lexeme) → BeginsWhole start u → (wanted : List Symbol) × (reads (wanted_of start) u ≡ Some wanted)
+reads_from_begins start u b = reads_fits (wanted_of start) u b.0 (fits_from_whole start (u ++ b.0) b.1)
 
 -- The tokens one further on.
 pub reads_push : (stack wanted : List Symbol) (u : List Lexeme) (t : Lexeme) → reads stack u ≡ Some wanted →
@@ -92,25 +104,23 @@ pub nesting_push : (stack wanted : List Symbol) (u : List Lexeme) (t : Lexeme) �
 nesting_push stack wanted [] t h = let e : stack ≡ wanted = cc in ap (λ x. nesting_from x (t ∷ [])) e
 nesting_push stack wanted (s ∷ u) t h = nesting_step wanted u t (λ x. nesting_push x wanted u t) (next stack s.kind) h
 
-NoneTooDeep-push : (before later : List Lexeme) (t : Lexeme) → NoneTooDeep before later → nesting ((before ++ later) ++ t ∷ []) ≤ max_nesting →
-    NoneTooDeep before (later ++ t ∷ [])
-NoneTooDeep-push before [] t h le = (subst (λ x. nesting (x ++ t ∷ []) ≤ max_nesting) (append-nil before) le, tt)
-NoneTooDeep-push before (s ∷ later) t h le =
-    (h.0, NoneTooDeep-push (before ++ s ∷ []) later t h.1 (subst (λ x. nesting (x ++ t ∷ []) ≤ max_nesting) (sym (append_assoc before (s ∷ []) later)) le))
+NoneTooDeep-push : (start : Start) (before later : List Lexeme) (t : Lexeme) → NoneTooDeep start before later → nesting start ((before ++ later) ++ t ∷ []) ≤ max_nesting →
+    NoneTooDeep start before (later ++ t ∷ [])
+NoneTooDeep-push start before [] t h le = (subst (λ x. nesting start (x ++ t ∷ []) ≤ max_nesting) (append-nil before) le, tt)
+NoneTooDeep-push start before (s ∷ later) t h le =
+    (h.0, NoneTooDeep-push start (before ++ s ∷ []) later t h.1 (subst (λ x. nesting start (x ++ t ∷ []) ≤ max_nesting) (sym (append_assoc before (s ∷ []) later)) le))
 
 -- the verdict behind the last token
-judge_end : (bytes : List ℕ) (stack : List Symbol) (last : Last) → last_of bytes ≡ last → reads whole_file (lexemes bytes) ≡ Some stack →
-    NoneTooDeep [] (lexemes bytes) → IsAsJudged bytes (verdict_at last stack)
-judge_end bytes stack (Wrong e) l h deep = (λ m. cc, record { last = l; first = begins_from_reads (lexemes bytes) stack h; shallow = deep })
-judge_end bytes stack (End offset) l h deep = at_end (is_done stack) refl
+judge_end : (start : Start) (bytes : List ℕ) (stack : List Symbol) (last : Last) → last_of bytes ≡ last → reads (wanted_of start) (lexemes bytes) ≡ Some stack →
+    NoneTooDeep start [] (lexemes bytes) → IsAsJudged start bytes (verdict_at last stack)
+judge_end start bytes stack (Wrong e) l h deep = (λ m. cc, record { last = l; first = begins_from_reads start (lexemes bytes) stack h; shallow = deep })
+judge_end start bytes stack (End offset) l h deep = at_end (is_done stack) refl
   where
-    done : fits whole_file (lexemes bytes) ≡ is_done stack
-    done = ap (fits whole_file) (sym (append-nil (lexemes bytes))) ∙ fits_reads whole_file stack (lexemes bytes) [] h
+    done : fits (wanted_of start) (lexemes bytes) ≡ is_done stack
+    done = ap (fits (wanted_of start)) (sym (append-nil (lexemes bytes))) ∙ fits_reads (wanted_of start) stack (lexemes bytes) [] h
 
-    at_end : (b : Bool) → is_done stack ≡ b → IsAsJudged bytes (if b then Good else Bad (Unexpected offset))
-    at_end true e =
-        let f = file_from_fits (lexemes bytes) (done ∙ e) in
-        (f.0, record { offset = offset; ends = l; spells = f.1; shallow = deep })
+    at_end : (b : Bool) → is_done stack ≡ b → IsAsJudged start bytes (if b then Good else Bad (Unexpected offset))
+    at_end true e = record { offset = offset; ends = l; whole = whole_from_fits start (lexemes bytes) (done ∙ e); shallow = deep }
     at_end false e = (
       λ m. cc,
       record {
@@ -118,23 +128,23 @@ judge_end bytes stack (End offset) l h deep = at_end (is_done stack) refl
         later = [];
         split = sym (append-nil (lexemes bytes));
         here = ap (λ x. next_offset x []) l;
-        first = begins_from_reads (lexemes bytes) stack h;
-        refused = λ f. true≢false (sym (fits_from_file (lexemes bytes) f) ∙ done ∙ e);
+        first = begins_from_reads start (lexemes bytes) stack h;
+        refused = λ f. true≢false (sym (fits_from_whole start (lexemes bytes) f) ∙ done ∙ e);
         shallow = deep;
       },
     )
 
 -- the verdict behind tokens that were read
-judge : (bytes : List ℕ) (ts before : List Lexeme) (stack : List Symbol) → lexemes bytes ≡ before ++ ts → reads whole_file before ≡ Some stack →
-    NoneTooDeep [] before → IsAsJudged bytes (verdict (last_of bytes) stack ts)
-judge bytes [] before stack s h deep =
+judge : (start : Start) (bytes : List ℕ) (ts before : List Lexeme) (stack : List Symbol) → lexemes bytes ≡ before ++ ts → reads (wanted_of start) before ≡ Some stack →
+    NoneTooDeep start [] before → IsAsJudged start bytes (verdict (last_of bytes) stack ts)
+judge start bytes [] before stack s h deep =
     let same : lexemes bytes ≡ before = s ∙ append-nil before in
-    judge_end bytes stack (last_of bytes) refl (ap (reads whole_file) same ∙ h) (subst (NoneTooDeep []) (sym same) deep)
-judge bytes (t ∷ ts) before stack s h deep = go (judge bytes ts (before ++ t ∷ [])) (next stack t.kind) refl
+    judge_end start bytes stack (last_of bytes) refl (ap (reads (wanted_of start)) same ∙ h) (subst (NoneTooDeep start []) (sym same) deep)
+judge start bytes (t ∷ ts) before stack s h deep = go (judge start bytes ts (before ++ t ∷ [])) (next stack t.kind) refl
   where
-    go : ((stack : List Symbol) → lexemes bytes ≡ (before ++ t ∷ []) ++ ts → reads whole_file (before ++ t ∷ []) ≡ Some stack →
-        NoneTooDeep [] (before ++ t ∷ []) → IsAsJudged bytes (verdict (last_of bytes) stack ts)) →
-        (x : Option (ℕ × List Symbol)) → next stack t.kind ≡ x → IsAsJudged bytes (judged x t.start (λ w. verdict (last_of bytes) w ts))
+    go : ((stack : List Symbol) → lexemes bytes ≡ (before ++ t ∷ []) ++ ts → reads (wanted_of start) (before ++ t ∷ []) ≡ Some stack →
+        NoneTooDeep start [] (before ++ t ∷ []) → IsAsJudged start bytes (verdict (last_of bytes) stack ts)) →
+        (x : Option (ℕ × List Symbol)) → next stack t.kind ≡ x → IsAsJudged start bytes (judged x t.start (λ w. verdict (last_of bytes) w ts))
     go again None e = (
       λ m. cc,
       record {
@@ -142,21 +152,21 @@ judge bytes (t ∷ ts) before stack s h deep = go (judge bytes ts (before ++ t �
         later = t ∷ ts;
         split = s;
         here = refl;
-        first = begins_from_reads before stack h;
-        refused = λ b. let r = reads_from_begins (before ++ t ∷ []) b in
-            let none : reads whole_file (before ++ t ∷ []) ≡ None = reads_push whole_file stack before t h ∙ ap (λ x. reads_after x Some) e in cc;
+        first = begins_from_reads start before stack h;
+        refused = λ b. let r = reads_from_begins start (before ++ t ∷ []) b in
+            let none : reads (wanted_of start) (before ++ t ∷ []) ≡ None = reads_push (wanted_of start) stack before t h ∙ ap (λ x. reads_after x Some) e in cc;
         shallow = deep;
       },
     )
     go again (Some x) e = by_depth (nat_lt max_nesting x.0) refl
       where
-        one_more : reads whole_file (before ++ t ∷ []) ≡ Some x.1
-        one_more = reads_push whole_file stack before t h ∙ ap (λ x. reads_after x Some) e
+        one_more : reads (wanted_of start) (before ++ t ∷ []) ≡ Some x.1
+        one_more = reads_push (wanted_of start) stack before t h ∙ ap (λ x. reads_after x Some) e
 
-        is_deep : nesting (before ++ t ∷ []) ≡ x.0
-        is_deep = nesting_push whole_file stack before t h ∙ ap (λ y. deep_after y (λ w. 0) []) e
+        is_deep : nesting start (before ++ t ∷ []) ≡ x.0
+        is_deep = nesting_push (wanted_of start) stack before t h ∙ ap (λ y. deep_after y (λ w. 0) []) e
 
-        by_depth : (b : Bool) → nat_lt max_nesting x.0 ≡ b → IsAsJudged bytes (if b then Bad (TooDeep t.start) else verdict (last_of bytes) x.1 ts)
+        by_depth : (b : Bool) → nat_lt max_nesting x.0 ≡ b → IsAsJudged start bytes (if b then Bad (TooDeep t.start) else verdict (last_of bytes) x.1 ts)
         by_depth true d = (
           λ m. cc,
           record {
@@ -165,25 +175,15 @@ judge bytes (t ∷ ts) before stack s h deep = go (judge bytes ts (before ++ t �
             later = ts;
             split = s;
             here = refl;
-            first = begins_from_reads (before ++ t ∷ []) x.1 one_more;
+            first = begins_from_reads start (before ++ t ∷ []) x.1 one_more;
             deep = rw is_deep (ltb-true max_nesting x.0 d);
             shallow = deep;
           },
         )
         by_depth false d =
-            let fine : nesting (before ++ t ∷ []) ≤ max_nesting = rw is_deep (ltb-false max_nesting x.0 d) in
-            again x.1 (s ∙ sym (append_assoc before (t ∷ []) ts)) one_more (NoneTooDeep-push [] before t deep fine)
+            let fine : nesting start (before ++ t ∷ []) ≤ max_nesting = rw is_deep (ltb-false max_nesting x.0 d) in
+            again x.1 (s ∙ sym (append_assoc before (t ∷ []) ts)) one_more (NoneTooDeep-push start [] before t deep fine)
 
--- What the machine says of a file is so in the words of the grammar.
-pub judged_file : (bytes : List ℕ) → IsAsJudged bytes (verdict (last_of bytes) whole_file (lexemes bytes))
-judged_file bytes = judge bytes (lexemes bytes) [] whole_file refl refl tt
-
-pub error_from_verdict : (bytes : List ℕ) (e : SyntaxError) → verdict (last_of bytes) whole_file (lexemes bytes) ≡ Bad e → IsError e bytes
-error_from_verdict bytes e h = (subst (IsAsJudged bytes) h (judged_file bytes)).1
-
--- A tree that the tokens spell is that of the bytes, where the machine finds no error.
-pub tree_from_verdict : (bytes : List ℕ) (tree : BlockTree) → verdict (last_of bytes) whole_file (lexemes bytes) ≡ Good →
-    SpellsStatements tree (lexemes bytes) [] → IsTree bytes tree
-tree_from_verdict bytes tree h sp =
-    let c = (subst (IsAsJudged bytes) h (judged_file bytes)).1 in
-    record { offset = c.offset; ends = c.ends; spells = sp; shallow = c.shallow }
+-- What the machine says of bytes is so in the words of the grammar.
+pub judged_rightly : (start : Start) (bytes : List ℕ) → IsJudgedRightly start bytes
+judged_rightly start bytes = judge start bytes (lexemes bytes) [] (wanted_of start) refl refl tt

@@ -1,18 +1,18 @@
--- The end of a whole file.
-use Rattle.std.proofs.Common.{◌≡◌, ◌≢◌, ℕ, Bool, true, false, List, [], ◌∷◌, Option, Some, None, refl, sym, ◌∙◌, ap, subst}
+-- The end of a whole file, and of a whole expression.
+use Rattle.std.proofs.Common.{◌≡◌, ◌≢◌, ℕ, ◌<◌, Bool, true, false, List, [], ◌∷◌, Option, Some, None, refl, sym, ◌∙◌, ap, subst}
 use Rattle.gn_tokens.specs.declared.token.TokenKind.TheVariants as k
 use Rattle.gn_syntax.specs.declared.error.SyntaxError.{SyntaxError}
 use Rattle.gn_syntax.specs.Lexemes.{Lexeme, Last, End, Wrong}
-use Rattle.gn_syntax.specs.Machine.{Statements, Verdict, Good, Bad, verdict}
-use Rattle.gn_syntax.specs.Parsing.{front, refusal, is_end, Fails}
-use Rattle.gn_tree.specs.Tree.{BlockTree}
+use Rattle.gn_syntax.specs.Machine.{Statements, Operators, Verdict, Good, Bad, verdict}
+use Rattle.gn_syntax.specs.Parsing.{front, level, refusal, is_end, Fails}
+use Rattle.gn_tree.specs.Tree.{ExprTree, BlockTree}
 use Rattle.gn_syntax.specs.declared.error.SyntaxError.TheVariants.{Token as TokenFault, Unexpected, TooDeep, Memory}
 use Rattle.gn_syntax.specs.Lexemes.{lexemes, last_of}
-use Rattle.gn_syntax.specs.Grammar.{SpellsStatements}
-use Rattle.gn_syntax.specs.Machine.{whole_file}
-use Rattle.gn_syntax.specs.Errors.{IsTree, IsError}
-use Rattle.gn_syntax.specs.Laws.{IsAsJudged, IsJudgedRightly}
-use Rattle.gn_syntax.proofs.Steps.{statements_pass}
+use Rattle.gn_syntax.specs.Grammar.{Spells, SpellsStatements}
+use Rattle.gn_syntax.specs.Start.{Start, File, Expression, wanted_of}
+use Rattle.gn_syntax.specs.Errors.{IsTree, IsExpr, IsErrorOf}
+use Rattle.gn_syntax.specs.Laws.{IsRight, IsAsJudged, IsJudgedRightly}
+use Rattle.gn_syntax.proofs.Steps.{statements_pass, operators_pass}
 
 pub whole_refused : (last : Last) (s : List Lexeme) → front s ≢ Some k.Identifier → front s ≢ Some k.If → is_end last s ≡ false → verdict last (Statements 0 ∷ []) s ≡ Bad (refusal last s)
 whole_refused (End offset) [] a b h = absurd cc
@@ -24,6 +24,16 @@ whole_ends (End offset) [] h = refl
 whole_ends (Wrong error) [] h = absurd cc
 whole_ends last (t ∷ ts) h = absurd cc
 
+pub expr_refused : (last : Last) (deep : ℕ) (s : List Lexeme) → level s < 1 → is_end last s ≡ false → verdict last (Operators deep ∷ []) s ≡ Bad (refusal last s)
+expr_refused (End offset) deep [] low h = absurd cc
+expr_refused (Wrong error) deep [] low h = refl
+expr_refused last deep (t ∷ ts) low h = operators_pass last deep [] (t ∷ ts) low
+
+pub expr_ends : (last : Last) (deep : ℕ) (s : List Lexeme) → is_end last s ≡ true → verdict last (Operators deep ∷ []) s ≡ Good
+expr_ends (End offset) deep [] h = refl
+expr_ends (Wrong error) deep [] h = absurd cc
+expr_ends last deep (t ∷ ts) h = absurd cc
+
 pub nothing_left : (last : Last) (s : List Lexeme) → is_end last s ≡ true → s ≡ []
 nothing_left last [] h = refl
 nothing_left last (t ∷ ts) h = absurd cc
@@ -34,15 +44,22 @@ refusal_fails (End offset) [] v h = h
 refusal_fails (Wrong error) [] v h = h
 refusal_fails last (t ∷ ts) v h = h
 
--- What the machine judges right is a tree, and any tree that is spelled is that of the file.
-pub is_tree : (bytes : List ℕ) (tree : BlockTree) → IsJudgedRightly bytes → verdict (last_of bytes) whole_file (lexemes bytes) ≡ Good → SpellsStatements tree (lexemes bytes) [] → IsTree bytes tree
-is_tree bytes tree judged v spells =
-    let h : (t : BlockTree) × IsTree bytes t = subst (λ x. IsAsJudged bytes x) v judged in
-    record { offset = h.1.offset; ends = h.1.ends; spells = spells; shallow = h.1.shallow }
+-- What the machine judges right is a tree, and any tree that is spelled is that of the bytes.
+is_right : (start : Start) (bytes : List ℕ) → IsJudgedRightly start bytes → verdict (last_of bytes) (wanted_of start) (lexemes bytes) ≡ Good → IsRight start bytes
+is_right start bytes judged v = subst (λ x. IsAsJudged start bytes x) v judged
+
+pub is_tree : (bytes : List ℕ) (tree : BlockTree) → IsJudgedRightly File bytes → verdict (last_of bytes) (wanted_of File) (lexemes bytes) ≡ Good →
+    SpellsStatements tree (lexemes bytes) [] → IsTree bytes tree
+is_tree bytes tree judged v spells = let h = is_right File bytes judged v in record { offset = h.offset; ends = h.ends; spells = spells; shallow = h.shallow }
+
+pub is_expr : (bytes : List ℕ) (tree : ExprTree) → IsJudgedRightly Expression bytes → verdict (last_of bytes) (wanted_of Expression) (lexemes bytes) ≡ Good →
+    Spells 1 tree (lexemes bytes) [] → IsExpr bytes tree
+is_expr bytes tree judged v spells = let h = is_right Expression bytes judged v in record { offset = h.offset; ends = h.ends; spells = spells; shallow = h.shallow }
 
 -- An error that is the verdict is the first one.
-pub is_error : (bytes : List ℕ) (e : SyntaxError) → IsJudgedRightly bytes → Fails e (verdict (last_of bytes) whole_file (lexemes bytes)) → IsError e bytes
-is_error bytes (TokenFault error) judged v = (subst (λ x. IsAsJudged bytes x) v judged).1
-is_error bytes (Unexpected offset) judged v = (subst (λ x. IsAsJudged bytes x) v judged).1
-is_error bytes (TooDeep offset) judged v = (subst (λ x. IsAsJudged bytes x) v judged).1
-is_error bytes Memory judged v = tt
+pub is_error : (start : Start) (bytes : List ℕ) (e : SyntaxError) → IsJudgedRightly start bytes →
+    Fails e (verdict (last_of bytes) (wanted_of start) (lexemes bytes)) → IsErrorOf start e bytes
+is_error start bytes (TokenFault error) judged v = (subst (λ x. IsAsJudged start bytes x) v judged).1
+is_error start bytes (Unexpected offset) judged v = (subst (λ x. IsAsJudged start bytes x) v judged).1
+is_error start bytes (TooDeep offset) judged v = (subst (λ x. IsAsJudged start bytes x) v judged).1
+is_error start bytes Memory judged v = tt

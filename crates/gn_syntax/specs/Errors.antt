@@ -1,27 +1,20 @@
--- What a file is, and which error stands where, in the words of the grammar.
+-- What a file and an expression are, and which error stands where, in the words of the grammar.
 use Rattle.std.specs.Prelude.{◌≡◌, ℕ, ◌≤◌, ◌<◌, List, [], ◌∷◌, ◌++◌, Option, Some, None, ⊤}
-use Rattle.gn_tree.specs.Tree.{BlockTree}
+use Rattle.gn_tree.specs.Tree.{ExprTree, BlockTree}
 use Rattle.gn_tokens.specs.declared.token.TokenError.{TokenError}
 use Rattle.gn_syntax.specs.declared.error.SyntaxError.{SyntaxError}
 use Rattle.gn_syntax.specs.declared.error.SyntaxError.TheVariants.{Token, Unexpected, TooDeep, Memory}
 use Rattle.gn_syntax.specs.Lexemes.{Lexeme, Last, End, Wrong, lexemes, last_of}
-use Rattle.gn_syntax.specs.Grammar.{SpellsStatements}
-use Rattle.gn_syntax.specs.Machine.{Symbol, next, whole_file, max_nesting}
+use Rattle.gn_syntax.specs.Grammar.{Spells, SpellsStatements}
+use Rattle.gn_syntax.specs.Machine.{Symbol, next, max_nesting}
+use Rattle.gn_syntax.specs.Start.{Start, File, Expression, IsWhole, BeginsWhole, wanted_of}
 
--- The tokens are those of a file.
-abbrev pub IsFile : List Lexeme → Type 0
-IsFile tokens = (tree : BlockTree) × SpellsStatements tree tokens []
+-- Nothing of the kind begins with the tokens before and the first token behind them. The end of the bytes counts as a token.
+abbrev pub IsRefused : Start → List Lexeme → List Lexeme → Type 0
+IsRefused start before [] = ¬ IsWhole start before
+IsRefused start before (t ∷ later) = ¬ BeginsWhole start (before ++ t ∷ [])
 
--- Some file begins with the tokens.
-abbrev pub BeginsFile : List Lexeme → Type 0
-BeginsFile tokens = (later : List Lexeme) × IsFile (tokens ++ later)
-
--- No file begins with the tokens before and the first token behind them. The end of the file counts as a token.
-abbrev pub IsRefused : List Lexeme → List Lexeme → Type 0
-IsRefused before [] = ¬ IsFile before
-IsRefused before (t ∷ later) = ¬ BeginsFile (before ++ t ∷ [])
-
--- where the next token stands, if not the end of the file; none where no token comes, because of an error
+-- where the next token stands, if not the end of the bytes; none where no token comes, because of an error
 abbrev pub next_offset : Last → List Lexeme → Option ℕ
 next_offset (End offset) [] = Some offset
 next_offset (Wrong error) [] = None
@@ -38,51 +31,62 @@ abbrev pub nesting_from : List Symbol → List Lexeme → ℕ
 nesting_from stack [] = 0
 nesting_from stack (t ∷ ts) = deep_after (next stack t.kind) (λ wanted. nesting_from wanted ts) ts
 
-abbrev pub nesting : List Lexeme → ℕ
-nesting tokens = nesting_from whole_file tokens
+abbrev pub nesting : Start → List Lexeme → ℕ
+nesting start tokens = nesting_from (wanted_of start) tokens
 
 -- No token among these, which stand behind the ones before, is too deep.
-abbrev pub NoneTooDeep : List Lexeme → List Lexeme → Type 0
-NoneTooDeep before [] = ⊤
-NoneTooDeep before (t ∷ later) = (nesting (before ++ t ∷ []) ≤ max_nesting) × NoneTooDeep (before ++ t ∷ []) later
+abbrev pub NoneTooDeep : Start → List Lexeme → List Lexeme → Type 0
+NoneTooDeep start before [] = ⊤
+NoneTooDeep start before (t ∷ later) = (nesting start (before ++ t ∷ []) ≤ max_nesting) × NoneTooDeep start (before ++ t ∷ []) later
 
--- At this offset stands the first token such that no file begins with the tokens up to it, and no token before it is too deep.
-pub record IsUnexpected (bytes : List ℕ) (offset : ℕ) : Type 0 where
+-- At this offset stands the first token such that no file, or no expression, begins with the tokens up to it, and no token before it is too deep.
+pub record IsUnexpected (start : Start) (bytes : List ℕ) (offset : ℕ) : Type 0 where
   pub before : List Lexeme
   pub later : List Lexeme
   pub split : lexemes bytes ≡ before ++ later
   pub here : next_offset (last_of bytes) later ≡ Some offset
-  pub first : BeginsFile before
-  pub refused : IsRefused before later
-  pub shallow : NoneTooDeep [] before
+  pub first : BeginsWhole start before
+  pub refused : IsRefused start before later
+  pub shallow : NoneTooDeep start [] before
 
--- At this offset stands the first token that makes the nesting exceed the limit, and some file begins with the tokens up to it.
-pub record IsTooDeep (bytes : List ℕ) (offset : ℕ) : Type 0 where
+-- At this offset stands the first token that makes the nesting exceed the limit, and some file, or some expression, begins with the tokens up to it.
+pub record IsTooDeep (start : Start) (bytes : List ℕ) (offset : ℕ) : Type 0 where
   pub before : List Lexeme
   pub token : Lexeme
   pub later : List Lexeme
   pub split : lexemes bytes ≡ before ++ token ∷ later
   pub here : token.start ≡ offset
-  pub first : BeginsFile (before ++ token ∷ [])
-  pub deep : max_nesting < nesting (before ++ token ∷ [])
-  pub shallow : NoneTooDeep [] before
+  pub first : BeginsWhole start (before ++ token ∷ [])
+  pub deep : max_nesting < nesting start (before ++ token ∷ [])
+  pub shallow : NoneTooDeep start [] before
 
--- The tokens end with this error. Some file begins with those before it, and none of them is too deep.
-pub record IsTokenError (bytes : List ℕ) (error : TokenError) : Type 0 where
+-- The tokens end with this error. Some file, or some expression, begins with those before it, and none of them is too deep.
+pub record IsTokenError (start : Start) (bytes : List ℕ) (error : TokenError) : Type 0 where
   pub last : last_of bytes ≡ Wrong error
-  pub first : BeginsFile (lexemes bytes)
-  pub shallow : NoneTooDeep [] (lexemes bytes)
+  pub first : BeginsWhole start (lexemes bytes)
+  pub shallow : NoneTooDeep start [] (lexemes bytes)
 
--- The error is the first of these bytes. Want of memory says nothing of them.
+-- The error is the first of these bytes, read as a file or as an expression. Want of memory says nothing of them.
+abbrev pub IsErrorOf : Start → SyntaxError → List ℕ → Type 0
+IsErrorOf start (Token error) bytes = IsTokenError start bytes error
+IsErrorOf start (Unexpected offset) bytes = IsUnexpected start bytes offset
+IsErrorOf start (TooDeep offset) bytes = IsTooDeep start bytes offset
+IsErrorOf start Memory bytes = ⊤
+
+-- the same of a file
 abbrev pub IsError : SyntaxError → List ℕ → Type 0
-IsError (Token error) bytes = IsTokenError bytes error
-IsError (Unexpected offset) bytes = IsUnexpected bytes offset
-IsError (TooDeep offset) bytes = IsTooDeep bytes offset
-IsError Memory bytes = ⊤
+IsError error bytes = IsErrorOf File error bytes
 
--- The bytes spell this tree, and no token of them is too deep.
+-- The bytes spell this tree of a file, and no token of them is too deep.
 pub record IsTree (bytes : List ℕ) (tree : BlockTree) : Type 0 where
   pub offset : ℕ
   pub ends : last_of bytes ≡ End offset
   pub spells : SpellsStatements tree (lexemes bytes) []
-  pub shallow : NoneTooDeep [] (lexemes bytes)
+  pub shallow : NoneTooDeep File [] (lexemes bytes)
+
+-- The bytes spell this one expression, and no token of them is too deep.
+pub record IsExpr (bytes : List ℕ) (tree : ExprTree) : Type 0 where
+  pub offset : ℕ
+  pub ends : last_of bytes ≡ End offset
+  pub spells : Spells 1 tree (lexemes bytes) []
+  pub shallow : NoneTooDeep Expression [] (lexemes bytes)

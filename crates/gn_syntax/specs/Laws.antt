@@ -1,33 +1,53 @@
 -- What is proved of the grammar itself, whatever the parser's code is.
 use Rattle.std.specs.Prelude.{◌≡◌, ◌≢◌, ℕ, ◌+◌, List, [], ◌∷◌, ◌⊎◌}
-use Rattle.gn_tree.specs.Tree.{BlockTree}
+use Rattle.gn_tree.specs.Tree.{ExprTree, BlockTree}
 use Rattle.gn_syntax.specs.declared.error.SyntaxError.{SyntaxError}
 use Rattle.gn_syntax.specs.declared.error.SyntaxError.TheVariants.{Memory}
 use Rattle.gn_tokens.specs.Text.{Item}
 use Rattle.gn_syntax.specs.Position.{position_of, further}
-use Rattle.gn_syntax.specs.Lexemes.{lexemes, last_of}
-use Rattle.gn_syntax.specs.Machine.{whole_file, Verdict, Good, Bad, verdict}
-use Rattle.gn_syntax.specs.Errors.{IsTree, IsError}
+use Rattle.gn_syntax.specs.Lexemes.{Lexeme, Last, End, lexemes, last_of}
+use Rattle.gn_syntax.specs.Machine.{Verdict, Good, Bad, verdict}
+use Rattle.gn_syntax.specs.Start.{Start, File, Expression, IsWhole, wanted_of}
+use Rattle.gn_syntax.specs.Errors.{NoneTooDeep, IsTree, IsExpr, IsErrorOf}
 
--- The bytes have this error, which is not want of memory.
+-- The bytes, read as a file or as an expression, have this error, which is not want of memory.
+abbrev pub IsFirst : Start → SyntaxError → List ℕ → Type 0
+IsFirst start error bytes = (error ≢ Memory) × IsErrorOf start error bytes
+
+-- the same of a file
 abbrev pub IsFirstError : SyntaxError → List ℕ → Type 0
-IsFirstError error bytes = (error ≢ Memory) × IsError error bytes
+IsFirstError error bytes = IsFirst File error bytes
 
--- The bytes spell just one tree, or have just one first error, and never both.
-pub record HasOneAnswer (bytes : List ℕ) : Type 0 where
-  pub some_answer : ((tree : BlockTree) × IsTree bytes tree) ⊎ ((error : SyntaxError) × IsFirstError error bytes)
-  pub one_tree : (a b : BlockTree) → IsTree bytes a → IsTree bytes b → a ≡ b
-  pub one_error : (e f : SyntaxError) → IsFirstError e bytes → IsFirstError f bytes → e ≡ f
-  pub not_both : (tree : BlockTree) (error : SyntaxError) → IsTree bytes tree → ¬ IsFirstError error bytes
+-- There is just one tree or just one first error, and never both.
+pub record OneAnswer (Tree : Type 0) (Is : Tree → Type 0) (First : SyntaxError → Type 0) : Type 0 where
+  pub some_answer : ((tree : Tree) × Is tree) ⊎ ((error : SyntaxError) × First error)
+  pub one_tree : (a b : Tree) → Is a → Is b → a ≡ b
+  pub one_error : (e f : SyntaxError) → First e → First f → e ≡ f
+  pub not_both : (tree : Tree) (error : SyntaxError) → Is tree → ¬ First error
+
+-- The bytes spell just one tree of a file, or have just one first error, and never both.
+abbrev pub HasOneAnswer : List ℕ → Type 0
+HasOneAnswer bytes = OneAnswer BlockTree (IsTree bytes) (λ e. IsFirst File e bytes)
+
+-- the same of one expression
+abbrev pub HasOneExprAnswer : List ℕ → Type 0
+HasOneExprAnswer bytes = OneAnswer ExprTree (IsExpr bytes) (λ e. IsFirst Expression e bytes)
+
+-- The bytes are a file, or one expression, and no token of them is too deep.
+pub record IsRight (start : Start) (bytes : List ℕ) : Type 0 where
+  pub offset : ℕ
+  pub ends : last_of bytes ≡ End offset
+  pub whole : IsWhole start (lexemes bytes)
+  pub shallow : NoneTooDeep start [] (lexemes bytes)
 
 -- The bytes are as the verdict says.
-abbrev pub IsAsJudged : List ℕ → Verdict → Type 0
-IsAsJudged bytes Good = (tree : BlockTree) × IsTree bytes tree
-IsAsJudged bytes (Bad error) = IsFirstError error bytes
+abbrev pub IsAsJudged : Start → List ℕ → Verdict → Type 0
+IsAsJudged start bytes Good = IsRight start bytes
+IsAsJudged start bytes (Bad error) = IsFirst start error bytes
 
 -- The machine's verdict on the bytes is right.
-abbrev pub IsJudgedRightly : List ℕ → Type 0
-IsJudgedRightly bytes = IsAsJudged bytes (verdict (last_of bytes) whole_file (lexemes bytes))
+abbrev pub IsJudgedRightly : Start → List ℕ → Type 0
+IsJudgedRightly start bytes = IsAsJudged start bytes (verdict (last_of bytes) (wanted_of start) (lexemes bytes))
 
 -- The items stand where their positions say: the position so many bytes behind the offset, in the same line, is that of the byte there.
 abbrev pub StandRightly : List ℕ → ℕ → List (ℕ × Item) → Type 0

@@ -3,6 +3,7 @@ pub mod Lexemes
 pub mod Pieces
 pub mod Grammar
 pub mod Machine
+pub mod Start
 pub mod Errors
 pub mod Nesting
 pub mod Laws

@@ -7,6 +7,7 @@
 use Rattle.std.specs.Prelude.{ℕ, zero, suc, ◌+◌, List, [], ◌∷◌, ◌++◌}
 use Rattle.gn_tree.specs.Tree.{ExprTree, name_expr, integer_expr, string_expr, boolean_expr, call_expr, item_expr, entry_expr, scope_expr, parentheses_expr, list_expr, not_expr, binary_expr, ExprTrees, no_exprs, expr_then, CallTree, call_tree, BodyTree, no_body, some_body, TargetTree, name_target, item_target, entry_target, StatementTree, assign_statement, call_statement, condition_statement, ConditionTree, condition_tree, OtherwiseTree, no_otherwise, else_block, else_if, BlockTree, no_statements, statement_then}
 use Rattle.gn_syntax.specs.Lexemes.{Lexeme}
+use Rattle.gn_syntax.specs.Start.{Start}
 use Rattle.gn_syntax.specs.Errors.{nesting}
 
 -- how many operators between operands an expression has outside its brackets
@@ -69,7 +70,7 @@ abbrev pub counting : ℕ → List ℕ → List ℕ
 counting zero later = later
 counting (suc n) later = suc n ∷ later
 
--- the nestings of those among these tokens that count, behind the ones before
-abbrev pub token_nestings : List Lexeme → List Lexeme → List ℕ
-token_nestings before [] = []
-token_nestings before (t ∷ later) = counting (nesting (before ++ t ∷ [])) (token_nestings (before ++ t ∷ []) later)
+-- the nestings of those among these tokens of a file, or of an expression, that count, behind the ones before
+abbrev pub token_nestings : Start → List Lexeme → List Lexeme → List ℕ
+token_nestings start before [] = []
+token_nestings start before (t ∷ later) = counting (nesting start (before ++ t ∷ [])) (token_nestings start (before ++ t ∷ []) later)

@@ -1,18 +1,19 @@
 // The parser as its callers see it.
 
 ghost use Rattle.std.specs.Prelude.{◌≡◌, ◌≤◌, IfOk, IfErr, [], length};
-ghost use Rattle.gn_tree.specs.Depth.{IsShallow};
+ghost use Rattle.gn_tree.specs.Depth.{max_depth, expr_depth, IsShallow};
 ghost use Rattle.gn_syntax.specs.Lexemes.{lexemes, last_of};
-ghost use Rattle.gn_syntax.specs.Grammar.{SpellsStatements};
-ghost use Rattle.gn_syntax.specs.Machine.{verdict, whole_file, Good};
-ghost use Rattle.gn_syntax.specs.Errors.{IsTree, IsError};
+ghost use Rattle.gn_syntax.specs.Grammar.{Spells, SpellsStatements};
+ghost use Rattle.gn_syntax.specs.Machine.{verdict, Good};
+ghost use Rattle.gn_syntax.specs.Start.{File, Expression, wanted_of};
+ghost use Rattle.gn_syntax.specs.Errors.{IsTree, IsExpr, IsError, IsErrorOf};
 ghost use Rattle.gn_syntax.specs.Parsing.{Steps};
 
 use crate::error::SyntaxError;
 use crate::law::machine_is_right;
 use crate::lookahead::Lookahead;
 use crate::parser::Parser;
-use gn_tree::Block;
+use gn_tree::{Block, SubExpr};
 use std::alloc::Global;
 use std::marker::Model;
 
@@ -40,13 +41,6 @@ impl Parsed {
     {
         &self.block
     }
-
-    /// The statements of the file, which takes no memory.
-    pub fn into_block(self) -> Block
-        ensures { result ≡ self }
-    {
-        self.block
-    }
 }
 
 /// Parses a file. An error is the first of the file: of a token, of the grammar or of the nesting, whose limit is 200.
@@ -62,20 +56,57 @@ pub fn parse(alloc: Global, bytes: &[u8]) -> Result<Parsed, SyntaxError>
     }
 }
 
+/// Parses one expression, which is all that the bytes hold but for white space and comments. An error is the first of
+/// the bytes, as that of a file: of a token, of the grammar or of the nesting, whose limit is 200.
+pub fn parse_expr(alloc: Global, bytes: &[u8]) -> Result<SubExpr, SyntaxError>
+    ensures tree { IfOk result (λ expr. IsExpr bytes.now expr) }
+    ensures error { IfErr result (λ e. IsErrorOf Expression e bytes.now) }
+    ensures shallow { IfOk result (λ expr. length bytes.now ≤ 16777216 → expr_depth expr ≤ max_depth) }
+{
+    machine_is_right();
+    match whole_expr(alloc, bytes) {
+        Ok(expr) => Ok(expr),
+        Err(error) => Err(error),
+    }
+}
+
+// A parser before the first token.
+fn begin(alloc: Global, bytes: &[u8]) -> Parser<'_>
+    ensures tokens { result.ahead.tokens ≡ lexemes bytes.now }
+    ensures last { result.ahead.last ≡ last_of bytes.now }
+    ensures nesting { result.nesting ≡ 0 }
+{
+    Parser {
+        alloc,
+        ahead: Lookahead::new(bytes),
+        nesting: 0,
+    }
+}
+
 // The statements of a whole file. Where they are no file, the error is the verdict of the machine.
 #[tactic(auto, using(crate::proofs::Whole::whole_refused, crate::proofs::Whole::whole_ends, crate::proofs::Whole::nothing_left, crate::proofs::Whole::refusal_fails))]
 fn whole(alloc: Global, bytes: &[u8]) -> Result<Block, SyntaxError>
     ensures tree { IfOk result (λ block. SpellsStatements block (lexemes bytes.now) []) }
-    ensures reads { Steps result (verdict (last_of bytes.now) whole_file (lexemes bytes.now)) Good }
+    ensures reads { Steps result (verdict (last_of bytes.now) (wanted_of File) (lexemes bytes.now)) Good }
 {
-    let mut parser = Parser {
-        alloc,
-        ahead: Lookahead::new(bytes),
-        nesting: 0,
-    };
+    let mut parser = begin(alloc, bytes);
     let block = parser.statements()?;
     if !parser.ahead.is_at_end() {
         return Err(parser.refuse());
     }
     Ok(block)
+}
+
+// The expression that is all of the bytes. Where they are none, the error is the verdict of the machine.
+#[tactic(auto, using(crate::proofs::Whole::expr_refused, crate::proofs::Whole::expr_ends, crate::proofs::Whole::nothing_left, crate::proofs::Whole::refusal_fails))]
+fn whole_expr(alloc: Global, bytes: &[u8]) -> Result<SubExpr, SyntaxError>
+    ensures tree { IfOk result (λ expr. Spells 1 expr (lexemes bytes.now) []) }
+    ensures reads { Steps result (verdict (last_of bytes.now) (wanted_of Expression) (lexemes bytes.now)) Good }
+{
+    let mut parser = begin(alloc, bytes);
+    let expr = parser.binary(1)?;
+    if !parser.ahead.is_at_end() {
+        return Err(parser.refuse());
+    }
+    Ok(SubExpr::new(alloc, expr)?)
 }

@@ -311,7 +311,7 @@ impl<'a> Parser<'a> {
 
     // An expression whose operators outside brackets bind at least so tightly.
     #[cycle(parser)]
-    fn binary(&mut self, least: u8) -> Result<Expr, SyntaxError>
+    pub(crate) fn binary(&mut self, least: u8) -> Result<Expr, SyntaxError>
         requires low { 1 ≤ least }
         requires high { least ≤ 6 }
         ensures spells { IfOk result (λ e. Spells least (expr_of e) self.old.ahead.tokens self.new.ahead.tokens) }

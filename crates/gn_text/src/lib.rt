@@ -8,6 +8,3 @@ mod quotes;
 pub use names::{Name, Names};
 pub use numbers::decimal;
 pub use quotes::quote;
-
-#[cfg(test)]
-mod tests;

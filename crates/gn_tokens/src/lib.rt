@@ -15,6 +15,3 @@ pub use law::{items_one_after_the_other, next_token_is_one, string_is_its_items}
 pub use number::integer_value;
 pub use token::{Token, TokenError, TokenKind};
 pub use tokens::Tokens;
-
-#[cfg(test)]
-mod tests;

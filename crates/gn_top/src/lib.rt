@@ -13,8 +13,6 @@ mod one;
 mod settling;
 mod starts;
 mod store;
-#[cfg(test)]
-mod tests;
 mod texts;
 mod waiting;
 mod words;

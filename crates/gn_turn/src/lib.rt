@@ -10,8 +10,6 @@ mod plays;
 mod rule;
 mod seat;
 mod taking;
-#[cfg(test)]
-mod tests;
 mod turn;
 mod view;
 

@@ -10,6 +10,3 @@ mod unit;
 pub use evaluation::evaluate;
 pub use laws::executions_are_trees;
 pub use unit::{EvalStop, Unit};
-
-#[cfg(test)]
-mod tests;

@@ -8,7 +8,7 @@ use Rattle.std.specs.List.Sorted.{IsStrictlySortedBy}
 use Rattle.std.specs.Map.{keys_of, remove_entry}
 use Rattle.std.specs.BTreeMap.{insert_entry}
 
-by_order : (P : Ordering → Type 0) (r : Ordering) → P Less → P Equal → P Greater → P r
+pub by_order : (P : Ordering → Type 0) (r : Ordering) → P Less → P Equal → P Greater → P r
 by_order P Less a b c = a
 by_order P Equal a b c = b
 by_order P Greater a b c = c

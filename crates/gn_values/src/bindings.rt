@@ -6,7 +6,7 @@ ghost use Rattle.gn_values.specs.Val.{IsSortedByName};
 ghost use Rattle.gn_values.specs.View.{val_of, entry_of};
 
 use crate::value::search::{find_entry, set_entry};
-use crate::value::{Entries, Entry, Value};
+use crate::value::{Entry, Value};
 use gn_paths::Text;
 use std::alloc::{AllocError, Global};
 use std::marker::Model;
@@ -14,7 +14,7 @@ use std::marker::Model;
 /// Names with values, in the order of the bytes of the names, which differ. Other than a scope's
 /// entries they aren't a value, so no limit on depth holds for them. Contracts see a list of pairs
 /// of a name and a value.
-#[derive(Debug, Drop)]
+#[derive(Drop)]
 pub struct Bindings {
     entries: Vec<Entry>,
 }
@@ -50,17 +50,8 @@ impl Bindings {
         }
     }
 
-    /// The entries of a scope. It takes no memory.
-    pub fn from_entries(entries: Entries) -> Bindings
-        ensures { result ≡ entries }
-    {
-        Bindings {
-            entries: entries.into_vec(),
-        }
-    }
-
     /// The names and their values, in the order of the names. It takes no memory.
-    pub(crate) fn into_vec(self) -> Vec<Entry>
+    pub fn into_vec(self) -> Vec<Entry>
         ensures value { map entry_of result.items ≡ self }
         ensures sorted { IsSortedByName (map entry_of result.items) }
     {

@@ -36,7 +36,7 @@ impl From<AllocError> for ValueError {
 
 /// Why an assignment to an element of a list or a scope isn't made. The two kinds of faults stand
 /// at different places of the assignment.
-#[derive(Clone, Copy, Debug, PartialEq, Eq)]
+#[derive(Clone, Copy, Debug)]
 pub enum ElementError {
     /// The element isn't found: `BadTypes`, `BadIndex` or `Undefined`.
     Subscript(ValueError),

@@ -129,9 +129,26 @@ impl MadeBy {
         }
         added.reserve(1)?;
         let name = execution.copy(alloc)?;
-        self.set(execution.copy(alloc)?, definitions.clone()?)?;
+        self.set_copies(alloc, execution, definitions)?;
         added.push_reserved(name);
         Ok(())
+    }
+
+    // Sets the definitions of an execution, by copies of its name and of the reference to them. After want of memory
+    // nothing is changed.
+    fn set_copies(
+        &mut self,
+        alloc: Global,
+        execution: &Text,
+        definitions: &Arc<Definitions>,
+    ) -> Result<(), AllocError>
+        ensures ok { OnOk result
+            (self.new ≡ with_name execution.now definitions.now.value self.old) }
+        ensures err { OnErr result (self.new ≡ self.old) }
+    {
+        let name = execution.copy(alloc)?;
+        let shared = definitions.clone()?;
+        self.set(name, shared)
     }
 }
 
@@ -163,8 +180,9 @@ impl ImportValue {
     ) -> Result<ImportValue, AllocError>
         ensures { IfOk result (λ r. r ≡ record { scope = scope; definitions = definitions }) }
     {
+        let scope = Arc::new(alloc, scope)?;
         Ok(ImportValue {
-            scope: Arc::new(alloc, scope)?,
+            scope,
             definitions: Arc::new(alloc, definitions)?,
         })
     }
@@ -187,9 +205,8 @@ impl ImportValue {
     pub fn copy(&self) -> Result<ImportValue, AllocError>
         ensures { IfOk result (λ r. r ≡ self.now) }
     {
-        Ok(ImportValue {
-            scope: self.scope.clone()?,
-            definitions: self.definitions.clone()?,
-        })
+        let scope = self.scope.clone()?;
+        let definitions = self.definitions.clone()?;
+        Ok(ImportValue { scope, definitions })
     }
 }

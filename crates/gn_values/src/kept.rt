@@ -13,7 +13,7 @@ use std::sync::Arc;
 
 /// Names the definition of a template: the execution of a file that made it, and its number among those that this
 /// execution made, counted from 0.
-#[derive(Debug, Drop, PartialEq, Eq)]
+#[derive(Drop)]
 pub struct DefinitionName {
     /// The execution: the path of the file that was imported, or the empty text for a build file, whose definitions no
     /// other execution sees.
@@ -36,7 +36,7 @@ impl DefinitionName {
 
 /// A scope that is kept: its variables, its templates by the names of their definitions, and the defaults of each kind
 /// of call.
-#[derive(Debug, Drop)]
+#[derive(Drop)]
 pub struct KeptScope {
     variables: Bindings,
     templates: BTreeMap<Text, DefinitionName>,

@@ -24,7 +24,7 @@ use std::marker::Model;
 /// No value nests deeper than `MAX_DEPTH`: `Items` and `Entries` keep that bound, so each walk over
 /// a value, its drop included, is that deep at most.
 #[cycle(value)]
-#[derive(Debug, Drop)]
+#[derive(Drop)]
 pub enum Value {
     /// A boolean.
     Bool(bool),
@@ -40,7 +40,7 @@ pub enum Value {
 
 /// The items of a list. Contracts see them as a list of values.
 #[cycle(value)]
-#[derive(Debug, Drop)]
+#[derive(Drop)]
 pub struct Items {
     items: Vec<Value>,
     depth: u8,
@@ -48,7 +48,7 @@ pub struct Items {
 
 /// A name and its value.
 #[cycle(value)]
-#[derive(Debug, Drop)]
+#[derive(Drop)]
 pub struct Entry {
     /// The name.
     pub name: Text,
@@ -59,7 +59,7 @@ pub struct Entry {
 /// The entries of a scope, in the order of the bytes of their names, which differ. Contracts see
 /// them as a list of pairs of a name and a value.
 #[cycle(value)]
-#[derive(Debug, Drop)]
+#[derive(Drop)]
 pub struct Entries {
     entries: Vec<Entry>,
     depth: u8,
@@ -236,9 +236,8 @@ impl Entry {
     pub fn copy(&self, alloc: Global) -> Result<Entry, AllocError>
         ensures { IfOk result (λ r. entry_of r ≡ entry_of self.now) }
     {
-        Ok(Entry {
-            name: self.name.copy(alloc)?,
-            value: self.value.copy(alloc)?,
-        })
+        let name = self.name.copy(alloc)?;
+        let value = self.value.copy(alloc)?;
+        Ok(Entry { name, value })
     }
 }

@@ -165,8 +165,8 @@ fn are_as_wanted(block: &Block, wants: &[Want]) -> bool {
 #[test]
 fn strings_are_cut_into_pieces(rt: HostRuntime) -> Result<(), Fail> {
     for (text, wants) in STRINGS {
-        let block = parse(rt.alloc(), text)?.into_block();
-        assert!(rt; are_as_wanted(&block, wants), "at {text:?}");
+        let parsed = parse(rt.alloc(), text)?;
+        assert!(rt; are_as_wanted(parsed.block(), wants), "at {text:?}");
     }
     Ok(())
 }

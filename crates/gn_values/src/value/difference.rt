@@ -1,7 +1,8 @@
 // What stays of a list when the items of another one are taken away.
 
-ghost use Rattle.std.specs.Prelude.{◌≡◌, ◌≢◌, map, IfOk, IfErr, true, false};
+ghost use Rattle.std.specs.Prelude.{◌≡◌, ◌≢◌, ◌++◌, [], ◌∷◌, map, IsTrue, IfOk, IfErr, OnOk, true, false};
 ghost use Rattle.std.specs.List.{list_all};
+ghost use Rattle.gn_values.specs.Limits.{list_fits};
 ghost use Rattle.gn_values.specs.Members.{HasStrings, HasIntegers};
 ghost use Rattle.gn_values.specs.Operators.{is_among, without};
 ghost use Rattle.gn_values.specs.View.{val_of};
@@ -145,14 +146,44 @@ impl Items {
         if !are_all_among(alloc, others, self.as_slice())? {
             return Err(ValueError::NotInList);
         }
+        Ok(self.unlike(alloc, others)?)
+    }
+
+    // A new list of the items that equal none of these values.
+    fn unlike(&self, alloc: Global, others: &[Value]) -> Result<Items, AllocError>
+        ensures { IfOk result (λ kept. kept ≡ without self.now (map val_of others.now)) }
+    {
         let members = members_of(alloc, others)?;
+        self.no_members(alloc, others, &members)
+    }
+
+    // The same, where the strings and the integers of the values are given.
+    fn no_members(
+        &self,
+        alloc: Global,
+        others: &[Value],
+        members: &Members<'_>,
+    ) -> Result<Items, AllocError>
+        requires strings { HasStrings members.now.strings (map val_of others.now) }
+        requires integers { HasIntegers members.now.integers (map val_of others.now) }
+        ensures { IfOk result (λ kept. kept ≡ without self.now (map val_of others.now)) }
+    {
         let mut kept = Items::new(alloc);
         for item in self.items.as_slice() {
-            if is_member(item, others, &members) {
+            if is_member(item, others, members) {
                 continue;
             }
-            kept.push_within(item.copy(alloc)?)?;
+            kept.push_copy(alloc, item)?;
         }
         Ok(kept)
+    }
+
+    // Puts a copy of a value at the end of a list that has room for it.
+    fn push_copy(&mut self, alloc: Global, value: &Value) -> Result<(), AllocError>
+        requires { IsTrue (list_fits (self.old ++ val_of value.now ∷ [])) }
+        ensures { OnOk result (self.new ≡ self.old ++ val_of value.now ∷ []) }
+    {
+        let copy = value.copy(alloc)?;
+        self.push_within(copy)
     }
 }

@@ -1,6 +1,8 @@
 // The text of a value.
 
 ghost use Rattle.std.specs.Prelude.{◌≡◌, ◌++◌, ◌==◌, [], IfOk, OnOk, codes, if◌then◌else◌};
+ghost use Rattle.std.specs.Fmt.{signed_decimal};
+ghost use Rattle.gn_text.specs.Quoted.{quoted as in_quotes};
 ghost use Rattle.gn_values.specs.Val.{vals_of, binds_of};
 ghost use Rattle.gn_values.specs.Text.{text_of, inner_text, items_text, entries_text};
 ghost use Rattle.gn_values.specs.View.{val_of};
@@ -33,19 +35,27 @@ fn append_value(alloc: Global, value: &Value, text: &mut Text) -> Result<(), All
     match value {
         Value::Bool(true) => text.append(b"true"),
         Value::Bool(false) => text.append(b"false"),
-        Value::Int(number) => text.append(decimal(alloc, *number)?.as_slice()),
-        Value::Str(string) => text.append(quote(alloc, string.as_bytes())?.as_slice()),
-        Value::List(items) => {
-            text.append(b"[")?;
-            append_items(alloc, items, text)?;
-            text.append(b"]")
-        }
-        Value::Scope(entries) => {
-            text.append(b"{\n")?;
-            append_entries(alloc, entries, text)?;
-            text.append(b"}")
-        }
+        Value::Int(number) => append_number(alloc, *number, text),
+        Value::Str(string) => append_quoted(alloc, string, text),
+        Value::List(items) => append_items(alloc, items, text),
+        Value::Scope(entries) => append_entries(alloc, entries, text),
     }
+}
+
+/// Puts an integer in decimal at the end of a text.
+fn append_number(alloc: Global, number: i64, text: &mut Text) -> Result<(), AllocError>
+    ensures { OnOk result (text.new ≡ text.old ++ signed_decimal number) }
+{
+    let digits = decimal(alloc, number)?;
+    text.append(digits.as_slice())
+}
+
+/// Puts a string between quotes at the end of a text.
+fn append_quoted(alloc: Global, string: &Text, text: &mut Text) -> Result<(), AllocError>
+    ensures { OnOk result (text.new ≡ text.old ++ in_quotes string.now) }
+{
+    let quotes = quote(alloc, string.as_bytes())?;
+    text.append(quotes.as_slice())
 }
 
 /// Puts `, ` at the end of a text, but for the item number 0.
@@ -59,23 +69,27 @@ fn append_comma(index: usize, text: &mut Text) -> Result<(), AllocError>
     text.append(b", ")
 }
 
-/// Puts the texts of the items, with `, ` between them, at the end of a text.
+/// Puts the texts of the items, with `, ` between them and in brackets, at the end of a text.
 #[cycle(print)]
 fn append_items(alloc: Global, items: &Items, text: &mut Text) -> Result<(), AllocError>
-    ensures { OnOk result (text.new ≡ text.old ++ items_text (vals_of items.now)) }
+    ensures { OnOk result
+        (text.new ≡ text.old ++ (codes "[" ++ items_text (vals_of items.now) ++ codes "]")) }
 {
+    text.append(b"[")?;
     for index in 0..items.items.len() {
         append_comma(index, text)?;
         append_value(alloc, &items.items[index], text)?;
     }
-    Ok(())
+    text.append(b"]")
 }
 
-/// Puts a line for each entry at the end of a text.
+/// Puts a line for each entry, in braces, at the end of a text.
 #[cycle(print)]
 fn append_entries(alloc: Global, entries: &Entries, text: &mut Text) -> Result<(), AllocError>
-    ensures { OnOk result (text.new ≡ text.old ++ entries_text (binds_of entries.now)) }
+    ensures { OnOk result
+        (text.new ≡ text.old ++ (codes "{\n" ++ entries_text (binds_of entries.now) ++ codes "}")) }
 {
+    text.append(b"{\n")?;
     for entry in &entries.entries {
         text.append(b"  ")?;
         text.append(entry.name.as_bytes())?;
@@ -83,5 +97,5 @@ fn append_entries(alloc: Global, entries: &Entries, text: &mut Text) -> Result<(
         append_value(alloc, &entry.value, text)?;
         text.append(b"\n")?;
     }
-    Ok(())
+    text.append(b"}")
 }

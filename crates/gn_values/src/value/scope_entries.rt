@@ -1,7 +1,7 @@
 // Entries in the order of their names, and what is done with those of a scope.
 
 ghost use Rattle.std.specs.Prelude.{◌≡◌, ◌≢◌, ◌↔◌, ◌≤◌, [], IsTrue, IfOk, OnOk, OnErr, IfErr, false, length, map, option_map, ok_or};
-ghost use Rattle.gn_values.specs.Val.{vscope, vstr, binds_of, entries_of, scope_depth, IsSortedByName};
+ghost use Rattle.gn_values.specs.Val.{vscope, vstr, binds_of, entries_of, scope_depth};
 ghost use Rattle.gn_values.specs.Operators.{value_at, with_entry, element_of};
 ghost use Rattle.gn_values.specs.Limits.{max_depth, scope_fits, IsScope};
 ghost use Rattle.gn_values.specs.View.{val_of, entry_of};
@@ -39,14 +39,6 @@ impl Entries {
             return Err(ValueError::TooLong);
         }
         Ok(Entries { entries, depth })
-    }
-
-    /// The entries, in the order of their names. It takes no memory.
-    pub(crate) fn into_vec(self) -> Vec<Entry>
-        ensures value { map entry_of result.items ≡ self }
-        ensures sorted { IsSortedByName (map entry_of result.items) }
-    {
-        self.entries
     }
 
     /// The number of entries.

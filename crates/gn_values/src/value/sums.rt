@@ -2,14 +2,14 @@
 
 ghost use Rattle.std.specs.Prelude.{◌≡◌, ◌≢◌, ◌++◌, IfOk, IfErr, OnOk, OnErr};
 ghost use Rattle.std.specs.Fmt.{signed_decimal};
-ghost use Rattle.gn_values.specs.Val.{vstr};
+ghost use Rattle.gn_values.specs.Val.{vint, vstr, vlist, vals_of};
 ghost use Rattle.gn_values.specs.Operators.{sum_of, text_value};
 ghost use Rattle.gn_values.specs.View.{val_of};
 
 use crate::error::ValueError;
 use crate::integers;
 use crate::limits::append_text;
-use crate::value::Value;
+use crate::value::{Items, Value};
 use gn_paths::Text;
 use gn_text::decimal;
 use std::alloc::{AllocError, Global};
@@ -45,6 +45,36 @@ fn add_to_text(alloc: Global, text: &mut Text, right: &Value) -> Result<(), Valu
     }
 }
 
+/// Puts copies of the items of a list at the end of a list.
+#[tactic(auto, unfolding(crate::specs::Operators::sum_of))]
+fn add_to_list(alloc: Global, items: &mut Items, right: &Value) -> Result<(), ValueError>
+    ensures ok { OnOk result
+        (sum_of (vlist (vals_of items.old)) (val_of right.now) ≡ Ok (vlist (vals_of items.new))) }
+    ensures refused { IfErr result
+        (λ e. e ≢ ValueError.Memory
+        → sum_of (vlist (vals_of items.old)) (val_of right.now) ≡ Err e) }
+    ensures err { OnErr result (items.new ≡ items.old) }
+{
+    match right {
+        Value::List(more) => items.append(alloc, more),
+        _ => Err(ValueError::BadTypes),
+    }
+}
+
+/// The sum of an integer and an integer, or an integer in decimal and a string behind it.
+#[tactic(auto, unfolding(crate::specs::Operators::sum_of))]
+fn number_and(alloc: Global, number: i64, right: &Value) -> Result<Value, ValueError>
+    ensures ok { IfOk result (λ v. sum_of (vint number) (val_of right.now) ≡ Ok (val_of v)) }
+    ensures refused { IfErr result
+        (λ e. e ≢ ValueError.Memory → sum_of (vint number) (val_of right.now) ≡ Err e) }
+{
+    match right {
+        Value::Int(more) => Ok(Value::Int(integers::sum(number, *more)?)),
+        Value::Str(text) => Ok(Value::Str(number_and_text(alloc, number, text)?)),
+        _ => Err(ValueError::BadTypes),
+    }
+}
+
 impl Value {
     /// Adds a value to this one in place, as `+` does: the parts that it has already aren't walked
     /// over or copied. After a refusal it is as before.
@@ -59,22 +89,11 @@ impl Value {
     {
         match self {
             Value::Str(text) => add_to_text(alloc, text, right),
-            Value::List(items) => match right {
-                Value::List(more) => items.append(alloc, more),
-                _ => Err(ValueError::BadTypes),
-            },
-            Value::Int(number) => match right {
-                Value::Int(more) => {
-                    *number = integers::sum(*number, *more)?;
-                    Ok(())
-                }
-                Value::Str(text) => {
-                    let joined = number_and_text(alloc, *number, text)?;
-                    *self = Value::Str(joined);
-                    Ok(())
-                }
-                _ => Err(ValueError::BadTypes),
-            },
+            Value::List(items) => add_to_list(alloc, items, right),
+            Value::Int(number) => {
+                *self = number_and(alloc, *number, right)?;
+                Ok(())
+            }
             _ => Err(ValueError::BadTypes),
         }
     }

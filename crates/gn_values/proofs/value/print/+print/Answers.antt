@@ -7,7 +7,7 @@ append_entries-loop-entry-init t c = no_entries_text _
 
 pub append_entries-loop-entry-preserved : goal.append_entries-loop-entry-preserved
 append_entries-loop-entry-preserved t c =
-    entries_step _ _ c.entry-item.result _ _ _ _ _ _ _ c.loop-entry-test.true c.entry-item.is c.loop-entry.invariant c.in_ok-append.ensures.ok (c.in_ok-append-2.ensures.ok ∙ ap (λ b. c.append.new.self ++ b) c.as_bytes.ensures) c.in_ok-append-3.ensures.ok c.in_ok-append_value.ensures c.in_ok-append-4.ensures.ok
+    entries_step _ _ c.entry-item.result _ _ _ _ _ _ _ c.loop-entry-test.true c.entry-item.is c.loop-entry.invariant c.in_ok-append-2.ensures.ok (c.in_ok-append-3.ensures.ok ∙ ap (λ b. c.append-in-loop-entry.new.self ++ b) c.as_bytes.ensures) c.in_ok-append-4.ensures.ok c.in_ok-append_value.ensures c.in_ok-append-5.ensures.ok
 
 pub append_items-loop-index-init : goal.append_items-loop-index-init
 append_items-loop-index-init t c = no_items_text _

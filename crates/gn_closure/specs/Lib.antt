@@ -1,0 +1,6 @@
+pub mod Closure
+pub mod Laws
+pub mod Reach
+pub mod Ground
+pub mod Computed
+pub mod Least

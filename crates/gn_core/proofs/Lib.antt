@@ -1,0 +1,10 @@
+pub mod Puts
+pub mod Right
+pub mod Kept
+pub mod Based
+pub mod Lowered
+pub mod Quiet
+pub mod Limits
+pub mod Once
+pub mod Counting
+pub mod Example

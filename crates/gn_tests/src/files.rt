@@ -1,0 +1,198 @@
+// What files say that import nothing. The expected texts stand in docs/LANGUAGE.md and docs/OUTPUT.md.
+
+use crate::runs::row_holds;
+use std::test::Fail;
+
+// A file, and what it says: its lines, and then the labels of its items.
+macro_rules! said {
+    ($($file:literal => $text:literal;)+) => {
+        concat!($("//BUILD.gn\x1f", $file, "\x1d\x1c0", $text, "\x1e"),+)
+    };
+}
+
+// A file, where its first fault stands, and its text.
+macro_rules! faults {
+    ($($file:literal => $place:literal, $text:literal;)+) => {
+        concat!($("//BUILD.gn\x1f", $file, "\x1d\x1c1ERROR at //BUILD.gn:", $place, ": ", $text, "\n\x1e"),+)
+    };
+}
+
+const SAID: &str = said! {
+    "a = [ 1 ]\na = []\na = [ 2 ]\nprint(a)\n" => "[2]\n";
+    "group(\"g\") {\n  x = 1\n  print(x)\n  x += 1\n}\n" => "1\n//:g\n";
+    "i = 7\nl = [ 1, 2 ]\nforeach(i, l) {\n  l += [ i ]\n}\nprint(i, l)\n" => "7 [1, 2, 1, 2]\n";
+    "print(\"a$0x0Ab\")\n" => "a\nb\n";
+    "print(\"a\\n\")\n" => "a\\n\n";
+    "# only a comment" => "";
+    "group(\"a\"){deps=[\":b\",]}group(\"b\"){deps=[]}" => "//:a\n//:b\n";
+    "group(\"z\") {\n}\ngroup(\"a/b\") {\n}\ngroup(\"Z\") {\n}\n" => "//:Z\n//:a/b\n//:z\n";
+    "foreach(v, [ 1, 2 ]) {\n  print(v)\n}\nprint(defined(v))\n" => "1\n2\nfalse\n";
+    "a = { x = 1 }\nb = a\nb.x = 2\nprint(a.x, b.x, b[\"x\"])\n" => "1 2 2\n";
+    "print(1 + 2, \"a\" + 1, [ 1, \"b\" ], true)" => "3 a1 [1, \"b\"] true\n";
+    "print(1 <= 1, 2 > 1, 1 >= 2, 1 < 1, 3 - 4, [ 1, 2, 1 ] - [ 1 ])" => "true true false false -1 [2]\n";
+    "print([ 1 ] == [ 1 ], 1 == \"1\", 1 != 1, !(1 == 2))" => "true false false true\n";
+    "print(false && q, true || q, true && false, false || true)" => "false true false true\n";
+    "print(1 + 2 - 3 == 0 && !false || false, 1 < 2 == true, 5 - 1 - 1)" => "true true 3\n";
+    "print(\"a b\", [ \"x\", 1, [ ] ], { b = 1 a = \"q\\\"\" }, [ { } ])"
+        => "a b [\"x\", 1, []] {\n  a = \"q\\\"\"\n  b = 1\n} [{\n}]\n";
+    "a = 1\nl = [ \"x\", \"y\" ]\ns = { k = \"v\" }\ni = 1\nprint(\"$a|${a}|${l[0]}|${l[i]}|${s.k}|$0x41|\\$a|$l|\\\\|\\q\")"
+        => "1|1|x|y|v|A|$a|[\"x\", \"y\"]|\\|\\q\n";
+    "x = 1\nx += 2\nx -= 4\nprint(x)" => "-1\n";
+    "a = [ 1 ]\na[0] += 4\ns = { }\ns.b = 2\ns[\"c\"] = 3\nprint(a, s.b, s.c)" => "[5] 2 3\n";
+    "if (1 < 2) { print(1) } else { print(2) }" => "1\n";
+    "if (false) { print(1) } else if (true) { print(2) } else { print(3) }" => "2\n";
+    "if (false) { print(1) } else if (false) { print(2) } else { print(3) }" => "3\n";
+    "if (false) { print(1) }" => "";
+    "s = { a = 1 }\nprint(defined(s.a), defined(s[\"b\"]), defined(s), defined(q))" => "true false true false\n";
+    "assert(true)\nassert(1 == 1, \"m\")\nprint(\"end\")" => "end\n";
+    "a = [ 1 ]\ngroup(\"g\") {\n  a += [ 2 ]\n  print(a, target_name)\n}\nprint(a)" => "[1, 2] g\n[1]\n//:g\n";
+    "a = 1\ntemplate(\"t\") {\n  print(a, target_name, invoker.x)\n}\nt(\"n\") {\n  x = 2\n}" => "1 n 2\n";
+    "a = 1\ntemplate(\"t\") {\n  print(a)\n}\na = 2\nt(\"n\") {\n}" => "1\n";
+    "template(\"t\") {\n  print(invoker.x, \"${invoker.y}\", defined(invoker.z))\n}\nt(\"n\") {\n  x = 1\n  y = \"b\"\n}"
+        => "1 b false\n";
+    "template(\"t\") {\n  print(2)\n}\nt(\"n\") {\n  print(1)\n}" => "1\n2\n";
+    "template(\"group\") {\n  target(\"group\", target_name) {\n    forward_variables_from(invoker, \"*\")\n  }\n}\ngroup(\"a\") {\n}"
+        => "//:a\n";
+    "template(\"t\") {\n  print(target_name)\n}\ntarget(\"t\", \"n\") {\n}\ntarget(\"group\", \"g\") {\n}"
+        => "n\n//:g\n";
+    "set_defaults(\"group\") {\n  a = 1\n}\ngroup(\"g\") {\n  print(a)\n}\nprint(defined(a))" => "1\nfalse\n//:g\n";
+    "s = {\n  a = 1\n  b = 2\n}\nforward_variables_from(s, [ \"a\", \"c\" ])\nprint(a, defined(b))" => "1 false\n";
+    "a = 0\ns = {\n  a = 1\n  b = 2\n}\nforward_variables_from(s, \"*\", [ \"b\" ])\nprint(a, defined(b))"
+        => "1 false\n";
+    "a = 1\nb = 2\nnot_needed(\"*\", [ \"b\" ])\nnot_needed([ \"b\" ])" => "";
+    "template(\"t\") {\n  not_needed(invoker, \"*\")\n}\nt(\"n\") {\n  x = 1\n}" => "";
+    "print(1 + \"a\", \"a\" + \"a\", [ 1, 2, 1 ] + [ 2 ] == [ 1, 2, 1, 2 ], [ 1 ] != [ 2 ])" => "1a aa true true\n";
+    "print([ 0, 10, 9, 8, 7, 6, 5, 4, 3, 2, 1, 11 ] - [ 1, 2, 3, 4, 5, 6, 7, 8, 9, 10 ])" => "[0, 11]\n";
+    "print([ \"a\", \"b\", \"c\", \"d\", \"e\", \"f\", \"g\", \"h\", \"i\", \"j\", \"k\", \"l\" ] - [ \"a\", \"b\", \"c\", \"d\", \"e\", \"f\", \"g\", \"h\", \"i\", \"j\" ])"
+        => "[\"k\", \"l\"]\n";
+    "print([ 1, \"1\", true, [ 1 ], { a = 1 } ] - [ \"1\", [ 1 ], { a = 1 } ])" => "[1, true]\n";
+    "print({ c = true a = { b = 1 } })" => "{\n  a = {\n  b = 1\n}\n  c = true\n}\n";
+    "l = [ 1, 3 ]\nl += [ 1, 2 ]\nprint(l)\nl -= [ 1 ]\nprint(l)" => "[1, 3, 1, 2]\n[3, 2]\n";
+    "a = [ 1, 2 ]\na[1] = 5\na[0] += 1\na[0] -= 3\nprint(a)" => "[-1, 5]\n";
+    "s = { }\ns.b = 1\ns.b += 2\nprint(s.b)\ns[\"b\"] = 4\nprint(s.b)" => "3\n4\n";
+    "x = [ 1 ]\nx -= [ 1 ]\nx = [ 2 ]\nprint(x)" => "[2]\n";
+    // A read goes outwards; `=` makes a name of its own; `+=` and an element's assignment copy inwards.
+    "group(\"g\") {\n  x = 1\n  print(x)\n  x = 2\n}" => "1\n//:g\n";
+    "s = {\n  x = 1\n}\nprint(s.x)" => "1\n";
+    "x = 1\ngroup(\"g\") {\n  print(x)\n}" => "1\n//:g\n";
+    "x = 1\ns = {\n  y = x\n}\nprint(s.y)" => "1\n";
+    "x = 1\ngroup(\"g\") {\n  x += 1\n  print(x)\n  x += 1\n}" => "2\n//:g\n";
+    "x = [ 1 ]\ngroup(\"g\") {\n  x[0] += 3\n  print(x)\n  x[0] += 3\n}\nprint(x)" => "[4]\n[1]\n//:g\n";
+    "a = 1\ntemplate(\"t\") {\n  a += 1\n  print(a)\n}\nt(\"n\") {\n}\nprint(a)" => "2\n1\n";
+    "a = [ 1 ]\ntemplate(\"t\") {\n  a[0] += 1\n  print(a)\n}\nt(\"n\") {\n}\nprint(a)" => "[2]\n[1]\n";
+    "template(\"t\") {\n  invoker.x += 1\n  print(invoker.x)\n}\nt(\"n\") {\n  x = 2\n}" => "3\n";
+};
+
+// Faults of tokens, operators and calls.
+const FAULTS: &str = faults! {
+    "@\n" => "1:1", "Invalid token.";
+    "x = 01\n" => "1:5", "Invalid number.";
+    "x = \"abc\n" => "1:5", "Unterminated string literal.";
+    "x = \"a$\"\n" => "1:7", "Invalid expansion in string.";
+    "a = 1\ny = a -1\nprint(y)\n" => "2:7", "Unexpected token.";
+    "x = = @\n" => "1:5", "Unexpected token.";
+    "x =\n" => "2:1", "Unexpected token.";
+    "group(\"a:b\") {\n}\n" => "1:1", "Invalid label.";
+    "group(\"a*\") {\n  x = 1\n}\n" => "1:1", "Invalid label.";
+    "x = 1 + true\n" => "1:7", "Wrong type of value.";
+    "x = print(1)\n" => "1:5", "Wrong type of value.";
+    "x = 9223372036854775807 + 1\n" => "1:25", "Integer overflow.";
+    "print([ 2 ] - [ 3 ])\n" => "1:13", "Item not found in the list.";
+    "x = [ 1 ]\ny = x[1]\n" => "2:6", "Index out of range.";
+    "print(defined(q.x))\n" => "1:15", "Undefined identifier \"q\".";
+    "a = [ 1 ]\na = [ 2 ]\nprint(a)\n" => "2:3", "Replacing nonempty list or scope \"a\".";
+    "if (1) {\n}\n" => "1:5", "Condition is not a boolean.";
+    "nope()\n" => "1:1", "Unknown function \"nope\".";
+    "print(1) {\n}\n" => "1:1", "Wrong arguments to \"print\".";
+    "assert(false)\n" => "1:1", "Assertion failed.";
+    "assert(1 == 2, \"one is \" + 1)\n" => "1:1", "Assertion failed. one is 1";
+    "exec_script(\"x.py\")\n" => "1:1", "\"exec_script\" is not in this profile.";
+    "group(\"a\") {\n  deps = 1\n}\n" => "1:1", "Wrong type for \"deps\".";
+    "group(\"a\") {\n  deps = [ 1 ]\n}\n" => "1:1", "Wrong type for \"deps\".";
+    "group(\"a\") {\n}\ngroup(\"a\") {\n}\n" => "3:1", "Duplicate item \"//:a\".";
+    "print(1)\nprint(nope)\n" => "2:7", "Undefined identifier \"nope\".";
+    "x = y\nx = 1 + true" => "1:5", "Undefined identifier \"y\".";
+    "x = 1\nprint(x + q + r)" => "2:11", "Undefined identifier \"q\".";
+    "x = 1 && q" => "1:7", "Wrong type of value.";
+    "x = true && 1" => "1:10", "Wrong type of value.";
+    "x = \"a\" < \"b\"" => "1:9", "Wrong type of value.";
+    "x = !1" => "1:5", "Wrong type of value.";
+    "x = [ 1 ]\ny = x[-1]" => "2:6", "Index out of range.";
+    "x = [ 1 ]\ny = x[q]" => "2:7", "Undefined identifier \"q\".";
+    "x = q[r]" => "1:5", "Undefined identifier \"q\".";
+    "s = { }\nx = s.y" => "2:6", "Undefined identifier \"y\".";
+    "print(\"ab$nope\")" => "1:10", "Undefined identifier \"nope\".";
+    "y = [ 1 ]\nx = \"a${y[1]}\"" => "2:7", "Index out of range.";
+    "x += 1" => "1:1", "Undefined identifier \"x\".";
+    "x = 1\nx += true" => "2:3", "Wrong type of value.";
+    "x = [ 1 ]\nx[1] = 3" => "2:2", "Index out of range.";
+    "x[0] = 3" => "1:1", "Undefined identifier \"x\".";
+    "s = { }\ns.y += 3" => "2:2", "Undefined identifier \"y\".";
+    "if (  \"a\" + \"b\") {\n}" => "1:7", "Condition is not a boolean.";
+    "print()" => "1:1", "Wrong arguments to \"print\".";
+    "print(q) { }" => "1:1", "Wrong arguments to \"print\".";
+    "assert(1)" => "1:8", "Wrong type of value.";
+    "assert(true, 1)" => "1:14", "Wrong type of value.";
+    "x = 1\ndefined(x.a)" => "2:9", "Wrong type of value.";
+    "foreach(i, 1) { }" => "1:12", "Wrong type of value.";
+    "group(\"g\") { group(\"h\") { } }" => "1:14", "\"group\" is not allowed here.";
+    "x = -9223372036854775808 - 1" => "1:26", "Integer overflow.";
+    "print([ 1, 2, 3, 4, 5, 6, 7, 8, 9, 10 ] - [ 1, 2, 3, 4, 5, 6, 7, 8, 9, 10, 11 ])"
+        => "1:41", "Item not found in the list.";
+    "a = [ 1, 2 ]\na[1] += 9223372036854775807" => "2:6", "Integer overflow.";
+    "a = [ 1 ]\na[0] += true" => "2:6", "Wrong type of value.";
+    "x = [ 1 ]\nx -= []\nx = [ 2 ]" => "3:3", "Replacing nonempty list or scope \"x\".";
+};
+
+// Faults of scopes and templates. A checked scope reports the name whose last assignment stands first, where nothing has
+// read it.
+const SCOPE_FAULTS: &str = faults! {
+    "group(\"g\") {\n  x = 1\n}\n" => "2:5", "Assignment had no effect: \"x\".";
+    "a = 1\nb = 2\na = 3\n" => "2:3", "Assignment had no effect: \"b\".";
+    "template(\"t\") {\n}\ntemplate(\"t\") {\n}" => "3:1", "\"t\" is already set.";
+    "template(\"t\") {\n  t(\"m\") {\n  }\n}\nt(\"n\") {\n}" => "2:3", "Unknown function \"t\".";
+    "template(\"w\") {\n  y = 1\n}\nw(\"x\") {\n  junk = 1\n}" => "5:8", "Assignment had no effect: \"junk\".";
+    "template(\"w\") {\n  y = 1\n}\nw(\"x\") {\n}" => "2:5", "Assignment had no effect: \"y\".";
+    "template(\"w\") {\n  not_needed(invoker, [ \"a\" ])\n}\nw(\"x\") {\n  a = 1\n  b = 1\n}"
+        => "6:5", "Assignment had no effect: \"b\".";
+    "template(\"w\") {\n  group(target_name) {\n    x = []\n    forward_variables_from(invoker, [ \"x\" ])\n  }\n}\nw(\"x\") {\n  x = []\n}"
+        => "4:5", "\"x\" is already set.";
+    "target(\"nope\", \"a\") {\n}" => "1:1", "Wrong arguments to \"target\".";
+    "target(\"executable\", \"a\") {\n}" => "1:1", "\"executable\" is not in this profile.";
+    "target(1, 2) {\n}" => "1:8", "Wrong type of value.";
+    "set_defaults(\"group\") {\n  target_name = 1\n}\ngroup(\"g\") {\n}" => "4:1", "\"target_name\" is already set.";
+    "forward_variables_from(1, \"*\")" => "1:24", "Wrong type of value.";
+    "forward_variables_from({ }, \"a\")" => "1:1", "Wrong arguments to \"forward_variables_from\".";
+    "import(\"\")" => "1:8", "Invalid path.";
+    "group(\"g\") {\n  x = 1\n  x = 2\n}" => "3:5", "Assignment had no effect: \"x\".";
+    "x = 1\ngroup(\"g\") {\n}" => "1:3", "Assignment had no effect: \"x\".";
+    "x = 1\ns = {\n  x = 2\n}\nprint(s.x)" => "1:3", "Assignment had no effect: \"x\".";
+    "x = 1\ngroup(\"g\") {\n  x = 2\n  print(x)\n}" => "1:3", "Assignment had no effect: \"x\".";
+    "x = 1\ngroup(\"g\") {\n  x += 2\n}" => "3:5", "Assignment had no effect: \"x\".";
+    "x = 1\ngroup(\"g\") {\n  x += 2\n  x += 3\n}" => "4:5", "Assignment had no effect: \"x\".";
+    "x = [ 1 ]\ngroup(\"g\") {\n  x[0] += 2\n}" => "3:8", "Assignment had no effect: \"x\".";
+};
+
+#[test]
+fn files_say_their_lines_and_then_their_labels(rt: HostRuntime) -> Result<(), Fail> {
+    for row in SAID.split_terminator('\x1e') {
+        assert!(rt; row_holds(&rt, rt.alloc(), row)?, "at {row}");
+    }
+    Ok(())
+}
+
+#[test]
+fn faults_are_said_with_their_places(rt: HostRuntime) -> Result<(), Fail> {
+    for row in FAULTS.split_terminator('\x1e') {
+        assert!(rt; row_holds(&rt, rt.alloc(), row)?, "at {row}");
+    }
+    Ok(())
+}
+
+#[test]
+fn faults_of_scopes_are_said_with_their_places(rt: HostRuntime) -> Result<(), Fail> {
+    for row in SCOPE_FAULTS.split_terminator('\x1e') {
+        assert!(rt; row_holds(&rt, rt.alloc(), row)?, "at {row}");
+    }
+    Ok(())
+}

@@ -1,0 +1,27 @@
+//! Tests of whole runs over trees in memory, and of the calls between the tree and the top call.
+#![tactic(auto)]
+
+#[cfg(test)]
+mod commands;
+#[cfg(test)]
+mod failures;
+#[cfg(test)]
+mod files;
+#[cfg(test)]
+mod imports;
+#[cfg(test)]
+mod names;
+#[cfg(test)]
+mod nesting;
+#[cfg(test)]
+mod runs;
+#[cfg(test)]
+mod scopes;
+#[cfg(test)]
+mod sizes;
+#[cfg(test)]
+mod sources;
+#[cfg(test)]
+mod units;
+#[cfg(test)]
+mod values;

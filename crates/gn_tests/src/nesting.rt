@@ -1,0 +1,83 @@
+// How deep files and values nest.
+
+use crate::runs::file_says;
+use std::alloc::{AllocError, Global};
+use std::test::Fail;
+use std::thread::Threads;
+
+// 200 brackets, each the leftmost operand of as many operators as the limit on nesting leaves.
+fn nested_sums(alloc: Global) -> Result<String, AllocError> {
+    let mut file = String::from_str(alloc, "x = ")?;
+    push_times(&mut file, "(", 200)?;
+    file.push_str("1")?;
+    for operators in 0..200 {
+        push_times(&mut file, " + 1", operators)?;
+        file.push_str(")")?;
+    }
+    file.push_str("\nprint(x)")?;
+    Ok(file)
+}
+
+// Puts a text at the end so many times.
+fn push_times(file: &mut String, text: &str, times: usize) -> Result<(), AllocError> {
+    for _ in 0..times {
+        file.push_str(text)?;
+    }
+    Ok(())
+}
+
+// 200 lists, each the only item of the one around it, between two texts.
+fn nested_lists(alloc: Global, before: &str, behind: &str) -> Result<String, AllocError> {
+    let mut file = String::from_str(alloc, before)?;
+    push_times(&mut file, "[", 200)?;
+    push_times(&mut file, "]", 200)?;
+    file.push_str(behind)?;
+    Ok(file)
+}
+
+fn sums_say<R: Threads + Sync>(rt: &R, alloc: Global, end: &str) -> Result<bool, AllocError> {
+    let file = nested_sums(alloc)?;
+    file_says(rt, alloc, file.as_bytes(), end)
+}
+
+// Whether a file with 200 nested lists between two texts ends so.
+fn lists_say<R: Threads + Sync>(
+    rt: &R,
+    alloc: Global,
+    before: &str,
+    behind: &str,
+    end: &str,
+) -> Result<bool, AllocError> {
+    let file = nested_lists(alloc, before, behind)?;
+    file_says(rt, alloc, file.as_bytes(), end)
+}
+
+// Whether 200 nested lists are printed as they stand.
+fn lists_are_printed<R: Threads + Sync>(rt: &R, alloc: Global) -> Result<bool, AllocError> {
+    let end = nested_lists(alloc, "0", "\n")?;
+    lists_say(rt, alloc, "x = ", "\nprint(x)\n", &end)
+}
+
+#[test]
+fn operators_are_walked_in_a_loop(rt: HostRuntime) -> Result<(), Fail> {
+    assert!(rt; sums_say(&rt, rt.alloc(), "019901\n")?);
+    Ok(())
+}
+
+#[test]
+fn brackets_nest_up_to_the_limit(rt: HostRuntime) -> Result<(), Fail> {
+    let deep = "1ERROR at //BUILD.gn:1:205: Nesting is too deep.\n";
+    assert!(rt; lists_are_printed(&rt, rt.alloc())?);
+    assert!(rt; lists_say(&rt, rt.alloc(), "x = [", "]\nprint(x)\n", deep)?);
+    Ok(())
+}
+
+// What nests too deep only as a value: a list that is written out, and an item that is added to.
+#[test]
+fn values_nest_up_to_the_limit(rt: HostRuntime) -> Result<(), Fail> {
+    let printed = "1ERROR at //BUILD.gn:2:7: Value is too long.\n";
+    let added = "1ERROR at //BUILD.gn:3:6: Value is too long.\n";
+    assert!(rt; lists_say(&rt, rt.alloc(), "x = ", "\nprint([ x ])\n", printed)?);
+    assert!(rt; lists_say(&rt, rt.alloc(), "x = ", "\ny = [ [] ]\ny[0] += x\n", added)?);
+    Ok(())
+}

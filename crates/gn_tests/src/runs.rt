@@ -1,0 +1,105 @@
+// Runs over trees in memory. A table of runs is one text, in which a row is the files of a tree, the byte 28, and then the
+// status and the text with which the run ends; the byte 30 ends a row. The files are each a path, the byte 31, the text of
+// the file and the byte 29.
+ghost use Rattle.std.specs.Prelude.{IfOk, string_bytes};
+ghost use Rattle.gn_top.specs.Hosts.{IsRoot};
+
+use gn_outside::{Tree, TreeSink, TreeSource};
+use gn_top::{Host, One, run_one};
+use std::alloc::{AllocError, Global};
+use std::thread::Threads;
+
+/// The host of all runs.
+pub(crate) fn host(alloc: Global) -> Result<Host, AllocError>
+    ensures { IfOk result (λ host. IsRoot (string_bytes host.root)) }
+{
+    Ok(Host {
+        os: String::from_str(alloc, "linux")?,
+        cpu: String::from_str(alloc, "x64")?,
+        root: String::from_str(alloc, "/src")?,
+    })
+}
+
+/// The words of a command line.
+pub(crate) fn words(alloc: Global, line: &str) -> Result<Vec<String>, AllocError> {
+    let mut words = Vec::new(alloc);
+    for word in line.split_whitespace() {
+        words.push(String::from_str(alloc, word)?)?;
+    }
+    Ok(words)
+}
+
+// Puts a file of a row.
+fn put(tree: &mut Tree, file: &str) -> Result<(), AllocError> {
+    match file.split_once('\x1f') {
+        Some((path, text)) => tree.put(path, text.as_bytes()),
+        None => Ok(()),
+    }
+}
+
+/// The tree of a row's files.
+pub(crate) fn tree_of(alloc: Global, files: &str) -> Result<Tree, AllocError> {
+    let mut tree = Tree::new(alloc);
+    for file in files.split_terminator('\x1d') {
+        put(&mut tree, file)?;
+    }
+    Ok(tree)
+}
+
+/// A run of a command line.
+pub(crate) fn run<R: Threads + Sync>(
+    rt: &R,
+    alloc: Global,
+    line: &str,
+    source: &mut TreeSource,
+    sink: &mut TreeSink,
+) -> Result<One, AllocError> {
+    let words = words(alloc, line)?;
+    let host = host(alloc)?;
+    Ok(run_one(rt, alloc, &words, &host, source, sink))
+}
+
+/// Whether this status and this text are those of a row: its first byte is the status as a digit.
+pub(crate) fn is_end(status: u8, said: &[u8], end: &str) -> bool {
+    match end.as_bytes().split_first() {
+        Some((digit, text)) => *digit == b'0'.wrapping_add(status) && said == text,
+        None => false,
+    }
+}
+
+/// Whether `ls out` over a tree ends so, says this text, and loads one build file.
+pub(crate) fn tree_says<R: Threads + Sync>(
+    rt: &R,
+    alloc: Global,
+    tree: Tree,
+    end: &str,
+) -> Result<bool, AllocError> {
+    let mut source = TreeSource::new(alloc, tree, Vec::new(alloc));
+    let mut sink = TreeSink::new(alloc, Vec::new(alloc));
+    let one = run(rt, alloc, "ls out", &mut source, &mut sink)?;
+    Ok(one.units == 1 && is_end(one.status, sink.said(), end))
+}
+
+/// Whether `ls out` over this build file alone ends so, says this text, and loads one build file.
+pub(crate) fn file_says<R: Threads + Sync>(
+    rt: &R,
+    alloc: Global,
+    file: &[u8],
+    end: &str,
+) -> Result<bool, AllocError> {
+    let mut tree = Tree::new(alloc);
+    tree.put("//BUILD.gn", file)?;
+    tree_says(rt, alloc, tree, end)
+}
+
+/// Whether `ls out` over the tree of a row ends as the row has it, and loads one build file.
+pub(crate) fn row_holds<R: Threads + Sync>(
+    rt: &R,
+    alloc: Global,
+    row: &str,
+) -> Result<bool, AllocError> {
+    match row.split_once('\x1c') {
+        Some((files, end)) => tree_says(rt, alloc, tree_of(alloc, files)?, end),
+        None => Ok(false),
+    }
+}

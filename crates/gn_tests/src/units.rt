@@ -1,0 +1,182 @@
+// Executions over a library that has one file.
+
+use gn_eval::{DefineError, Definer, Found, Imported, LibStop, Library};
+use gn_items::{Claim, Code, Fault, Item, ItemKind, Key, When};
+use gn_paths::{Path, Place, Text, resolve};
+use gn_scopes::Env;
+use gn_tree::Position;
+use gn_unit::{EvalStop, Unit, evaluate};
+use std::alloc::Global;
+use std::test::Fail;
+
+// What there is at each path.
+#[derive(Clone, Copy)]
+enum File<'a> {
+    Bytes(&'a [u8]),
+    Absent,
+    TooBig,
+    Unread,
+}
+
+// A library that tells nothing of which something is claimed.
+#[derive(Drop)]
+struct OneFile<'a> {
+    file: File<'a>,
+    stops: u64,
+}
+
+impl Library for OneFile<'_> {
+    ghost use Rattle.std.specs.Prelude.{[], None};
+    ghost use Rattle.gn_runs.specs.Runs.{content_of};
+
+    ghost state = { λ s. record {
+      told = None;
+      need = record { question = content_of []; place = record { file = []; line = 1; column = 1 } };
+      stops = s.stops;
+      seat = [];
+    } };
+
+    fn import(&mut self, _: Global, _: &Path, _: &Place) -> Result<Imported, LibStop> {
+        Err(LibStop::Memory)
+    }
+
+    fn bytes(&mut self, alloc: Global, _: &Path, _: &Place) -> Result<Found, LibStop> {
+        match self.file {
+            File::Bytes(bytes) if bytes.len() <= 16_777_216 => {
+                match Text::from_bytes(alloc, bytes) {
+                    Ok(bytes) => Ok(Found::Bytes(bytes)),
+                    Err(_) => Err(LibStop::Memory),
+                }
+            }
+            File::Absent => Ok(Found::Absent),
+            File::Unread => match self.stops.checked_add(1) {
+                Some(stops) => {
+                    self.stops = stops;
+                    Err(LibStop::Stopped)
+                }
+                None => Err(LibStop::Memory),
+            },
+            _ => Ok(Found::TooBig),
+        }
+    }
+}
+
+impl Definer for OneFile<'_> {
+    fn define(
+        &mut self,
+        _: Global,
+        _: ItemKind,
+        _: &Text,
+        _: &mut Env,
+        _: Position,
+    ) -> Result<Item, DefineError> {
+        Err(DefineError::Memory)
+    }
+}
+
+// What an execution has ended with.
+type Done = Result<(Claim, Unit), (Claim, EvalStop)>;
+
+// The execution of a build file.
+fn load(alloc: Global, directory: &[u8], file: File<'_>) -> Result<Done, Fail> {
+    let root = Path::root(alloc)?;
+    let directory = resolve(alloc, &root, directory)?;
+    let key = Key::Load(directory, Text::new(alloc));
+    let mut library = OneFile { file, stops: 0 };
+    Ok(evaluate(alloc, Claim::issue(key, 0, 0), &mut library))
+}
+
+// The execution of a file that is imported.
+fn import(alloc: Global, path: &[u8], file: File<'_>) -> Result<Done, Fail> {
+    let root = Path::root(alloc)?;
+    let path = resolve(alloc, &root, path)?;
+    let key = Key::Import(When::Usual, Text::new(alloc), path);
+    let mut library = OneFile { file, stops: 0 };
+    Ok(evaluate(alloc, Claim::issue(key, 0, 0), &mut library))
+}
+
+// What is expected of an execution.
+#[derive(Clone, Copy)]
+enum Expected<'a> {
+    // So many lines of a build file.
+    Built(usize),
+    // So many lines of a file that is imported.
+    Imported(usize),
+    // A fault with this code in this file, in this line.
+    Wrong(Code, &'a [u8], u32),
+    // The library has stopped.
+    Stopped,
+}
+
+// Whether a fault has this code in this file, in this line.
+fn is_fault(fault: &Fault, code: Code, file: &[u8], line: u32) -> bool {
+    match &fault.place {
+        Some(place) => fault.code == code && place.file.as_bytes() == file && place.line == line,
+        None => false,
+    }
+}
+
+// Whether an execution has ended so.
+fn is_so(done: &Done, expected: Expected<'_>) -> bool {
+    match (done, expected) {
+        (Ok((_, Unit::Load(outcome))), Expected::Built(lines)) => outcome.prints().len() == lines,
+        (Ok((_, Unit::Import(_, outcome))), Expected::Imported(lines)) => {
+            outcome.prints().len() == lines
+        }
+        (Ok((_, Unit::Wrong(fault))), Expected::Wrong(code, file, line)) => {
+            is_fault(fault, code, file, line)
+        }
+        (Err((_, EvalStop::Stopped)), Expected::Stopped) => true,
+        _ => false,
+    }
+}
+
+// Whether a build file ends so.
+fn loads(
+    alloc: Global,
+    directory: &[u8],
+    file: File<'_>,
+    expected: Expected<'_>,
+) -> Result<bool, Fail> {
+    let done = load(alloc, directory, file)?;
+    Ok(is_so(&done, expected))
+}
+
+// Whether a file that is imported ends so.
+fn imports(alloc: Global, file: File<'_>, expected: Expected<'_>) -> Result<bool, Fail> {
+    let done = import(alloc, b"//a/b.gni", file)?;
+    Ok(is_so(&done, expected))
+}
+
+#[test]
+fn files_are_executed_by_their_keys(rt: HostRuntime) -> Result<(), Fail> {
+    let alloc = rt.alloc();
+    let lines = File::Bytes(b"print(\"a\")\n");
+    assert!(rt; loads(alloc, b"//", lines, Expected::Built(1))?);
+    assert!(rt; imports(alloc, lines, Expected::Imported(1))?);
+    Ok(())
+}
+
+// A name that nothing reads is a fault of a build file, and none of a file that is imported.
+#[test]
+fn what_nothing_reads_is_a_fault_of_a_build_file(rt: HostRuntime) -> Result<(), Fail> {
+    let alloc = rt.alloc();
+    let name = File::Bytes(b"x = 1\n");
+    let unread = Expected::Wrong(Code::NoEffect, b"//a/BUILD.gn", 1);
+    assert!(rt; loads(alloc, b"//a", name, unread)?);
+    assert!(rt; imports(alloc, name, Expected::Imported(0))?);
+    Ok(())
+}
+
+#[test]
+fn files_that_cannot_run_are_wrong(rt: HostRuntime) -> Result<(), Fail> {
+    let alloc = rt.alloc();
+    let absent = Expected::Wrong(Code::NoFile, b"//a/BUILD.gn", 1);
+    assert!(rt; loads(alloc, b"//a", File::Absent, absent)?);
+    let large = Expected::Wrong(Code::FileTooBig, b"//a/BUILD.gn", 1);
+    assert!(rt; loads(alloc, b"//a", File::TooBig, large)?);
+    let bad = Expected::Wrong(Code::Unexpected, b"//a/b.gni", 2);
+    assert!(rt; imports(alloc, File::Bytes(b"\nx = = 1\n"), bad)?);
+    assert!(rt; imports(alloc, File::Unread, Expected::Stopped)?);
+    Ok(())
+}
