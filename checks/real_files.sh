@@ -58,6 +58,9 @@ printf 'import("a/b/c.gni")\nimport("//d.gni")\nt(x) {\n}\n' >"$folder/imports/B
 printf 'import("../../d.gni")\nx = d\nprint("c")\n' >"$folder/imports/a/b/c.gni"
 printf 'd = "e"\ntemplate("t") {\n  group(target_name) {\n  }\n}\nprint("d")\n' >"$folder/imports/d.gni"
 printf 'import("a.gni")\n' >"$folder/import_folder/BUILD.gn"
+mkdir -p "$folder/import_root" "$folder/pipe"
+printf 'import("//")\n' >"$folder/import_root/BUILD.gn"
+mkfifo "$folder/pipe/BUILD.gn"
 head -c 16777217 /dev/zero | tr '\0' ' ' >"$folder/big/BUILD.gn"
 
 run "$folder/groups" ls out
@@ -82,6 +85,10 @@ run "$folder/imports" ls out
 expect "imports below folders" 0 $'c\nd\n//:e\n'
 run "$folder/import_folder" ls out
 expect "a folder in an import's place" 3 $'gn: cannot read //a.gni\n'
+run "$folder/import_root" ls out
+expect "the source root in an import's place" 3 $'gn: cannot read //\n'
+run "$folder/pipe" ls out
+expect "a named pipe in the file's place" 3 "$cannot_read"
 run "$folder/groups"
 expect "no words" 2 "$usage"
 run "$folder/groups" frob

@@ -21,7 +21,7 @@ impl<R: Files + Print + Drop> FileSink<R> {
 }
 
 impl<R: Files + Print + Drop> Sink for FileSink<R> {
-    ghost state = { λ s. record { said = None; files = None; faults = s.faults } };
+    ghost state = { λ s. record { events = None; faults = s.faults } };
 
     fn say(&mut self, bytes: &[u8]) -> Result<(), SinkStop> {
         if self.faults == u64::MAX {

@@ -6,6 +6,7 @@ use gn_outside::{ReadStop, Source};
 use std::alloc::Global;
 use std::fs;
 use std::io::{ErrorKind, Read};
+use std::os::unix::fs::FileTypeExt;
 use std::rt::Files;
 
 // The longest file that is read, in bytes.
@@ -29,6 +30,7 @@ pub struct FileSource<R: Files + Drop> {
 
 // How reading a file ended.
 enum FileEnd {
+    Absent,
     Whole(Vec<u8>),
     TooBig,
     Failed,
@@ -46,13 +48,8 @@ impl<R: Files + Drop> Source for FileSource<R> {
     ghost state = { λ s. record { tree = None; reads = None; faults = s.faults } };
 
     fn read(&mut self, alloc: Global, path: &str) -> Result<Option<Vec<u8>>, ReadStop> {
-        let name = path.strip_prefix("//").unwrap_or(path);
-        let end = match fs::open(&self.rt, name) {
-            Ok(mut file) => read_file(alloc, &mut file),
-            Err(error) if is_absence(error.kind()) => return Ok(None),
-            Err(_) => FileEnd::Failed,
-        };
-        match end {
+        match read_named(&self.rt, alloc, name_of(path)) {
+            FileEnd::Absent => Ok(None),
             FileEnd::Whole(bytes) => Ok(Some(bytes)),
             FileEnd::TooBig => Err(ReadStop::TooBig(16_777_217)),
             FileEnd::Memory => Err(ReadStop::Memory),
@@ -62,6 +59,36 @@ impl<R: Files + Drop> Source for FileSource<R> {
                 Err(ReadStop::Failed)
             }
         }
+    }
+}
+
+// The name below the current folder, or the system's path. The source root is the current folder itself.
+fn name_of(path: &str) -> &str {
+    match path.strip_prefix("//") {
+        Some("") => ".",
+        Some(name) => name,
+        None => path,
+    }
+}
+
+// What stands at a name. A named pipe isn't opened, since that would wait for somebody to write into it.
+fn read_named<R: Files>(rt: &R, alloc: Global, name: &str) -> FileEnd
+    ensures { IsWithin result }
+{
+    if is_named_pipe(rt, name) {
+        return FileEnd::Failed;
+    }
+    match fs::open(rt, name) {
+        Ok(mut file) => read_file(alloc, &mut file),
+        Err(error) if is_absence(error.kind()) => FileEnd::Absent,
+        Err(_) => FileEnd::Failed,
+    }
+}
+
+fn is_named_pipe<R: Files>(rt: &R, name: &str) -> bool {
+    match fs::metadata(rt, name) {
+        Ok(metadata) => metadata.file_type().is_fifo(),
+        Err(_) => false,
     }
 }
 

@@ -81,6 +81,12 @@ const SAID: &str = said! {
     "a = 1\ntemplate(\"t\") {\n  a += 1\n  print(a)\n}\nt(\"n\") {\n}\nprint(a)" => "2\n1\n";
     "a = [ 1 ]\ntemplate(\"t\") {\n  a[0] += 1\n  print(a)\n}\nt(\"n\") {\n}\nprint(a)" => "[2]\n[1]\n";
     "template(\"t\") {\n  invoker.x += 1\n  print(invoker.x)\n}\nt(\"n\") {\n  x = 2\n}" => "3\n";
+    // A definition keeps of each name what stands innermost; the invoker has the names of its block alone; `"*"` copies all
+    // but the name of the target.
+    "x = 1\nprint(x)\ngroup(\"g\") {\n  x = 2\n  template(\"t\") {\n    print(x)\n  }\n  t(\"n\") {\n  }\n}" => "1\n2\n//:g\n";
+    "z = 1\ntemplate(\"t\") {\n  print(defined(invoker.z))\n}\nt(\"n\") {\n}\nprint(z)" => "false\n1\n";
+    "template(\"t\") {\n  group(\"g\") {\n    forward_variables_from(invoker, \"*\")\n    print(target_name)\n  }\n}\nt(\"n\") {\n}"
+        => "g\n//:g\n";
 };
 
 // Faults of tokens, operators and calls.
@@ -101,6 +107,7 @@ const FAULTS: &str = faults! {
     "x = [ 1 ]\ny = x[1]\n" => "2:6", "Index out of range.";
     "print(defined(q.x))\n" => "1:15", "Undefined identifier \"q\".";
     "a = [ 1 ]\na = [ 2 ]\nprint(a)\n" => "2:3", "Replacing nonempty list or scope \"a\".";
+    "a = [ 1 ] a = [ 2 ]" => "1:13", "Replacing nonempty list or scope \"a\".";
     "if (1) {\n}\n" => "1:5", "Condition is not a boolean.";
     "nope()\n" => "1:1", "Unknown function \"nope\".";
     "print(1) {\n}\n" => "1:1", "Wrong arguments to \"print\".";

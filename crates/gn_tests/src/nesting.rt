@@ -1,5 +1,7 @@
 // How deep files and values nest.
 
+ghost use Rattle.std.specs.Prelude.{◌≤◌};
+
 use crate::runs::file_says;
 use std::alloc::{AllocError, Global};
 use std::test::Fail;
@@ -33,6 +35,34 @@ fn nested_lists(alloc: Global, before: &str, behind: &str) -> Result<String, All
     push_times(&mut file, "]", 200)?;
     file.push_str(behind)?;
     Ok(file)
+}
+
+// So many scopes, each the only entry of the next, and whether the last one has its entry.
+fn nested_scopes(alloc: Global, count: u32) -> Result<String, AllocError> {
+    let mut file = String::from_str(alloc, "x0 = { }\n")?;
+    for number in 1..count {
+        push_scope(alloc, &mut file, number)?;
+    }
+    Ok(file)
+}
+
+fn push_scope(alloc: Global, file: &mut String, number: u32) -> Result<(), AllocError>
+    requires { 1 ≤ number }
+{
+    let line = format!(in alloc; "x{number} = {{ a = x{} }}\n", number - 1)?;
+    file.push_str(line.as_str())
+}
+
+// Whether a file with 200 scopes in one another ends so.
+fn scopes_say<R: Threads + Sync>(
+    rt: &R,
+    alloc: Global,
+    behind: &str,
+    end: &str,
+) -> Result<bool, AllocError> {
+    let mut file = nested_scopes(alloc, 200)?;
+    file.push_str(behind)?;
+    file_says(rt, alloc, file.as_bytes(), end)
 }
 
 fn sums_say<R: Threads + Sync>(rt: &R, alloc: Global, end: &str) -> Result<bool, AllocError> {
@@ -72,12 +102,15 @@ fn brackets_nest_up_to_the_limit(rt: HostRuntime) -> Result<(), Fail> {
     Ok(())
 }
 
-// What nests too deep only as a value: a list that is written out, and an item that is added to.
+// What nests too deep only as a value: a list that is written out, an item that is added to, and one that is replaced. A scope of the greatest
+// depth is none of these.
 #[test]
 fn values_nest_up_to_the_limit(rt: HostRuntime) -> Result<(), Fail> {
     let printed = "1ERROR at //BUILD.gn:2:7: Value is too long.\n";
     let added = "1ERROR at //BUILD.gn:3:6: Value is too long.\n";
     assert!(rt; lists_say(&rt, rt.alloc(), "x = ", "\nprint([ x ])\n", printed)?);
     assert!(rt; lists_say(&rt, rt.alloc(), "x = ", "\ny = [ [] ]\ny[0] += x\n", added)?);
+    assert!(rt; lists_say(&rt, rt.alloc(), "x = ", "\ny = [ [] ]\ny[0] = x\n", added)?);
+    assert!(rt; scopes_say(&rt, rt.alloc(), "print(defined(x199.a))\n", "0true\n")?);
     Ok(())
 }

@@ -4,7 +4,7 @@
 ghost use Rattle.std.specs.Prelude.{IfOk, string_bytes};
 ghost use Rattle.gn_top.specs.Hosts.{IsRoot};
 
-use gn_outside::{Tree, TreeSink, TreeSource};
+use gn_outside::{Sink, Tree, TreeSink, TreeSource};
 use gn_top::{Host, One, run_one};
 use std::alloc::{AllocError, Global};
 use std::thread::Threads;
@@ -47,12 +47,12 @@ pub(crate) fn tree_of(alloc: Global, files: &str) -> Result<Tree, AllocError> {
 }
 
 /// A run of a command line.
-pub(crate) fn run<R: Threads + Sync>(
+pub(crate) fn run<R: Threads + Sync, K: Sink>(
     rt: &R,
     alloc: Global,
     line: &str,
     source: &mut TreeSource,
-    sink: &mut TreeSink,
+    sink: &mut K,
 ) -> Result<One, AllocError> {
     let words = words(alloc, line)?;
     let host = host(alloc)?;

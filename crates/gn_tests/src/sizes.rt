@@ -1,4 +1,4 @@
-// The greatest size of a file.
+// The greatest size of a file and of a string.
 
 use crate::runs::file_says;
 use std::alloc::{AllocError, Global};
@@ -15,6 +15,29 @@ fn spaces_say<R: Threads + Sync>(
     let mut spaces = Vec::new(alloc);
     spaces.resize(size, b' ')?;
     file_says(rt, alloc, &spaces, end)
+}
+
+// Whether a file ends so in which a string of one byte is doubled 24 times, to the greatest length.
+fn doubled_says<R: Threads + Sync>(
+    rt: &R,
+    alloc: Global,
+    behind: &str,
+    end: &str,
+) -> Result<bool, AllocError> {
+    let mut file = String::from_str(alloc, "s = \"a\"\n")?;
+    for _ in 0..24 {
+        file.push_str("s += s\n")?;
+    }
+    file.push_str(behind)?;
+    file_says(rt, alloc, file.as_bytes(), end)
+}
+
+#[test]
+fn a_string_grows_up_to_the_limit(rt: HostRuntime) -> Result<(), Fail> {
+    let too_long = "1ERROR at //BUILD.gn:26:3: Value is too long.\n";
+    assert!(rt; doubled_says(&rt, rt.alloc(), "print(s == \"\")\n", "0false\n")?);
+    assert!(rt; doubled_says(&rt, rt.alloc(), "s += \"a\"\nprint(s == \"\")\n", too_long)?);
+    Ok(())
 }
 
 #[test]

@@ -3,44 +3,47 @@ use Rattle.std.proofs.Common.{◌≡◌, inl, inr, ⊎_elim, ℕ, ◌<◌, ◌�
 use Rattle.std.specs.Prelude.{Option, None, Some, option_map}
 use Rattle.std.proofs.Math.Seq.{drop-length}
 use Rattle.std.specs.Prelude.{slice_set, slice_index_or}
-use Rattle.gn_outside.specs.States.{SourceState, SinkState}
+use Rattle.gn_outside.specs.States.{SourceState, SinkState, PutFile, Piece, Put}
 use Rattle.gn_top.specs.Said.{Said}
 use Rattle.gn_outside.specs.Lists.{EachPair, SomePair, Extends}
 use Rattle.gn_outside.specs.Sources.{AllTellReads, total_faults, FailedAt, IsLeastFailure, reads_since, joined_reads, GoesOn}
 use Rattle.gn_top.specs.Texts.{cannot_read_line}
-use Rattle.gn_top.specs.Run.{IsCutShort, CutsFailure, CannotRead, EndsWithUsage}
+use Rattle.gn_top.specs.Run.{EndsAs, piece_of, SaysPart, IsCutShort, CutsFailure, CannotRead, EndsWithUsage}
 
 pub nothing_more : {X : Type 0} (before after : Option (List X)) → after ≡ before → Extends before after []
 nothing_more None after same = same
 nothing_more (Some xs) after same = same ∙ ap (λ (ys : List _). Some ys) (sym (append-nil xs))
 
-pub cut_answer : (meaning : Said) (text : List ℕ) (sources now : List SourceState) (sink after : SinkState) → text ≡ meaning.text → after.files ≡ sink.files
-    → (n : ℕ) × Extends sink.said after.said (take n text) → IsCutShort meaning sources now sink after
-cut_answer meaning text sources now sink after same files part = record {
-  files = (0, nothing_more sink.files after.files files);
-  text = (part.0, inl (part.1 ∙ ap (λ (t : List ℕ). option_map (λ xs. xs ++ take part.0 t) sink.said) same));
+-- a meaning without files tells its text alone
+pub ends_as : (meaning : Said) (text : List ℕ) (status wanted : ℕ) (sink after : SinkState) → text ≡ meaning.text → meaning.files ≡ [] → wanted ≡ meaning.status → status ≡ wanted
+    → Extends sink.events after.events (piece_of text) → EndsAs meaning sink after status
+ends_as meaning text status wanted sink after same none at under told = record {
+  same_status = under ∙ at;
+  events = told ∙ ap (λ (t : List ℕ). option_map (λ xs. xs ++ piece_of t) sink.events) same
+      ∙ ap (λ (files : List PutFile). option_map (λ xs. xs ++ (map Put files ++ piece_of meaning.text)) sink.events) (sym none);
 }
 
--- nothing has been said or put
+pub cut_answer : (meaning : Said) (text : List ℕ) (sources now : List SourceState) (sink after : SinkState) → text ≡ meaning.text → meaning.files ≡ [] → SaysPart sink after text
+    → IsCutShort meaning sources now sink after
+cut_answer meaning text sources now sink after same none (inl nothing) = inl (inl (0, nothing_more sink.events after.events nothing))
+cut_answer meaning text sources now sink after same none (inr (n, part)) = inl (inr (n,
+    part ∙ ap (λ (t : List ℕ). option_map (λ xs. xs ++ Piece (take n t) ∷ []) sink.events) same
+    ∙ ap (λ (files : List PutFile). option_map (λ xs. xs ++ (map Put files ++ Piece (take n meaning.text) ∷ [])) sink.events) (sym none)))
+
+-- nothing has been told
 pub cut_at_once : (meaning : Said) (sources now : List SourceState) (sink : SinkState) → IsCutShort meaning sources now sink sink
-cut_at_once meaning sources now sink = record {
-  files = (0, nothing_more sink.files sink.files refl);
-  text = (0, inl (nothing_more sink.said sink.said refl));
-}
+cut_at_once meaning sources now sink = inl (inl (0, nothing_more sink.events sink.events refl))
 
-pub cut_failure : (meaning : Said) (path : List ℕ) (before now : SourceState) (sink after : SinkState) → before.faults < now.faults → after.files ≡ sink.files
-    → (n : ℕ) × Extends sink.said after.said (take n (cannot_read_line path)) → (AllTellReads (before ∷ []) → IsLeastFailure (before ∷ []) (now ∷ []) path) → IsCutShort meaning (before ∷ []) (now ∷ []) sink after
-cut_failure meaning path before now sink after rose files part least = record {
-  files = (0, nothing_more sink.files after.files files);
-  text = (part.0, inr (path, record { failed = let both : before.faults + 0 < now.faults + 0 = omega arith in both; text = part.1; least = least }));
-}
+pub cut_failure : (meaning : Said) (path : List ℕ) (before now : SourceState) (sink after : SinkState) → before.faults < now.faults
+    → SaysPart sink after (cannot_read_line path) → (AllTellReads (before ∷ []) → IsLeastFailure (before ∷ []) (now ∷ []) path) → IsCutShort meaning (before ∷ []) (now ∷ []) sink after
+cut_failure meaning path before now sink after rose part least =
+    inr (path, record { failed = let both : before.faults + 0 < now.faults + 0 = omega arith in both; text = part; least = least })
 
-pub one_failed : (path : List ℕ) (before now : SourceState) (sink after : SinkState) → before.faults < now.faults → after.files ≡ sink.files
-    → Extends sink.said after.said (cannot_read_line path) → (AllTellReads (before ∷ []) → IsLeastFailure (before ∷ []) (now ∷ []) path)
+pub one_failed : (path : List ℕ) (before now : SourceState) (sink after : SinkState) → before.faults < now.faults
+    → Extends sink.events after.events (piece_of (cannot_read_line path)) → (AllTellReads (before ∷ []) → IsLeastFailure (before ∷ []) (now ∷ []) path)
     → CannotRead (before ∷ []) (now ∷ []) sink after
-one_failed path before now sink after rose files text least = record {
+one_failed path before now sink after rose text least = record {
   failed = omega arith;
-  files = files;
   last = λ told. ((λ _. (path, ⊎_elim (λ here. here) (λ none. absurd none) ((least told).some))), tt);
   text = (path, record { text = text; least = least });
 }
@@ -84,25 +87,21 @@ module _ (s t : SourceState) (rest : List SourceState) where
   pub cannot_read_more : (sink after : SinkState) → CannotRead (s ∷ []) (t ∷ []) sink after → CannotRead (s ∷ rest) (t ∷ rest) sink after
   cannot_read_more sink after one = record {
     failed = rose_more one.failed;
-    files = one.files;
     last = λ told. ((one.last (told.0, tt)).0, last_same rest);
     text = ((one.text).0, record { text = ((one.text).1).text; least = λ told. least_more _ (((one.text).1).least (told.0, tt)) });
   }
 
-  cuts_more : (sink after : SinkState) (n : ℕ) (path : List ℕ) → CutsFailure (s ∷ []) (t ∷ []) sink after n path → CutsFailure (s ∷ rest) (t ∷ rest) sink after n path
-  cuts_more sink after n path one = record { failed = rose_more one.failed; text = one.text; least = λ told. least_more _ (one.least (told.0, tt)) }
+  cuts_more : (sink after : SinkState) (path : List ℕ) → CutsFailure (s ∷ []) (t ∷ []) sink after path → CutsFailure (s ∷ rest) (t ∷ rest) sink after path
+  cuts_more sink after path one = record { failed = rose_more one.failed; text = one.text; least = λ told. least_more _ (one.least (told.0, tt)) }
 
   pub cut_short_more : (meaning : Said) (sink after : SinkState) → IsCutShort meaning (s ∷ []) (t ∷ []) sink after → IsCutShort meaning (s ∷ rest) (t ∷ rest) sink after
-  cut_short_more meaning sink after one = record {
-    files = one.files;
-    text = ((one.text).0, ⊎_elim (λ part. inl part) (λ failure. inr (failure.0, cuts_more _ _ _ _ failure.1)) (one.text).1);
-  }
+  cut_short_more meaning sink after (inl part) = inl part
+  cut_short_more meaning sink after (inr (path, failure)) = inr (path, cuts_more sink after path failure)
 
   pub usage_more : (sink after : SinkState) (status units : ℕ) → EndsWithUsage (s ∷ []) (t ∷ []) sink after status units → EndsWithUsage (s ∷ rest) (t ∷ rest) sink after status units
   usage_more sink after status units one = record {
     nothing_read = ap (λ (states : List SourceState). states ++ rest) one.nothing_read;
     no_units = one.no_units;
-    files = one.files;
     whole = one.whole;
     part = one.part;
   }

@@ -1,16 +1,33 @@
 -- What a whole run does to its sources and its sink.
-use Rattle.std.specs.Prelude.{◌≡◌, ◌⊎◌, ℕ, ◌<◌, ◌≤◌, List, take}
-use Rattle.gn_outside.specs.States.{SourceState, SinkState}
+use Rattle.std.specs.Prelude.{◌≡◌, ◌⊎◌, ℕ, ◌<◌, ◌≤◌, List, [], ◌∷◌, ◌++◌, map, take}
+use Rattle.gn_outside.specs.States.{SourceState, SinkState, SinkEvent, Piece, Put}
 use Rattle.gn_outside.specs.Lists.{EachPair, Extends}
 use Rattle.gn_outside.specs.Sources.{AllTellReads, total_faults, FailedAt, IsLeastFailure}
 use Rattle.gn_top.specs.Texts.{usage_line, cannot_read_line}
 use Rattle.gn_top.specs.Said.{Said, UnitCount, Exactly, AtMost}
 
--- the text and the files of this meaning and nothing else, under its status
+-- a text in one piece, and nothing for an empty one
+abbrev pub piece_of : List ℕ → List SinkEvent
+piece_of [] = []
+piece_of (byte ∷ bytes) = Piece (byte ∷ bytes) ∷ []
+
+-- what this meaning tells the sink: its files in their order, and then its text in one piece
+abbrev pub events_of : Said → List SinkEvent
+events_of meaning = map Put meaning.files ++ piece_of meaning.text
+
+-- the sink was told what this meaning tells and nothing else, under its status
 pub record EndsAs (meaning : Said) (before after : SinkState) (status : ℕ) : Type 0 where
   pub same_status : status ≡ meaning.status
-  pub text : Extends before.said after.said meaning.text
-  pub files : Extends before.files after.files meaning.files
+  pub events : Extends before.events after.events (events_of meaning)
+
+-- nothing was told, or a first part of this text in one piece
+abbrev pub SaysPart : SinkState → SinkState → List ℕ → Type 0
+SaysPart before after text = (after.events ≡ before.events) ⊎ ((n : ℕ) × Extends before.events after.events (Piece (take n text) ∷ []))
+
+-- a first part of what this meaning tells: the first of its files, or all of them and then a first part of its text
+abbrev pub TellsPart : Said → SinkState → SinkState → Type 0
+TellsPart meaning before after = ((n : ℕ) × Extends before.events after.events (map Put (take n meaning.files)))
+    ⊎ ((n : ℕ) × Extends before.events after.events (map Put meaning.files ++ Piece (take n meaning.text) ∷ []))
 
 -- no source has failed, and no write
 pub record NoFault (sources now : List SourceState) (sink after : SinkState) : Type 0 where
@@ -21,32 +38,29 @@ pub record NoFault (sources now : List SourceState) (sink after : SinkState) : T
 pub record EndsWithUsage (sources now : List SourceState) (sink after : SinkState) (status units : ℕ) : Type 0 where
   pub nothing_read : now ≡ sources
   pub no_units : units ≡ 0
-  pub files : after.files ≡ sink.files
-  pub whole : status ≤ 3 → (status ≡ 2) × Extends sink.said after.said usage_line
-  pub part : 4 ≤ status → (n : ℕ) × Extends sink.said after.said (take n usage_line)
+  pub whole : status ≤ 3 → (status ≡ 2) × Extends sink.events after.events (piece_of usage_line)
+  pub part : 4 ≤ status → SaysPart sink after usage_line
 
 -- the line on the failed read of this path, which is the least such path where the reads are told
 pub record SaysFailure (sources now : List SourceState) (sink after : SinkState) (path : List ℕ) : Type 0 where
-  pub text : Extends sink.said after.said (cannot_read_line path)
+  pub text : Extends sink.events after.events (piece_of (cannot_read_line path))
   pub least : AllTellReads sources → IsLeastFailure sources now path
 
--- a source has failed, no file was put, and the text names the least path whose read failed
+-- a source has failed, and the sink was told one line alone, which names the least path whose read failed
 pub record CannotRead (sources now : List SourceState) (sink after : SinkState) : Type 0 where
   pub failed : total_faults sources < total_faults now
-  pub files : after.files ≡ sink.files
   pub last : AllTellReads sources → EachPair (λ (s t : SourceState). s.faults < t.faults → (path : List ℕ) × FailedAt path s t) sources now
   pub text : (path : List ℕ) × SaysFailure sources now sink after path
 
--- a first part of the line on a failed read; a source has failed
-pub record CutsFailure (sources now : List SourceState) (sink after : SinkState) (n : ℕ) (path : List ℕ) : Type 0 where
+-- a source has failed, and the sink was told no more than a first part of the line on this path
+pub record CutsFailure (sources now : List SourceState) (sink after : SinkState) (path : List ℕ) : Type 0 where
   pub failed : total_faults sources < total_faults now
-  pub text : Extends sink.said after.said (take n (cannot_read_line path))
+  pub text : SaysPart sink after (cannot_read_line path)
   pub least : AllTellReads sources → IsLeastFailure sources now path
 
--- before a failed write or want of memory: the first files of the meaning, and a first part of its text or of the line on a failed read
-pub record IsCutShort (meaning : Said) (sources now : List SourceState) (sink after : SinkState) : Type 0 where
-  pub files : (n : ℕ) × Extends sink.files after.files (take n meaning.files)
-  pub text : (n : ℕ) × (Extends sink.said after.said (take n meaning.text) ⊎ ((path : List ℕ) × CutsFailure sources now sink after n path))
+-- before a failed write or want of memory: a first part of what the meaning tells, or of the line on a failed read
+abbrev pub IsCutShort : Said → List SourceState → List SourceState → SinkState → SinkState → Type 0
+IsCutShort meaning sources now sink after = TellsPart meaning sink after ⊎ ((path : List ℕ) × CutsFailure sources now sink after path)
 
 -- at most so many build files
 abbrev pub IsWithin : ℕ → UnitCount → Type 0

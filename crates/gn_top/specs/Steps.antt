@@ -1,12 +1,12 @@
 -- What the parts of a run do.
-use Rattle.std.specs.Prelude.{◌≡◌, ℕ, ◌<◌, ◌≤◌, List, [], take, Result, Ok, Err}
+use Rattle.std.specs.Prelude.{◌≡◌, ℕ, ◌<◌, ◌≤◌, List, [], Result, Ok, Err}
 use Rattle.gn_outside.specs.States.{SourceState, SinkState}
 use Rattle.gn_outside.specs.Lists.{Extends}
 use Rattle.gn_top.specs.declared.answered.Answered.{Answered}
 use Rattle.gn_top.specs.declared.answered.RunStop.{RunStop}
 use Rattle.gn_top.specs.declared.answered.RunStop.TheVariants.{CannotRead, Memory}
 use Rattle.gn_top.specs.Said.{Said, usage_said}
-use Rattle.gn_top.specs.Run.{IsCount}
+use Rattle.gn_top.specs.Run.{IsCount, piece_of, SaysPart}
 
 -- an answer has the status and the text of a meaning that puts no files, and has loaded as many build files
 pub record IsSaying (answered : Answered) (meaning : Said) : Type 0 where
@@ -30,10 +30,9 @@ CountsFault before after (Err Memory) = after ≡ before
 -- a text was said under this status, or the status says why not
 pub record SaysUnder (before after : SinkState) (text : List ℕ) (wanted status : ℕ) : Type 0 where
   pub range : status ≤ 5
-  pub files : after.files ≡ before.files
-  pub whole : status ≤ 3 → (status ≡ wanted) × Extends before.said after.said text × (after.faults ≡ before.faults)
+  pub whole : status ≤ 3 → (status ≡ wanted) × Extends before.events after.events (piece_of text) × (after.faults ≡ before.faults)
   pub failed : status ≡ 4 → before.faults < after.faults
-  pub part : 4 ≤ status → (n : ℕ) × Extends before.said after.said (take n text)
+  pub part : 4 ≤ status → SaysPart before after text
 
 -- the usage line, or want of memory, and nothing was read
 abbrev pub AnswersUsage : SourceState → SourceState → Result Answered RunStop → Type 0
