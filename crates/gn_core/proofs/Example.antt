@@ -1,7 +1,7 @@
 -- A world whose loads see what the default setup left: the laws of layers can be met.
 use Rattle.std.proofs.Common.{◌≡◌, ℕ, ◌<◌, ◌≤◌, List, [], Option, Some, None, refl, sym, ◌∙◌, ap, inl, arith}
 use mathlib.Core.Path.{fun_ext}
-use Rattle.gn_items.specs.declared.fault.Fault.{Fault}
+use Rattle.gn_faults.specs.declared.fault.Fault.{Fault}
 use Rattle.gn_runs.specs.Runs.{is_absent, Answers, Run, leaves, fails, IsTree}
 use Rattle.gn_runs.proofs.Trees.{tree_leaves, tree_fails}
 use Rattle.gn_closure.specs.Reach.{Unit_key, Setup, Load, Done}

@@ -1,5 +1,5 @@
 -- What a definer answers.
-use Rattle.gn_items.specs.declared.fault.Fault.{Fault}
+use Rattle.gn_faults.specs.declared.fault.Fault.{Fault}
 use Rattle.gn_eval.specs.declared.definer.DefineError.{DefineError}
 use Rattle.gn_eval.specs.declared.definer.DefineError.TheVariants.{Wrong, Memory}
 

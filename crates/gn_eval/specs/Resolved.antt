@@ -4,7 +4,7 @@ use Rattle.gn_paths.specs.declared.error.PathError.{PathError}
 use Rattle.gn_paths.specs.declared.error.PathError.TheVariants.{AboveRoot, BadPath, Memory}
 use Rattle.gn_tree.specs.declared.position.Position.{Position}
 use Rattle.gn_values.specs.Val.{Val}
-use Rattle.gn_items.specs.declared.fault.Fault.{Fault}
+use Rattle.gn_faults.specs.declared.fault.Fault.{Fault}
 use Rattle.gn_items.specs.Effects.{Effects}
 use Rattle.gn_runs.specs.Runs.{Answers, Run, asking_content}
 use Rattle.gn_scopes.specs.Environment.{Environment}

@@ -19,7 +19,7 @@ use Rattle.gn_eval.specs.declared.selections.Selected.{Selected}
 use Rattle.gn_eval.specs.declared.selections.Selected.TheVariants as selected
 use Rattle.gn_scopes.specs.declared.forwarding.ForwardError.{ForwardError}
 use Rattle.gn_scopes.specs.declared.forwarding.ForwardError.TheVariants.{AlreadySet, Memory}
-use Rattle.gn_items.specs.declared.fault.Fault.{Fault}
+use Rattle.gn_faults.specs.declared.fault.Fault.{Fault}
 use Rattle.gn_eval.specs.Ends.{IsStepFailure, IsFault}
 
 -- these strings, if all values are strings

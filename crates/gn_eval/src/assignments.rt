@@ -11,7 +11,7 @@ ghost use Rattle.gn_eval.specs.Ends.{IsStepFailure, IsStep};
 
 use crate::faults::{refused, refused_element, wrong_with};
 use crate::step::StepEnd;
-use gn_items::Code;
+use gn_faults::Code;
 use gn_paths::Text;
 use gn_scopes::{AssignError, ElementAssignError, Env};
 use gn_tree::{AssignOp, Position};

@@ -4,7 +4,8 @@ ghost use Rattle.std.specs.Prelude.{◌≡◌, Ok, Err, IfOk, IfErr};
 ghost use Rattle.gn_meaning.specs.Items.{defined};
 ghost use Rattle.gn_eval.specs.Definitions.{IfWrong};
 
-use gn_items::{Fault, Item, ItemKind};
+use gn_faults::Fault;
+use gn_items::{Item, ItemKind};
 use gn_paths::Text;
 use gn_scopes::Env;
 use gn_tree::Position;

@@ -1,7 +1,7 @@
 // How an evaluation ends where it has no value.
 
 use crate::step::StepEnd;
-use gn_items::Fault;
+use gn_faults::Fault;
 use gn_paths::{Path, Place};
 use std::alloc::AllocError;
 

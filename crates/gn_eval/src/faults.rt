@@ -7,7 +7,7 @@ ghost use Rattle.gn_values.specs.View.{val_of};
 ghost use Rattle.gn_eval.specs.Ends.{IsFault, IsRefusal};
 
 use crate::step::StepEnd;
-use gn_items::{Code, Fault};
+use gn_faults::{Code, Fault};
 use gn_paths::{Place, Text, Texts};
 use gn_scopes::Env;
 use gn_tree::Position;

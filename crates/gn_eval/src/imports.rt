@@ -14,7 +14,7 @@ ghost use Rattle.gn_eval.specs.Resolved.{IsPathFault, IsResolved};
 
 use crate::faults::{wrong, wrong_with};
 use crate::step::StepEnd;
-use gn_items::Code;
+use gn_faults::Code;
 use gn_paths::{Path, PathError, Place, resolve};
 use gn_scopes::{Env, MergeError};
 use gn_tree::Position;

@@ -15,7 +15,7 @@ ghost use Rattle.gn_eval.specs.Ends.{IsStep};
 
 use crate::faults::{refused, refused_element, wrong, wrong_with};
 use crate::step::StepEnd;
-use gn_items::Code;
+use gn_faults::Code;
 use gn_paths::Text;
 use gn_scopes::Env;
 use gn_tree::Position;

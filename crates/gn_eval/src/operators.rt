@@ -10,7 +10,7 @@ ghost use Rattle.gn_eval.specs.Ends.{IsStep};
 
 use crate::faults::{refused, wrong};
 use crate::step::StepEnd;
-use gn_items::Code;
+use gn_faults::Code;
 use gn_scopes::Env;
 use gn_tree::{AssignOp, BinaryOp, Position};
 use gn_values::{Compare, Value, ValueError, compare, subtract};

@@ -13,7 +13,7 @@ ghost use Rattle.gn_eval.specs.Selected.{all_texts, source_view, selection_view,
 
 use crate::faults::{wrong, wrong_with};
 use crate::step::StepEnd;
-use gn_items::Code;
+use gn_faults::Code;
 use gn_paths::{Text, Texts};
 use gn_scopes::{Env, ForwardError, Origin};
 use gn_tree::Position;

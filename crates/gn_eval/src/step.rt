@@ -1,6 +1,6 @@
 // How a step ends that asks nothing and has no value.
 
-use gn_items::Fault;
+use gn_faults::Fault;
 use std::alloc::AllocError;
 
 /// Why a step that asks nothing has no value.

@@ -12,7 +12,7 @@ ghost use Rattle.gn_eval.specs.Ends.{IsFault, IsStep};
 
 use crate::faults::{no_effect, no_effect_in, wrong, wrong_with};
 use crate::step::StepEnd;
-use gn_items::Code;
+use gn_faults::Code;
 use gn_paths::Text;
 use gn_scopes::Env;
 use gn_tree::{Block, Position};

@@ -2,7 +2,7 @@
 use Rattle.std.proofs.Common.{◌≡◌, ℕ, suc, zero, ◌+◌, ◌-◌, ◌≤◌, ◌<◌, length, List, ◌∷◌, Option, Some, None, refl, sym, ◌∙◌, ap, subst, ◌⊎◌, inl, inr, arith, false, zero-add, suc-add}
 use Rattle.gn_paths.specs.declared.place.Place.{Place}
 use Rattle.gn_values.specs.Imported.{ImportState}
-use Rattle.gn_items.specs.declared.fault.Fault.{Fault}
+use Rattle.gn_faults.specs.declared.fault.Fault.{Fault}
 use Rattle.gn_runs.specs.Runs.{content_of, import_of, is_absent, is_unusable, End, ended, wrong, spoiled, needs}
 use Rattle.gn_runs.proofs.TreeLaws.{tree_spoiled_by_unusable}
 use Rattle.gn_imports.specs.Rounds.{Project, knowing, values, final}

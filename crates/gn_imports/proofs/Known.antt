@@ -2,7 +2,7 @@
 use Rattle.std.proofs.Common.{◌≡◌, ℕ, List, ◌∷◌, Option, Some, sym, ◌∙◌, ap}
 use Rattle.gn_paths.specs.declared.place.Place.{Place}
 use Rattle.gn_values.specs.Imported.{ImportState}
-use Rattle.gn_items.specs.declared.fault.Fault.{Fault}
+use Rattle.gn_faults.specs.declared.fault.Fault.{Fault}
 use Rattle.gn_runs.specs.Runs.{import_of, Content, Imported, has_value, is_unusable, Answers, wrong, spoiled, needs, Run}
 use Rattle.gn_runs.specs.Laws.{IsSettled}
 use Rattle.gn_runs.proofs.TreeLaws.{tree_stays_settled, tree_spoiled_by_unusable}

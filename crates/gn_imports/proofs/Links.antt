@@ -2,7 +2,7 @@
 use Rattle.std.proofs.Common.{◌≡◌, ℕ, List, Some, sym, ◌∙◌, ap, ◌⊎◌, inl, inr}
 use Rattle.gn_paths.specs.declared.place.Place.{Place}
 use Rattle.gn_values.specs.Imported.{ImportState}
-use Rattle.gn_items.specs.declared.fault.Fault.{Fault}
+use Rattle.gn_faults.specs.declared.fault.Fault.{Fault}
 use Rattle.gn_runs.specs.Runs.{content_of, import_of, End, ended, wrong, spoiled, needs, Run}
 use Rattle.gn_imports.specs.Rounds.{Project, knowing, values, final}
 use Rattle.gn_imports.specs.Causes.{Link, outcome, link_of, link}

@@ -6,9 +6,9 @@ use Rattle.std.specs.Ordering.{nat_cmp, ordering_then, is_lt}
 use Rattle.std.specs.Cmp.Lexicographic.{slice_cmp}
 use Rattle.gn_paths.specs.declared.place.Place.{Place}
 use Rattle.gn_values.specs.Imported.{ImportState}
-use Rattle.gn_items.specs.declared.code.Code.TheVariants as code
-use Rattle.gn_items.specs.declared.fault.Fault.{Fault}
-use Rattle.gn_items.specs.declared.stage.Stage.TheVariants.{Loading}
+use Rattle.gn_faults.specs.declared.code.Code.TheVariants as code
+use Rattle.gn_faults.specs.declared.fault.Fault.{Fault}
+use Rattle.gn_faults.specs.declared.stage.Stage.TheVariants.{Loading}
 use Rattle.gn_runs.specs.Runs.{content_of, import_of, End, ended, wrong, spoiled, needs, Run}
 use Rattle.gn_imports.specs.Rounds.{Project, knowing, values}
 

@@ -5,7 +5,7 @@ use Rattle.std.specs.Cmp.Lexicographic.{slice_cmp}
 use Rattle.std.specs.List.Sorted.{IsStrictlySortedBy}
 use Rattle.gn_paths.specs.declared.place.Place.{Place}
 use Rattle.gn_values.specs.Imported.{ImportState}
-use Rattle.gn_items.specs.declared.fault.Fault.{Fault}
+use Rattle.gn_faults.specs.declared.fault.Fault.{Fault}
 use Rattle.gn_runs.specs.Runs.{Question, has_value, is_unusable, content_of, import_of, Imported, Answers, End, ended, wrong, spoiled, needs, Run}
 use Rattle.gn_runs.specs.Laws.{IsSettled, IsAsked}
 use Rattle.gn_imports.specs.Rounds.{Project, knowing, imported_of, round, values, final}

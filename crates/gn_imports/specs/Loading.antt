@@ -2,7 +2,7 @@
 use Rattle.std.specs.Prelude.{◌≡◌, ◌⊎◌, ◌↔◌, ℕ, if◌then◌else◌, List, [], ◌∷◌, Option, Some, None}
 use Rattle.std.specs.Str.{bytes_eq}
 use Rattle.gn_paths.specs.declared.place.Place.{Place}
-use Rattle.gn_items.specs.declared.fault.Fault.{Fault}
+use Rattle.gn_faults.specs.declared.fault.Fault.{Fault}
 use Rattle.gn_runs.specs.Runs.{Question, content_of, import_of, Content, is_absent, Imported, is_unusable, Answers, End, wrong, needs, Run, IsTree}
 use Rattle.gn_runs.specs.Laws.{IsAsked}
 use Rattle.gn_imports.specs.Rounds.{Project, final}

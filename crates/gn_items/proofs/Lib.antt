@@ -1,3 +1,1 @@
-mod NumberLemmas
-mod OrderLemmas
 mod LabelLemmas

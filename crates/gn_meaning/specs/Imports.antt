@@ -7,8 +7,8 @@ use Rattle.gn_paths.specs.Components.{is_system}
 use Rattle.gn_paths.specs.Resolve.{resolved}
 use Rattle.gn_tree.specs.declared.position.Position.{Position}
 use Rattle.gn_values.specs.Val.{Val, vstr}
-use Rattle.gn_items.specs.declared.code.Code.{Code}
-use Rattle.gn_items.specs.declared.code.Code.TheVariants as code
+use Rattle.gn_faults.specs.declared.code.Code.{Code}
+use Rattle.gn_faults.specs.declared.code.Code.TheVariants as code
 use Rattle.gn_runs.specs.Runs.{Content, has_bytes, is_absent, is_too_big, Answers, asking_content, asking_import}
 use Rattle.gn_scopes.specs.Environment.{Environment}
 use Rattle.gn_scopes.specs.Imports.{merged}

@@ -6,8 +6,8 @@ use Rattle.gn_values.specs.Val.{Val, vstr, vlist, list_of}
 use Rattle.gn_labels.specs.declared.label.Label.{Label}
 use Rattle.gn_labels.specs.Names.{is_name}
 use Rattle.gn_labels.specs.Labels.{printed}
-use Rattle.gn_items.specs.declared.code.Code.TheVariants as code
-use Rattle.gn_items.specs.declared.fault.Fault.{Fault}
+use Rattle.gn_faults.specs.declared.code.Code.TheVariants as code
+use Rattle.gn_faults.specs.declared.fault.Fault.{Fault}
 use Rattle.gn_items.specs.declared.item.Item.{Item}
 use Rattle.gn_items.specs.declared.item.ItemKind.{ItemKind}
 use Rattle.gn_items.specs.declared.item.ItemKind.TheVariants.{Group}

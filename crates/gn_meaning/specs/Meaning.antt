@@ -7,7 +7,7 @@ use Rattle.gn_tree.specs.Tree.{ExprTree, name_expr, integer_expr, string_expr, b
 use Rattle.gn_tree.specs.declared.operator.AssignOp.{AssignOp}
 use Rattle.gn_tree.specs.FirstPosition.{first_position, call_position}
 use Rattle.gn_values.specs.Val.{Val, vbool, vint, vstr, vlist, vals_of}
-use Rattle.gn_items.specs.declared.code.Code.TheVariants as code
+use Rattle.gn_faults.specs.declared.code.Code.TheVariants as code
 use Rattle.gn_items.specs.declared.item.ItemKind.{ItemKind}
 use Rattle.gn_items.specs.Effects.{with_print}
 use Rattle.gn_values.specs.Imported.{DefinitionState, ImportState}

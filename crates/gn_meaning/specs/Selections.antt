@@ -5,7 +5,7 @@ use Rattle.std.specs.Str.{bytes_eq}
 use Rattle.gn_tree.specs.declared.position.Position.{Position}
 use Rattle.gn_tree.specs.Tree.{ExprTree, name_expr}
 use Rattle.gn_values.specs.Val.{Val, vstr, vlist, vscope, list_of, entries_of}
-use Rattle.gn_items.specs.declared.code.Code.TheVariants as code
+use Rattle.gn_faults.specs.declared.code.Code.TheVariants as code
 use Rattle.gn_scopes.specs.Environment.{Environment}
 use Rattle.gn_scopes.specs.Invoker.{names_invoker, after_invoker_read_but, after_invoker_names_read}
 use Rattle.gn_scopes.specs.Forwarding.{Origin, from_entries, from_invoker, names_forwarded, all_forwarded, after_names_read_here, after_all_read_here}

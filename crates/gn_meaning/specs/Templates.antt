@@ -4,9 +4,9 @@ use Rattle.gn_tree.specs.declared.position.Position.{Position}
 use Rattle.gn_tree.specs.Tree.{BlockTree}
 use Rattle.gn_values.specs.Val.{Val, vstr}
 use Rattle.gn_values.specs.Imported.{DefinitionState}
-use Rattle.gn_items.specs.declared.code.Code.TheVariants as code
-use Rattle.gn_items.specs.declared.file_kind.FileKind.{FileKind}
-use Rattle.gn_items.specs.declared.file_kind.FileKind.TheVariants.{BuildFile, Import}
+use Rattle.gn_faults.specs.declared.code.Code.TheVariants as code
+use Rattle.gn_faults.specs.declared.file_kind.FileKind.{FileKind}
+use Rattle.gn_faults.specs.declared.file_kind.FileKind.TheVariants.{BuildFile, Import}
 use Rattle.gn_runs.specs.Runs.{fails}
 use Rattle.gn_scopes.specs.Environment.{Environment, reported_here}
 use Rattle.gn_scopes.specs.Templates.{template_of, has_template_here, template_defined, defaults_set, at_depth, body_begins, body_ends, reported_by_invoker}

@@ -15,8 +15,8 @@ use Rattle.gn_values.specs.declared.error.ValueError.{ValueError}
 use Rattle.gn_values.specs.declared.error.ValueError.TheVariants as value_error
 use Rattle.gn_values.specs.declared.error.ElementError.{ElementError}
 use Rattle.gn_values.specs.declared.error.ElementError.TheVariants as element_error
-use Rattle.gn_items.specs.declared.code.Code.{Code}
-use Rattle.gn_items.specs.declared.code.Code.TheVariants as code
+use Rattle.gn_faults.specs.declared.code.Code.{Code}
+use Rattle.gn_faults.specs.declared.code.Code.TheVariants as code
 use Rattle.gn_items.specs.Effects.{Effects}
 use Rattle.gn_runs.specs.Runs.{Run, fails}
 use Rattle.gn_scopes.specs.Environment.{Environment, value_of, after_read, after_assignment, after_assignment_over, after_element_assignment, after_element_assignment_over, entries_here, left}

@@ -2,10 +2,10 @@
 use Rattle.std.specs.Prelude.{◌≡◌, ℕ, zero, suc, Bool, List, Option, refl}
 use Rattle.std.specs.Coded.{Coded, code_by, coded×, coded_ℕ, coded_bool, coded_list, coded_option}
 use Rattle.gn_tree.specs.declared.position.Position.{Position}
-use Rattle.gn_items.specs.declared.stage.Stage.{Stage}
-use Rattle.gn_items.specs.declared.stage.Stage.TheVariants.{Arguments, Loading, Graph, Question, Includes}
-use Rattle.gn_items.specs.declared.file_kind.FileKind.{FileKind}
-use Rattle.gn_items.specs.declared.file_kind.FileKind.TheVariants.{BuildFile, Import}
+use Rattle.gn_faults.specs.declared.stage.Stage.{Stage}
+use Rattle.gn_faults.specs.declared.stage.Stage.TheVariants.{Arguments, Loading, Graph, Question, Includes}
+use Rattle.gn_faults.specs.declared.file_kind.FileKind.{FileKind}
+use Rattle.gn_faults.specs.declared.file_kind.FileKind.TheVariants.{BuildFile, Import}
 use Rattle.gn_values.specs.Val.{Val}
 use Rattle.gn_values.specs.ValCode.{val_code}
 use Rattle.gn_values.specs.Tables.{Table}

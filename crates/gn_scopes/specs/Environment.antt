@@ -3,8 +3,8 @@
 use Rattle.std.specs.Prelude.{ℕ, Bool, List, [], ◌∷◌, ◌++◌, Option, Some, None, Result, Ok, Err}
 use Rattle.gn_tree.specs.declared.position.Position.{Position}
 use Rattle.gn_tree.specs.declared.operator.AssignOp.{AssignOp}
-use Rattle.gn_items.specs.declared.stage.Stage.{Stage}
-use Rattle.gn_items.specs.declared.file_kind.FileKind.{FileKind}
+use Rattle.gn_faults.specs.declared.stage.Stage.{Stage}
+use Rattle.gn_faults.specs.declared.file_kind.FileKind.{FileKind}
 use Rattle.gn_values.specs.Val.{Val}
 use Rattle.gn_values.specs.Tables.{Table, at_name}
 use Rattle.gn_values.specs.Imported.{ScopeState, DefinitionState, MadeBy}

@@ -1,8 +1,8 @@
 -- The faults of an evaluation.
 use Rattle.std.specs.Prelude.{ℕ, List, Some}
 use Rattle.gn_tree.specs.declared.position.Position.{Position}
-use Rattle.gn_items.specs.declared.code.Code.{Code}
-use Rattle.gn_items.specs.declared.fault.Fault.{Fault}
+use Rattle.gn_faults.specs.declared.code.Code.{Code}
+use Rattle.gn_faults.specs.declared.fault.Fault.{Fault}
 use Rattle.gn_scopes.specs.Environment.{Setting}
 
 -- the fault with this code and these details at a position of the file that is evaluated

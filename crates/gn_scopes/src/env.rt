@@ -15,7 +15,7 @@ use crate::caller::Caller;
 use crate::error::{AssignError, ElementAssignError};
 use crate::named_scopes::NamedScopes;
 use crate::variable::Variable;
-use gn_items::{Code, Fault, FileKind, Stage};
+use gn_faults::{Code, Fault, FileKind, Stage};
 use gn_paths::{Path, Place, Text, Texts};
 use gn_tree::{AssignOp, Position};
 use gn_values::{Definition, Definitions, Entries, KeptScope, MadeBy, Value, ValueError};

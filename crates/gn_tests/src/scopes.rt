@@ -1,6 +1,6 @@
 // Scopes and environments by themselves: the calls that the program doesn't make, or never to their good end.
 
-use gn_items::{FileKind, Stage};
+use gn_faults::{FileKind, Stage};
 use gn_paths::{Path, Text};
 use gn_scopes::{Env, ScopeError, Scopes};
 use gn_text::Names;

@@ -1,7 +1,8 @@
 // Executions over a library that has one file.
 
 use gn_eval::{DefineError, Definer, Found, Imported, LibStop, Library};
-use gn_items::{Claim, Code, Fault, Item, ItemKind, Key, When};
+use gn_faults::{Code, Fault};
+use gn_items::{Claim, Item, ItemKind, Key, When};
 use gn_paths::{Path, Place, Text, resolve};
 use gn_scopes::Env;
 use gn_tree::Position;

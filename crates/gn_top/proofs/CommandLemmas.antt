@@ -2,9 +2,9 @@
 use Rattle.std.proofs.Common.{◌≡◌, refl, ◌∙◌, ap, arith, true≢false}
 use Rattle.std.specs.Prelude.{Option, None, Some, Result, Ok, Err, is_some}
 use Rattle.gn_outside.specs.Tree.{Tree}
-use Rattle.gn_items.specs.declared.code.Code.{Code}
-use Rattle.gn_items.specs.declared.code.Code.TheVariants.{TooLarge}
-use Rattle.gn_items.specs.declared.fault.Fault.{Fault}
+use Rattle.gn_faults.specs.declared.code.Code.{Code}
+use Rattle.gn_faults.specs.declared.code.Code.TheVariants.{TooLarge}
+use Rattle.gn_faults.specs.declared.fault.Fault.{Fault}
 use Rattle.gn_imports.specs.Asked.{contents_asked}
 use Rattle.gn_top.specs.Words.{Command}
 use Rattle.gn_top.specs.declared.words.Command.{Command as Parsed}

@@ -5,7 +5,7 @@ use Rattle.std.specs.List.{list_all}
 use Rattle.gn_tree.specs.declared.position.Position.{Position}
 use Rattle.gn_values.specs.Val.{Val, vlist, vals_of, list_of}
 use Rattle.gn_labels.specs.Names.{is_name}
-use Rattle.gn_items.specs.declared.code.Code.TheVariants as code
+use Rattle.gn_faults.specs.declared.code.Code.TheVariants as code
 use Rattle.gn_items.specs.declared.item.ItemKind.TheVariants.{Group}
 use Rattle.gn_scopes.specs.Environment.{Environment, value_of, after_read}
 use Rattle.gn_scopes.specs.Faults.{fault_in}

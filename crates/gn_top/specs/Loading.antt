@@ -2,9 +2,9 @@
 use Rattle.std.specs.Prelude.{ℕ, List, [], map, nat_lt, if◌then◌else◌, length, None, Result, Ok, Err, codes}
 use Rattle.std.specs.FinMap.{keys}
 use Rattle.gn_outside.specs.Tree.{Tree, Answer, Bytes, Absent, TooBig, read_of}
-use Rattle.gn_items.specs.declared.code.Code.TheVariants as code
-use Rattle.gn_items.specs.declared.fault.Fault.{Fault}
-use Rattle.gn_items.specs.declared.stage.Stage.TheVariants.{Loading}
+use Rattle.gn_faults.specs.declared.code.Code.TheVariants as code
+use Rattle.gn_faults.specs.declared.fault.Fault.{Fault}
+use Rattle.gn_faults.specs.declared.stage.Stage.TheVariants.{Loading}
 use Rattle.gn_items.specs.Effects.{Effects, no_effects}
 use Rattle.gn_runs.specs.Runs.{Question, Content, has_bytes, is_absent, is_too_big, End, ended, wrong, spoiled, needs, Run}
 use Rattle.gn_imports.specs.Rounds.{Project, final}

@@ -8,7 +8,7 @@ use Rattle.gn_outside.specs.Sources.{FailedAt}
 use Rattle.gn_outside.specs.declared.stops.ReadStop.{ReadStop}
 use Rattle.gn_outside.specs.declared.stops.ReadStop.TheVariants as stop
 use Rattle.gn_paths.specs.declared.place.Place.{Place}
-use Rattle.gn_items.specs.declared.fault.Fault.{Fault}
+use Rattle.gn_faults.specs.declared.fault.Fault.{Fault}
 use Rattle.gn_items.specs.declared.key.Key.{Key}
 use Rattle.gn_items.specs.declared.key.Key.TheVariants.{Import as ImportKey, Load as LoadKey}
 use Rattle.gn_items.specs.declared.key.When.TheVariants.{Usual}

@@ -5,11 +5,11 @@ use Rattle.std.specs.declared.string.String.{String}
 use Rattle.std.specs.declared.alloc.Global.{Global}
 use Rattle.gn_outside.specs.Tree.{Tree}
 use Rattle.gn_outside.specs.States.{PutFile}
-use Rattle.gn_items.specs.declared.code.Code.{Code}
-use Rattle.gn_items.specs.declared.code.Code.TheVariants.{TooLarge}
-use Rattle.gn_items.specs.declared.fault.Fault.{Fault}
+use Rattle.gn_faults.specs.declared.code.Code.{Code}
+use Rattle.gn_faults.specs.declared.code.Code.TheVariants.{TooLarge}
+use Rattle.gn_faults.specs.declared.fault.Fault.{Fault}
 use Rattle.gn_items.specs.Effects.{Effects}
-use Rattle.gn_items.specs.Printed.{printed}
+use Rattle.gn_faults.specs.Printed.{printed}
 use Rattle.gn_top.specs.Exported.{Exported}
 use Rattle.gn_top.specs.Words.{Command, Ls, command_of}
 use Rattle.gn_top.specs.Texts.{usage_line}

@@ -9,7 +9,7 @@ use Rattle.std.specs.Coded.{Coded, code_by, coded_option, coded_list, coded×, c
 use Rattle.gn_values.specs.Tables.{Table, at_name}
 use Rattle.gn_values.specs.Imported.{ImportState}
 use Rattle.gn_values.specs.ImportedCode.{import_code}
-use Rattle.gn_items.specs.declared.fault.Fault.{Fault}
+use Rattle.gn_faults.specs.declared.fault.Fault.{Fault}
 use Rattle.gn_items.specs.Effects.{Effects, no_effects}
 use Rattle.gn_runs.specs.Runs.{Content, has_bytes, is_absent, is_too_big, Imported, has_value, is_unusable, Answers}
 use Rattle.gn_imports.specs.Loading.{Known}

@@ -8,7 +8,8 @@ ghost use Rattle.gn_meaning.specs.Items.{defined, item_here, may_be_strings, is_
 ghost use Rattle.gn_eval.specs.Definitions.{IfWrong};
 
 use gn_eval::DefineError;
-use gn_items::{Code, Fault, Item, ItemKind};
+use gn_faults::{Code, Fault};
+use gn_items::{Item, ItemKind};
 use gn_labels::{Label, is_name};
 use gn_paths::{Place, Text, Texts};
 use gn_scopes::Env;

@@ -5,7 +5,8 @@ ghost use Rattle.gn_top.specs.Store.{known_in};
 ghost use Rattle.gn_top.specs.Progress.{IsKept, IsEnding};
 
 use crate::store::{Kept, Store};
-use gn_items::{Fault, Outcome};
+use gn_faults::Fault;
+use gn_items::Outcome;
 use gn_paths::Path;
 use gn_unit::Unit;
 use std::alloc::{AllocError, Global};

@@ -2,7 +2,8 @@
 
 ghost use Rattle.std.specs.Prelude.{◌≤◌, length};
 
-use gn_items::{Fault, Outcome};
+use gn_faults::Fault;
+use gn_items::Outcome;
 use gn_paths::{Path, Text};
 use gn_values::ImportValue;
 use std::alloc::{AllocError, Global};

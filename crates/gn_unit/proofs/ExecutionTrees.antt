@@ -3,9 +3,9 @@ use Rattle.std.proofs.Common.{◌≡◌, ℕ, List, false, true, [], Option, Som
 use Rattle.gn_tree.specs.Tree.{BlockTree}
 use Rattle.gn_paths.specs.declared.place.Place.{Place}
 use Rattle.gn_syntax.specs.declared.error.SyntaxError.{SyntaxError}
-use Rattle.gn_items.specs.declared.code.Code.TheVariants as code
-use Rattle.gn_items.specs.declared.fault.Fault.{Fault}
-use Rattle.gn_items.specs.declared.file_kind.FileKind.TheVariants.{BuildFile, Import}
+use Rattle.gn_faults.specs.declared.code.Code.TheVariants as code
+use Rattle.gn_faults.specs.declared.fault.Fault.{Fault}
+use Rattle.gn_faults.specs.declared.file_kind.FileKind.TheVariants.{BuildFile, Import}
 use Rattle.gn_items.specs.Effects.{no_effects}
 use Rattle.gn_runs.specs.Runs.{Content, has_bytes, is_absent, is_too_big, Answers, End, wrong, Run, IsTree, asking_content, after, followed, leaves}
 use Rattle.gn_runs.proofs.Trees.{tree_then, tree_leaves, tree_fails, tree_asks_content}

@@ -3,11 +3,11 @@ use Rattle.std.proofs.Common.{◌≡◌, ℕ, List, [], false, true, Option, Som
 use Rattle.gn_tree.specs.Tree.{BlockTree}
 use Rattle.gn_paths.specs.declared.place.Place.{Place}
 use Rattle.gn_syntax.specs.declared.error.SyntaxError.{SyntaxError}
-use Rattle.gn_items.specs.declared.fault.Fault.{Fault}
+use Rattle.gn_faults.specs.declared.fault.Fault.{Fault}
 use Rattle.gn_runs.specs.Runs.{Question, Content, has_bytes, is_absent, is_too_big, Answers, End, ended, wrong, needs, Run, leaves, asking_content}
 use Rattle.gn_scopes.specs.Environment.{Setting, Environment, new_environment}
-use Rattle.gn_items.specs.declared.code.Code.TheVariants as code
-use Rattle.gn_items.specs.declared.file_kind.FileKind.TheVariants.{BuildFile, Import}
+use Rattle.gn_faults.specs.declared.code.Code.TheVariants as code
+use Rattle.gn_faults.specs.declared.file_kind.FileKind.TheVariants.{BuildFile, Import}
 use Rattle.gn_items.specs.Effects.{Effects, no_effects}
 use Rattle.gn_values.specs.Imported.{ImportState}
 use Rattle.gn_meaning.specs.Steps.{Left}

@@ -5,9 +5,9 @@ use Rattle.gn_tree.specs.declared.position.Position.{Position}
 use Rattle.gn_syntax.specs.declared.error.SyntaxError.{SyntaxError}
 use Rattle.gn_syntax.specs.declared.error.SyntaxError.TheVariants.{Token, Unexpected, TooDeep, Memory}
 use Rattle.gn_syntax.specs.Position.{position_of}
-use Rattle.gn_items.specs.declared.code.Code.{Code}
-use Rattle.gn_items.specs.declared.code.Code.TheVariants as code
-use Rattle.gn_items.specs.declared.fault.Fault.{Fault}
+use Rattle.gn_faults.specs.declared.code.Code.{Code}
+use Rattle.gn_faults.specs.declared.code.Code.TheVariants as code
+use Rattle.gn_faults.specs.declared.fault.Fault.{Fault}
 use Rattle.gn_scopes.specs.Environment.{Setting}
 use Rattle.gn_scopes.specs.Faults.{fault_in}
 

@@ -1,7 +1,7 @@
 -- What holds of every execution of a whole file.
 use Rattle.std.specs.Prelude.{◌≡◌, ℕ, List, Some}
-use Rattle.gn_items.specs.declared.code.Code.TheVariants as code
-use Rattle.gn_items.specs.declared.file_kind.FileKind.TheVariants.{Import}
+use Rattle.gn_faults.specs.declared.code.Code.TheVariants as code
+use Rattle.gn_faults.specs.declared.file_kind.FileKind.TheVariants.{Import}
 use Rattle.gn_runs.specs.Runs.{is_absent, Answers, wrong, IsTree}
 use Rattle.gn_unit.specs.Faults.{whole_file_fault}
 use Rattle.gn_unit.specs.Units.{setting_of, import_meaning, load_execution}

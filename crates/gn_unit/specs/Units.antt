@@ -6,10 +6,10 @@ use Rattle.gn_paths.specs.Resolve.{resolved}
 use Rattle.gn_tree.specs.Tree.{BlockTree}
 use Rattle.gn_values.specs.Imported.{ImportState}
 use Rattle.gn_syntax.specs.declared.error.SyntaxError.{SyntaxError}
-use Rattle.gn_items.specs.declared.code.Code.TheVariants as code
-use Rattle.gn_items.specs.declared.file_kind.FileKind.{FileKind}
-use Rattle.gn_items.specs.declared.file_kind.FileKind.TheVariants.{BuildFile, Import}
-use Rattle.gn_items.specs.declared.stage.Stage.TheVariants.{Loading}
+use Rattle.gn_faults.specs.declared.code.Code.TheVariants as code
+use Rattle.gn_faults.specs.declared.file_kind.FileKind.{FileKind}
+use Rattle.gn_faults.specs.declared.file_kind.FileKind.TheVariants.{BuildFile, Import}
+use Rattle.gn_faults.specs.declared.stage.Stage.TheVariants.{Loading}
 use Rattle.gn_items.specs.Effects.{no_effects}
 use Rattle.gn_runs.specs.Runs.{Content, has_bytes, is_absent, is_too_big, Answers, Run, followed, leaves, fails, asking_content}
 use Rattle.gn_scopes.specs.Environment.{Setting, Environment, new_environment}

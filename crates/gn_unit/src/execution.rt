@@ -2,7 +2,7 @@
 
 ghost use Rattle.std.specs.Prelude.{◌≡◌, ◌≢◌, ◌<◌, ◌≤◌, [], Ok, Err, IfOk, IfErr, length};
 ghost use Rattle.gn_tree.specs.Depth.{IsShallow};
-ghost use Rattle.gn_items.specs.declared.file_kind.FileKind.{FileKind as Kind};
+ghost use Rattle.gn_faults.specs.declared.file_kind.FileKind.{FileKind as Kind};
 ghost use Rattle.gn_runs.specs.Runs.{Answers, leaves};
 ghost use Rattle.gn_scopes.specs.Environment.{new_environment};
 ghost use Rattle.gn_eval.specs.Library.{Need, GoesOn};
@@ -13,7 +13,8 @@ ghost use Rattle.gn_unit.specs.Ends.{IsTreeOf, IsExecution};
 
 use crate::faults::{syntax_fault, whole_file_fault};
 use gn_eval::{Definer, EvalEnd, Found, LibStop, Library, run_file, run_import_file};
-use gn_items::{Code, FileKind, Outcome, Stage};
+use gn_faults::{Code, FileKind, Stage};
+use gn_items::Outcome;
 use gn_paths::{Path, PathError, Place, Text, directory, resolve};
 use gn_scopes::Env;
 use gn_syntax::{Parsed, parse};

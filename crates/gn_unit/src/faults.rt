@@ -2,11 +2,11 @@
 
 ghost use Rattle.std.specs.Prelude.{◌≡◌, ◌≢◌, ◌≤◌, [], Some, length, IfOk};
 ghost use Rattle.gn_syntax.specs.Position.{position_of};
-ghost use Rattle.gn_items.specs.declared.file_kind.FileKind.{FileKind as Kind};
+ghost use Rattle.gn_faults.specs.declared.file_kind.FileKind.{FileKind as Kind};
 ghost use Rattle.gn_unit.specs.Faults.{whole_file_fault, syntax_fault};
 ghost use Rattle.gn_unit.specs.Units.{setting_of};
 
-use gn_items::{Code, Fault, Stage};
+use gn_faults::{Code, Fault, Stage};
 use gn_paths::{Path, Place, Text, Texts};
 use gn_syntax::{SyntaxError, place_of};
 use gn_tokens::TokenError;

@@ -1,6 +1,7 @@
 // What an evaluation of a whole file leaves.
 
-use gn_items::{Fault, Outcome};
+use gn_faults::Fault;
+use gn_items::Outcome;
 use gn_paths::{Path, Place};
 use gn_values::ImportValue;
 

@@ -1,5 +1,5 @@
 use Rattle.std.proofs.Common.{sym, ◌∙◌, subst}
-use Rattle.gn_items.specs.declared.file_kind.FileKind.TheVariants.{BuildFile}
+use Rattle.gn_faults.specs.declared.file_kind.FileKind.TheVariants.{BuildFile}
 use Rattle.gn_eval.specs.Ends.{IsFailure}
 use Rattle.gn_unit.proofs.Executions.{covers_includes, load_ends, load_unread}
 use Rattle.gn_unit.proofs.execution.execute_load.Goals as goal

@@ -1,10 +1,10 @@
 -- A number has one code, and one stage.
 use Rattle.std.proofs.Common.{◌≡◌, ℕ, ◌-◌, List, [], ◌∷◌, get_or, refl, sym, ap, ◌∙◌}
-use Rattle.gn_items.specs.declared.code.Code.{Code}
-use Rattle.gn_items.specs.declared.code.Code.TheVariants.{BadByte, BadNumber, OpenString, BadDollar, AboveRoot, BadPath, Unexpected, TooDeep, BadLabel, BadPattern, UnknownSubstitution, BadTypes, Overflow, NotInList, BadIndex, TooLong, Undefined, Overwrite, Conflict, NoEffect, AlreadySet, DuplicateArgument, NotBoolean, UnknownFunction, BadArguments, Nesting, AssertFailed, Excluded, WrongType, Missing, DuplicateItem, NotAllowedHere, Unresolved, WrongKind, Cycle, Invisible, TestOnly, AssertNoDeps, SameOutput, ImportedBuildFile, UnknownLabel, NoPath, BadInclude, NoSourceFile, ImportCycle, TooLarge, NoFile, FileTooBig}
-use Rattle.gn_items.specs.declared.stage.Stage.{Stage}
-use Rattle.gn_items.specs.declared.stage.Stage.TheVariants.{Arguments, Loading, Graph, Question, Includes}
-use Rattle.gn_items.specs.Numbers.{code_number, stage_number}
+use Rattle.gn_faults.specs.declared.code.Code.{Code}
+use Rattle.gn_faults.specs.declared.code.Code.TheVariants.{BadByte, BadNumber, OpenString, BadDollar, AboveRoot, BadPath, Unexpected, TooDeep, BadLabel, BadPattern, UnknownSubstitution, BadTypes, Overflow, NotInList, BadIndex, TooLong, Undefined, Overwrite, Conflict, NoEffect, AlreadySet, DuplicateArgument, NotBoolean, UnknownFunction, BadArguments, Nesting, AssertFailed, Excluded, WrongType, Missing, DuplicateItem, NotAllowedHere, Unresolved, WrongKind, Cycle, Invisible, TestOnly, AssertNoDeps, SameOutput, ImportedBuildFile, UnknownLabel, NoPath, BadInclude, NoSourceFile, ImportCycle, TooLarge, NoFile, FileTooBig}
+use Rattle.gn_faults.specs.declared.stage.Stage.{Stage}
+use Rattle.gn_faults.specs.declared.stage.Stage.TheVariants.{Arguments, Loading, Graph, Question, Includes}
+use Rattle.gn_faults.specs.Numbers.{code_number, stage_number}
 
 -- the codes by their numbers
 abbrev codes : List Code

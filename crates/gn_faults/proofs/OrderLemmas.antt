@@ -10,10 +10,10 @@ use Rattle.std.specs.Cmp.{IsTotalOrder, nat_cmp_total, then_total, on_total, tie
 use Rattle.std.specs.Cmp.Lexicographic.{slice_cmp, lists_total, lists_ties, options_total, texts_ties, nat_list_cmp_total, pointwise_decides, bytes_decides}
 use Rattle.std.proofs.lemmas.Map.Lookups.{exact_unsigned, exact_bytes}
 use Rattle.gn_paths.specs.declared.place.Place.{Place}
-use Rattle.gn_items.specs.declared.fault.Fault.{Fault}
-use Rattle.gn_items.specs.Numbers.{code_number, stage_number}
-use Rattle.gn_items.specs.Order.{text_cmp, file_of, position_of, position_cmp, fault_cmp, is_before}
-use Rattle.gn_items.proofs.NumberLemmas.{code_same, stage_same}
+use Rattle.gn_faults.specs.declared.fault.Fault.{Fault}
+use Rattle.gn_faults.specs.Numbers.{code_number, stage_number}
+use Rattle.gn_faults.specs.Order.{text_cmp, file_of, position_of, position_cmp, fault_cmp, is_before}
+use Rattle.gn_faults.proofs.NumberLemmas.{code_same, stage_same}
 
 positions_total : IsTotalOrder position_cmp
 positions_total = then_total (on_total (λ (p : ℕ × ℕ). p.0) nat_cmp_total) (on_total (λ (p : ℕ × ℕ). p.1) nat_cmp_total)

@@ -2,8 +2,8 @@
 
 ghost use Rattle.std.specs.Prelude.{◌≡◌, IfOk};
 ghost use Rattle.std.specs.Option.{option_copied};
-ghost use Rattle.gn_items.specs.Order.{file_of, position_of, fault_cmp, is_before};
-ghost use Rattle.gn_items.specs.Printed.{printed};
+ghost use Rattle.gn_faults.specs.Order.{file_of, position_of, fault_cmp, is_before};
+ghost use Rattle.gn_faults.specs.Printed.{printed};
 
 use crate::code::Code;
 use crate::printing::{append_place, append_text};

@@ -2,8 +2,8 @@
 
 ghost use Rattle.std.specs.Prelude.{◌≡◌, ◌++◌, ◌∷◌, OnOk, codes, decimal};
 ghost use Rattle.std.specs.List.{flat_map, join_by};
-ghost use Rattle.gn_items.specs.Texts.{filled, message_behind, tail, text_of};
-ghost use Rattle.gn_items.specs.Printed.{place_text};
+ghost use Rattle.gn_faults.specs.Texts.{filled, message_behind, tail, text_of};
+ghost use Rattle.gn_faults.specs.Printed.{place_text};
 
 use crate::code::Code;
 use gn_paths::{Place, Text};

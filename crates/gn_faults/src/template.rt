@@ -1,7 +1,7 @@
 // The texts of codes.
 
 ghost use Rattle.std.specs.Prelude.{◌≡◌};
-ghost use Rattle.gn_items.specs.Texts.{template};
+ghost use Rattle.gn_faults.specs.Texts.{template};
 
 use crate::code::Code;
 

@@ -1,9 +1,9 @@
 -- The numbers of codes and of stages.
 use Rattle.std.specs.Prelude.{ℕ}
-use Rattle.gn_items.specs.declared.code.Code.{Code}
-use Rattle.gn_items.specs.declared.code.Code.TheVariants.{BadByte, BadNumber, OpenString, BadDollar, AboveRoot, BadPath, Unexpected, TooDeep, BadLabel, BadPattern, UnknownSubstitution, BadTypes, Overflow, NotInList, BadIndex, TooLong, Undefined, Overwrite, Conflict, NoEffect, AlreadySet, DuplicateArgument, NotBoolean, UnknownFunction, BadArguments, Nesting, AssertFailed, Excluded, WrongType, Missing, DuplicateItem, NotAllowedHere, Unresolved, WrongKind, Cycle, Invisible, TestOnly, AssertNoDeps, SameOutput, ImportedBuildFile, UnknownLabel, NoPath, BadInclude, NoSourceFile, ImportCycle, TooLarge, NoFile, FileTooBig}
-use Rattle.gn_items.specs.declared.stage.Stage.{Stage}
-use Rattle.gn_items.specs.declared.stage.Stage.TheVariants.{Arguments, Loading, Graph, Question, Includes}
+use Rattle.gn_faults.specs.declared.code.Code.{Code}
+use Rattle.gn_faults.specs.declared.code.Code.TheVariants.{BadByte, BadNumber, OpenString, BadDollar, AboveRoot, BadPath, Unexpected, TooDeep, BadLabel, BadPattern, UnknownSubstitution, BadTypes, Overflow, NotInList, BadIndex, TooLong, Undefined, Overwrite, Conflict, NoEffect, AlreadySet, DuplicateArgument, NotBoolean, UnknownFunction, BadArguments, Nesting, AssertFailed, Excluded, WrongType, Missing, DuplicateItem, NotAllowedHere, Unresolved, WrongKind, Cycle, Invisible, TestOnly, AssertNoDeps, SameOutput, ImportedBuildFile, UnknownLabel, NoPath, BadInclude, NoSourceFile, ImportCycle, TooLarge, NoFile, FileTooBig}
+use Rattle.gn_faults.specs.declared.stage.Stage.{Stage}
+use Rattle.gn_faults.specs.declared.stage.Stage.TheVariants.{Arguments, Loading, Graph, Question, Includes}
 
 -- the number of a code
 unfoldable pub code_number : Code → ℕ

@@ -5,7 +5,7 @@ ghost use Rattle.std.proofs.Common.{rules};
 ghost use Rattle.std.specs.Cmp.{partial_order_from_own_ties};
 ghost use Rattle.std.specs.Cmp.Rules.{comparing};
 ghost use Rattle.std.specs.Ordering.{nat_cmp, on, as_partial_cmp};
-ghost use Rattle.gn_items.specs.Numbers.{stage_number};
+ghost use Rattle.gn_faults.specs.Numbers.{stage_number};
 
 use std::cmp::Ordering;
 

@@ -1,10 +1,10 @@
 // Codes have different numbers, and the order of faults is a strict total order.
 
 ghost use Rattle.std.specs.Prelude.{◌≡◌, ◌⊎◌, true, false};
-ghost use Rattle.gn_items.specs.declared.code.Code.{Code};
-ghost use Rattle.gn_items.specs.declared.fault.Fault.{Fault};
-ghost use Rattle.gn_items.specs.Numbers.{code_number};
-ghost use Rattle.gn_items.specs.Order.{is_before};
+ghost use Rattle.gn_faults.specs.declared.code.Code.{Code};
+ghost use Rattle.gn_faults.specs.declared.fault.Fault.{Fault};
+ghost use Rattle.gn_faults.specs.Numbers.{code_number};
+ghost use Rattle.gn_faults.specs.Order.{is_before};
 
 /// Codes with one number are one code.
 pub fn codes_have_different_numbers()

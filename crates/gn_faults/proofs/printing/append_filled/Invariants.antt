@@ -1,6 +1,6 @@
 use Rattle.std.proofs.Common.{◌≡◌, ◌++◌, drop}
-use Rattle.gn_items.specs.Texts.{filled}
-use Rattle.gn_items.proofs.printing.append_filled.Given as goal
+use Rattle.gn_faults.specs.Texts.{filled}
+use Rattle.gn_faults.proofs.printing.append_filled.Given as goal
 
 abbrev pub invariant-loop-byte : goal.invariant-loop-byte
 invariant-loop-byte l = l.text ++ filled (drop l.byte-index l.template) l.rest ≡ l.fn.text ++ filled l.template l.fn.details

@@ -1,5 +1,0 @@
-use Rattle.gn_items.proofs.OrderLemmas.{one_before}
-use Rattle.gn_items.proofs.laws.fault_order_has_no_ties.Goals as goal
-
-pub returns : goal.returns
-returns c = one_before

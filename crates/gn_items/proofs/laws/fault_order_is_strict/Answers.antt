@@ -1,5 +1,0 @@
-use Rattle.gn_items.proofs.OrderLemmas.{before_itself}
-use Rattle.gn_items.proofs.laws.fault_order_is_strict.Goals as goal
-
-pub returns : goal.returns
-returns c = before_itself

@@ -1,5 +1,0 @@
-use Rattle.gn_items.proofs.OrderLemmas.{before_before}
-use Rattle.gn_items.proofs.laws.fault_order_is_transitive.Goals as goal
-
-pub returns : goal.returns
-returns c = before_before
