@@ -7,7 +7,11 @@ use Rattle.std.specs.Str.{bytes_eq}
 use Rattle.std.specs.Cmp.{IsTotalOrder, nat_cmp_total, tied_itself}
 use Rattle.std.specs.Cmp.Lexicographic.{slice_cmp, lists_total, lists_ties, texts_ties, pointwise_decides, bytes_decides}
 use Rattle.gn_labels.specs.declared.label.Label.{Label}
-use Rattle.gn_labels.specs.Labels.{toolchain_key, order_key, is_before}
+use Rattle.gn_labels.specs.contracts.key.LabelKeyOrd.TheImpl.{cmp-value}
+use Rattle.gn_labels.specs.Keys.{other_than, key_of}
+use Rattle.gn_labels.specs.Labels.{toolchain_key, order_key, label_order, is_before}
+use Rattle.std.specs.Option.{option_cmp}
+use Rattle.std.specs.Prelude.{None, Some}
 
 -- a comparison that comes last decides alone
 pub lt_then_equal : (r : Ordering) → is_lt (ordering_then r Equal) ≡ is_lt r
@@ -81,3 +85,17 @@ one_before default a b = by (texts_cmp (order_key default a) (order_key default 
     by Less e = inl (ap is_lt e)
     by Equal e = inr (inl (label_same default a b (texts_same _ _ e)))
     by Greater e = inr (inr (ap is_lt (texts_total.antisymm (order_key default b) (order_key default a) ∙ ap ordering_reverse e)))
+
+-- keys of labels compare as labels do in label order
+toolchains_ordered : (default s t : List ℕ) → option_cmp (slice_cmp nat_cmp) (other_than default s) (other_than default t) ≡ slice_cmp nat_cmp (toolchain_key default s) (toolchain_key default t)
+toolchains_ordered default s t = by (bytes_eq s default) (bytes_eq t default)
+  where
+    by : (p q : Bool) → option_cmp (slice_cmp nat_cmp) (cond p None (Some s)) (cond q None (Some t)) ≡ slice_cmp nat_cmp (cond p [] (0 ∷ s)) (cond q [] (0 ∷ t))
+    by true true = refl
+    by true false = refl
+    by false true = refl
+    by false false = refl
+
+pub keys_ordered : (default : List ℕ) (a b : Label) → cmp-value.it (key_of default a) (key_of default b) ≡ label_order default a b
+keys_ordered default a b i =
+    ordering_then (slice_cmp nat_cmp a.dir b.dir) (ordering_then (slice_cmp nat_cmp a.name b.name) ((toolchains_ordered default a.toolchain b.toolchain ∙ then_equal _) i))

@@ -4,3 +4,4 @@ pub mod Reading
 pub mod Patterns
 pub mod Laws
 pub mod Toolchains
+pub mod Keys

@@ -7,12 +7,15 @@ ghost use Rattle.gn_paths.specs.Normal.{IsNormal};
 ghost use Rattle.gn_labels.specs.declared.error.LabelFault.TheVariants.{BadLabel};
 ghost use Rattle.gn_labels.specs.declared.error.PatternFault.TheVariants.{BadPattern};
 ghost use Rattle.gn_labels.specs.declared.label.Label.{Label};
-ghost use Rattle.gn_labels.specs.Labels.{spelling, is_before};
+ghost use Rattle.gn_labels.specs.Labels.{spelling, label_order, is_before};
+ghost use Rattle.gn_labels.specs.Keys.{key_of};
 ghost use Rattle.gn_labels.specs.Reading.{is_open, named_read, toolchain_in, label_read};
 ghost use Rattle.gn_labels.specs.Patterns.{is_star, pattern_read};
 ghost use Rattle.gn_labels.specs.Laws.{IsNamed, IsReadLabel, AreOne};
 ghost use Rattle.gn_labels.specs.Toolchains.{toolchain_named};
 ghost use Rattle.gn_labels.specs.declared.named.Named.{Named};
+
+use crate::key::LabelKey;
 
 /// No label comes before itself.
 pub fn label_order_is_strict()
@@ -53,4 +56,9 @@ pub fn a_star_in_the_toolchain_alone_is_a_bad_pattern()
 /// A toolchain's text spells the name and the directory that it was made of.
 pub fn a_toolchain_spells_its_name()
     ensures { (part : Named) → IsNamed part → toolchain_named (spelling part.dir part.name) ≡ Some part }
+{}
+
+/// Keys of labels that are made with one default toolchain are in label order.
+pub fn keys_are_in_label_order()
+    ensures { (default : List ℕ) → (a b : Label) → ⟦<LabelKey as Ord>⟧.cmp (key_of default a) (key_of default b) ≡ label_order default a b }
 {}
