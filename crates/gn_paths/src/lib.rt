@@ -25,8 +25,3 @@ pub use rebasing::rebase;
 pub use resolving::resolve;
 pub use text::Text;
 pub use texts::Texts;
-
-#[cfg(test)]
-mod tests;
-#[cfg(test)]
-mod tests_paths;
