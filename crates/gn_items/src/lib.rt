@@ -23,8 +23,3 @@ pub use laws::{
 };
 pub use outcome::Outcome;
 pub use stage::Stage;
-
-#[cfg(test)]
-mod tests;
-#[cfg(test)]
-mod tests_outcome;

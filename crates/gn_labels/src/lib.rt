@@ -18,6 +18,3 @@ pub use laws::{label_order_has_no_ties, label_order_is_strict, label_order_is_tr
 pub use name::is_name;
 pub use named::Named;
 pub use pattern::{Extent, Pattern};
-
-#[cfg(test)]
-mod tests;

@@ -2,10 +2,30 @@
 #![tactic(auto)]
 
 #[cfg(test)]
+mod items;
+#[cfg(test)]
+mod keys;
+#[cfg(test)]
+mod labels;
+#[cfg(test)]
+mod ninja_text;
+#[cfg(test)]
+mod outcome;
+#[cfg(test)]
 mod outside;
+#[cfg(test)]
+mod paths;
+#[cfg(test)]
+mod substs;
+#[cfg(test)]
+mod syntax;
 #[cfg(test)]
 mod text;
 #[cfg(test)]
 mod tokens;
 #[cfg(test)]
+mod tree;
+#[cfg(test)]
 mod turn;
+#[cfg(test)]
+mod values;
