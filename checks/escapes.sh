@@ -20,9 +20,9 @@ row = re.compile(r'\((b"(?:[^"\\]|\\.)*"), (b"(?:[^"\\]|\\.)*")\)')
 def rows(name):
     """The rows of the table with this name: what goes in, and what is expected."""
     start = tests.index("const " + name + ":")
-    table = tests[start : tests.index("\n];\n", start)]
+    table = tests[start : tests.index("];\n", start)]
     found = [tuple(ast.literal_eval(it) for it in pair) for pair in row.findall(table)]
-    if str(len(found)) != re.match(r".*; (\d+)\] = \[\n", table).group(1):
+    if str(len(found)) != re.match(r".*?; (\d+)\] = \[", table).group(1):
         sys.exit("escapes: not every row of %s is read" % name)
     return found
 

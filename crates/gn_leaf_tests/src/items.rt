@@ -1,61 +1,121 @@
 // Faults: every text, the details that are missing, the places, and the order.
 
+use crate::rows::two;
 use gn_items::{Code, Fault, Stage};
 use gn_paths::{Place, Text, Texts};
 use std::alloc::{AllocError, Global};
 use std::test::Fail;
 
-// A code, its number, details that are parted by `|`, and the text, in the order of the numbers.
-const TEXTS: [(Code, u8, &str, &str); 48] = [
-    (Code::BadByte, 1, "", "Invalid token."),
-    (Code::BadNumber, 2, "", "Invalid number."),
-    (Code::OpenString, 3, "", "Unterminated string literal."),
-    (Code::BadDollar, 4, "", "Invalid expansion in string."),
-    (Code::AboveRoot, 5, "", "Path is above the source root."),
-    (Code::BadPath, 6, "", "Invalid path."),
-    (Code::Unexpected, 7, "", "Unexpected token."),
-    (Code::TooDeep, 8, "", "Nesting is too deep."),
-    (Code::BadLabel, 9, "", "Invalid label."),
-    (Code::BadPattern, 10, "", "Invalid pattern."),
-    (Code::UnknownSubstitution, 11, "", "Unknown substitution."),
-    (Code::BadTypes, 12, "", "Wrong type of value."),
-    (Code::Overflow, 13, "", "Integer overflow."),
-    (Code::NotInList, 14, "", "Item not found in the list."),
-    (Code::BadIndex, 15, "", "Index out of range."),
-    (Code::TooLong, 16, "", "Value is too long."),
-    (Code::Undefined, 17, "x", "Undefined identifier \"x\"."),
-    (Code::Overwrite, 18, "x", "Replacing nonempty list or scope \"x\"."),
-    (Code::Conflict, 19, "x", "Value collision on import: \"x\"."),
-    (Code::NoEffect, 20, "x", "Assignment had no effect: \"x\"."),
-    (Code::AlreadySet, 21, "x", "\"x\" is already set."),
-    (Code::DuplicateArgument, 22, "x", "Duplicate build argument \"x\"."),
-    (Code::NotBoolean, 23, "", "Condition is not a boolean."),
-    (Code::UnknownFunction, 24, "x", "Unknown function \"x\"."),
-    (Code::BadArguments, 25, "x", "Wrong arguments to \"x\"."),
-    (Code::Nesting, 26, "", "Evaluation is nested too deeply."),
-    (Code::AssertFailed, 27, "no x", "Assertion failed. no x"),
-    (Code::Excluded, 28, "x", "\"x\" is not in this profile."),
-    (Code::WrongType, 29, "x", "Wrong type for \"x\"."),
-    (Code::Missing, 30, "x", "\"x\" is missing."),
-    (Code::DuplicateItem, 31, "//:l", "Duplicate item \"//:l\"."),
-    (Code::NotAllowedHere, 32, "x", "\"x\" is not allowed here."),
-    (Code::Unresolved, 33, "//:l|//:m", "\"//:l\" needs \"//:m\", which is not defined."),
-    (Code::WrongKind, 34, "//:l|//:m", "\"//:l\" names \"//:m\", which is of another kind."),
-    (Code::Cycle, 35, "//:l|//:m|//:l", "Dependency cycle: //:l -> //:m -> //:l"),
-    (Code::Invisible, 36, "//:l|//:m", "\"//:l\" may not depend on \"//:m\" (visibility)."),
-    (Code::TestOnly, 37, "//:l|//:m", "\"//:l\" may not depend on \"//:m\" (testonly)."),
-    (Code::AssertNoDeps, 38, "//:l|//:m", "\"//:l\" must not reach \"//:m\"."),
-    (Code::SameOutput, 39, "//a/b.cc", "Output \"//a/b.cc\" is made twice."),
-    (Code::ImportedBuildFile, 40, "//a/b.cc", "\"//a/b.cc\" is both loaded and imported."),
-    (Code::UnknownLabel, 41, "//:l", "No such item: //:l"),
-    (Code::NoPath, 42, "//:l|//:m", "No path between //:l and //:m"),
-    (Code::BadInclude, 43, "//a/b.cc|//:l", "Include of \"//a/b.cc\" is not allowed from \"//:l\"."),
-    (Code::NoSourceFile, 44, "//a/b.cc", "Source file \"//a/b.cc\" is missing."),
-    (Code::ImportCycle, 45, "", "Import cycle."),
-    (Code::TooLarge, 46, "", "The build is larger than a limit."),
-    (Code::NoFile, 47, "//a/b.cc", "No such file \"//a/b.cc\"."),
-    (Code::FileTooBig, 48, "//a/b.cc", "File \"//a/b.cc\" is too big."),
+// The codes in the order of their numbers, which begin at 1.
+const CODES: [Code; 48] = [
+    Code::BadByte,
+    Code::BadNumber,
+    Code::OpenString,
+    Code::BadDollar,
+    Code::AboveRoot,
+    Code::BadPath,
+    Code::Unexpected,
+    Code::TooDeep,
+    Code::BadLabel,
+    Code::BadPattern,
+    Code::UnknownSubstitution,
+    Code::BadTypes,
+    Code::Overflow,
+    Code::NotInList,
+    Code::BadIndex,
+    Code::TooLong,
+    Code::Undefined,
+    Code::Overwrite,
+    Code::Conflict,
+    Code::NoEffect,
+    Code::AlreadySet,
+    Code::DuplicateArgument,
+    Code::NotBoolean,
+    Code::UnknownFunction,
+    Code::BadArguments,
+    Code::Nesting,
+    Code::AssertFailed,
+    Code::Excluded,
+    Code::WrongType,
+    Code::Missing,
+    Code::DuplicateItem,
+    Code::NotAllowedHere,
+    Code::Unresolved,
+    Code::WrongKind,
+    Code::Cycle,
+    Code::Invisible,
+    Code::TestOnly,
+    Code::AssertNoDeps,
+    Code::SameOutput,
+    Code::ImportedBuildFile,
+    Code::UnknownLabel,
+    Code::NoPath,
+    Code::BadInclude,
+    Code::NoSourceFile,
+    Code::ImportCycle,
+    Code::TooLarge,
+    Code::NoFile,
+    Code::FileTooBig,
 ];
+
+// A table of two fields a row.
+macro_rules! rows {
+    ($($first:literal, $second:literal;)+) => {
+        concat!($($first, "\x1f", $second, "\x1e"),+)
+    };
+}
+
+// Details that are parted by `|`, and the text of a code with them, in the order of the numbers.
+const TEXTS: &str = rows! {
+    "", "Invalid token.";
+    "", "Invalid number.";
+    "", "Unterminated string literal.";
+    "", "Invalid expansion in string.";
+    "", "Path is above the source root.";
+    "", "Invalid path.";
+    "", "Unexpected token.";
+    "", "Nesting is too deep.";
+    "", "Invalid label.";
+    "", "Invalid pattern.";
+    "", "Unknown substitution.";
+    "", "Wrong type of value.";
+    "", "Integer overflow.";
+    "", "Item not found in the list.";
+    "", "Index out of range.";
+    "", "Value is too long.";
+    "x", "Undefined identifier \"x\".";
+    "x", "Replacing nonempty list or scope \"x\".";
+    "x", "Value collision on import: \"x\".";
+    "x", "Assignment had no effect: \"x\".";
+    "x", "\"x\" is already set.";
+    "x", "Duplicate build argument \"x\".";
+    "", "Condition is not a boolean.";
+    "x", "Unknown function \"x\".";
+    "x", "Wrong arguments to \"x\".";
+    "", "Evaluation is nested too deeply.";
+    "no x", "Assertion failed. no x";
+    "x", "\"x\" is not in this profile.";
+    "x", "Wrong type for \"x\".";
+    "x", "\"x\" is missing.";
+    "//:l", "Duplicate item \"//:l\".";
+    "x", "\"x\" is not allowed here.";
+    "//:l|//:m", "\"//:l\" needs \"//:m\", which is not defined.";
+    "//:l|//:m", "\"//:l\" names \"//:m\", which is of another kind.";
+    "//:l|//:m|//:l", "Dependency cycle: //:l -> //:m -> //:l";
+    "//:l|//:m", "\"//:l\" may not depend on \"//:m\" (visibility).";
+    "//:l|//:m", "\"//:l\" may not depend on \"//:m\" (testonly).";
+    "//:l|//:m", "\"//:l\" must not reach \"//:m\".";
+    "//a/b.cc", "Output \"//a/b.cc\" is made twice.";
+    "//a/b.cc", "\"//a/b.cc\" is both loaded and imported.";
+    "//:l", "No such item: //:l";
+    "//:l|//:m", "No path between //:l and //:m";
+    "//a/b.cc|//:l", "Include of \"//a/b.cc\" is not allowed from \"//:l\".";
+    "//a/b.cc", "Source file \"//a/b.cc\" is missing.";
+    "", "Import cycle.";
+    "", "The build is larger than a limit.";
+    "//a/b.cc", "No such file \"//a/b.cc\".";
+    "//a/b.cc", "File \"//a/b.cc\" is too big.";
+};
 
 // The texts between the bars, none where there is no byte.
 fn texts(alloc: Global, parted: &str) -> Result<Texts, AllocError> {
@@ -93,16 +153,32 @@ fn prints(alloc: Global, code: Code, parted: &str, line: &[u8]) -> Result<bool, 
     Ok(printed.as_bytes() == line)
 }
 
-fn has_text(alloc: Global, row: &(Code, u8, &str, &str)) -> Result<bool, AllocError> {
-    let text = row.3;
+fn has_text(alloc: Global, code: Code, parted: &str, text: &str) -> Result<bool, AllocError> {
     let line = format!(in alloc; "ERROR: {text}\n")?;
-    prints(alloc, row.0, row.2, line.as_bytes())
+    prints(alloc, code, parted, line.as_bytes())
+}
+
+fn has_row(alloc: Global, code: Code, row: &str) -> Result<bool, AllocError> {
+    match two(row) {
+        Some((parted, text)) => has_text(alloc, code, parted, text),
+        None => Ok(false),
+    }
+}
+
+// Whether the row of this number says the text of its code.
+fn is_text(alloc: Global, number: usize, row: &str) -> Result<bool, AllocError> {
+    match CODES.get(number) {
+        Some(code) => Ok(
+            usize::from(code.number()) == number.wrapping_add(1) && has_row(alloc, *code, row)?,
+        ),
+        None => Ok(false),
+    }
 }
 
 #[test]
 fn each_code_has_its_number_and_its_text(rt: HostRuntime) -> Result<(), Fail> {
-    for row in &TEXTS {
-        assert!(rt; row.0.number() == row.1 && has_text(rt.alloc(), row)?, "{}", row.1);
+    for (number, row) in TEXTS.split_terminator('\x1e').enumerate() {
+        assert!(rt; is_text(rt.alloc(), number, row)?, "at {row}");
     }
     Ok(())
 }
@@ -116,7 +192,11 @@ const LINES: [(Code, &str, &str); 8] = [
     (Code::NoPath, "a", "ERROR: No path between a and \n"),
     (Code::NoPath, "%|b", "ERROR: No path between % and b\n"),
     (Code::Cycle, "", "ERROR: Dependency cycle: \n"),
-    (Code::TooLarge, "a", "ERROR: The build is larger than a limit.\n"),
+    (
+        Code::TooLarge,
+        "a",
+        "ERROR: The build is larger than a limit.\n",
+    ),
 ];
 
 fn has_line(alloc: Global, row: &(Code, &str, &str)) -> Result<bool, AllocError> {
@@ -165,7 +245,11 @@ fn put_place(
 }
 
 fn standing(alloc: Global, row: &Standing) -> Result<Fault, AllocError> {
-    let detail = if matches!(row.3, Code::NoFile) { "//a" } else { "" };
+    let detail = if matches!(row.3, Code::NoFile) {
+        "//a"
+    } else {
+        ""
+    };
     let mut fault = fault(alloc, row.3, detail)?;
     fault.stage = row.0;
     put_place(alloc, &mut fault, &row.1, row.2)?;

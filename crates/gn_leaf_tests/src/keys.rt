@@ -113,7 +113,11 @@ fn is_same_key(root: &Path, again: &Path) -> bool {
 }
 
 // The value at the root once it is put there.
-fn value_at(alloc: Global, root: Path, again: &Path) -> Result<Option<u32>, AllocFailed<(Path, u32)>> {
+fn value_at(
+    alloc: Global,
+    root: Path,
+    again: &Path,
+) -> Result<Option<u32>, AllocFailed<(Path, u32)>> {
     let mut map = BTreeMap::new(alloc);
     put(&mut map, root, 7)?;
     Ok(look_up(&map, again))

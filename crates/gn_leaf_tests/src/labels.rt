@@ -1,9 +1,17 @@
 // Labels and patterns, with values that the language's rules give.
 
+use crate::rows::two;
 use gn_labels::{Label, LabelError, Pattern, PatternError, is_name};
 use gn_paths::{Path, PathError, Text, resolve};
 use std::alloc::Global;
 use std::test::Fail;
+
+// A table of two fields a row.
+macro_rules! rows {
+    ($($first:literal, $second:literal;)+) => {
+        concat!($($first, "\x1f", $second, "\x1e"),+)
+    };
+}
 
 // The directory, the name and the toolchain of a label.
 type Parts = (&'static [u8], &'static [u8], &'static [u8]);
@@ -83,70 +91,108 @@ fn labels_are_ordered(rt: HostRuntime) -> Result<(), Fail> {
 }
 
 // What a file of `//c/d` means by the text, where its toolchain is `//t:u`.
-fn read(alloc: Global, text: &[u8]) -> Result<Label, LabelError> {
+fn read(alloc: Global, text: &str) -> Result<Label, LabelError> {
     let Ok(directory) = at_root(alloc, b"//c/d") else {
         return Err(LabelError::Memory);
     };
     read_there(alloc, text, &directory)
 }
 
-fn read_there(alloc: Global, text: &[u8], directory: &Path) -> Result<Label, LabelError> {
+fn read_there(alloc: Global, text: &str, directory: &Path) -> Result<Label, LabelError> {
     match Text::from_bytes(alloc, b"//t:u") {
-        Ok(toolchain) => Label::read(alloc, text, directory, &toolchain),
+        Ok(toolchain) => Label::read(alloc, text.as_bytes(), directory, &toolchain),
         Err(_) => Err(LabelError::Memory),
     }
 }
 
-const READ: [(&[u8], &[u8]); 7] = [
-    (b":k(//t:t)", b"//c/d:k"),
-    (b":k", b"//c/d:k(//t:u)"),
-    (b":b(:t)", b"//c/d:b(//c/d:t)"),
-    (b"//a/(//t)", b"//a:a"),
-    (b"../x:y(//t:t)", b"//c/x:y"),
-    (b"//a*:b(//t:t)", b"//a*:b"),
-    (b"//:g(//t:t)", b"//:g"),
-];
+// A text, and the label that is meant, as it is printed.
+const READ: &str = rows! {
+    ":k(//t:t)", "//c/d:k";
+    ":k", "//c/d:k(//t:u)";
+    ":b(:t)", "//c/d:b(//c/d:t)";
+    "//a/(//t)", "//a:a";
+    "../x:y(//t:t)", "//c/x:y";
+    "//a*:b(//t:t)", "//a*:b";
+    "//:g(//t:t)", "//:g";
+};
 
-fn is_read(alloc: Global, row: &(&[u8], &[u8])) -> Result<bool, Fail> {
-    let label = read(alloc, row.0)?;
-    prints_as(alloc, &label, row.1)
+fn reads_as(alloc: Global, text: &str, shown: &str) -> Result<bool, Fail> {
+    let label = read(alloc, text)?;
+    prints_as(alloc, &label, shown.as_bytes())
+}
+
+fn is_read(alloc: Global, row: &str) -> Result<bool, Fail> {
+    match two(row) {
+        Some((text, shown)) => reads_as(alloc, text, shown),
+        None => Ok(false),
+    }
 }
 
 #[test]
 fn labels_are_read(rt: HostRuntime) -> Result<(), Fail> {
-    for row in &READ {
-        assert!(rt; is_read(rt.alloc(), row)?, "{:?}", row.0);
+    for row in READ.split_terminator('\x1e') {
+        assert!(rt; is_read(rt.alloc(), row)?, "at {row}");
     }
     Ok(())
 }
 
-const REFUSED: [(&[u8], LabelError); 13] = [
-    (b"x", LabelError::BadLabel),
-    (b"../x", LabelError::BadLabel),
-    (b"//", LabelError::BadLabel),
-    (b"/s:a", LabelError::BadLabel),
-    (b"//a:b()", LabelError::BadLabel),
-    (b"//a:b(c)", LabelError::BadLabel),
-    (b"//a:b(//t:t", LabelError::BadLabel),
-    (b"//..", LabelError::Path(PathError::AboveRoot)),
-    (b"//a/..", LabelError::BadLabel),
-    (b"//a\0", LabelError::BadLabel),
-    (b"//a\0/b", LabelError::Path(PathError::BadPath)),
-    (b"//../a)", LabelError::BadLabel),
-    (b"//..:b(c)", LabelError::BadLabel),
-];
+// A text, and why it is no label.
+const REFUSED: &str = rows! {
+    "x", "BadLabel";
+    "../x", "BadLabel";
+    "//", "BadLabel";
+    "/s:a", "BadLabel";
+    "//a:b()", "BadLabel";
+    "//a:b(c)", "BadLabel";
+    "//a:b(//t:t", "BadLabel";
+    "//..", "AboveRoot";
+    "//../.", "AboveRoot";
+    "//./", "BadLabel";
+    "//a/..", "BadLabel";
+    "//a\0", "BadLabel";
+    "//a\0//", "BadLabel";
+    "//a\0/.", "BadLabel";
+    "//a\0/b", "BadPath";
+    "//../a)", "BadLabel";
+    "//../a)//", "BadLabel";
+    "//../a)/.", "BadLabel";
+    "//..:b(c)", "BadLabel";
+};
 
-fn is_refused(alloc: Global, row: &(&[u8], LabelError)) -> bool {
-    match read(alloc, row.0) {
+fn path_error_name(error: &PathError) -> &'static [u8] {
+    match error {
+        PathError::AboveRoot => b"AboveRoot",
+        PathError::BadPath => b"BadPath",
+        PathError::Memory => b"Memory",
+    }
+}
+
+fn error_name(error: &LabelError) -> &'static [u8] {
+    match error {
+        LabelError::BadLabel => b"BadLabel",
+        LabelError::Path(error) => path_error_name(error),
+        LabelError::Memory => b"Memory",
+    }
+}
+
+fn fails_with(alloc: Global, text: &str, wanted: &str) -> bool {
+    match &read(alloc, text) {
         Ok(_) => false,
-        Err(error) => error == row.1,
+        Err(error) => error_name(error) == wanted.as_bytes(),
+    }
+}
+
+fn is_refused(alloc: Global, row: &str) -> bool {
+    match two(row) {
+        Some((text, wanted)) => fails_with(alloc, text, wanted),
+        None => false,
     }
 }
 
 #[test]
 fn bad_labels_are_refused(rt: HostRuntime) -> Result<(), Fail> {
-    for row in &REFUSED {
-        assert!(rt; is_refused(rt.alloc(), row), "{:?}", row.0);
+    for row in REFUSED.split_terminator('\x1e') {
+        assert!(rt; is_refused(rt.alloc(), row), "at {row}");
     }
     Ok(())
 }
@@ -157,66 +203,112 @@ fn names_are_known(rt: HostRuntime) -> Result<(), Fail> {
     Ok(())
 }
 
-fn pattern(alloc: Global, text: &[u8]) -> Result<Pattern, PatternError> {
+fn pattern(alloc: Global, text: &str) -> Result<Pattern, PatternError> {
     match at_root(alloc, b"//c/d") {
-        Ok(directory) => Pattern::read(alloc, text, &directory),
+        Ok(directory) => Pattern::read(alloc, text.as_bytes(), &directory),
         Err(_) => Err(PatternError::Memory),
     }
 }
 
-// A pattern, a label, and whether it matches.
-const MATCHED: [(&[u8], &[u8], bool); 15] = [
-    (b"//a:*", b"//a:a", true),
-    (b"//a:*", b"//a/b:a", false),
-    (b"//a", b"//a:a", true),
-    (b"//a", b"//a:b", false),
-    (b"//a/*", b"//a:a", true),
-    (b"//a/*", b"//ab:a", false),
-    (b"//a/*", b"//a/b:a", true),
-    (b"//a/*", b"//:a", false),
-    (b"//*(//t:u)", b"//a:a", true),
-    (b"//*(//t:u)", b"//a:a(//t:t)", false),
-    (b"../*", b"//c/x:a", true),
-    (b"../*", b"//:a", false),
-    (b":*", b":a", true),
-    (b":*", b"//c:a", false),
-    (b"*", b"//a:a", true),
-];
+// Patterns, each with a label that it matches.
+const MATCHED: &str = rows! {
+    "//a:*", "//a:a";
+    "//a", "//a:a";
+    "//a/*", "//a:a";
+    "//a/*", "//a/b:a";
+    "//*(//t:u)", "//a:a";
+    "../*", "//c/x:a";
+    ":*", ":a";
+    "*", "//a:a";
+    "//a:*(//t*:t)", "//a:x(//t*:t)";
+};
 
-fn is_matched(alloc: Global, row: &(&[u8], &[u8], bool)) -> Result<bool, Fail> {
-    let pattern = pattern(alloc, row.0)?;
-    let label = read(alloc, row.1)?;
-    Ok(pattern.matches(&label) == row.2)
+// Patterns, each with a label that it doesn't match.
+const PASSED_BY: &str = rows! {
+    "//a:*", "//a/b:a";
+    "//a", "//a:b";
+    "//a/*", "//ab:a";
+    "//a/*", "//:a";
+    "//*(//t:u)", "//a:a(//t:t)";
+    "../*", "//:a";
+    ":*", "//c:a";
+    "//a:*(//t*:t)", "//a:x(//t:t)";
+};
+
+fn matches(alloc: Global, pattern: &Pattern, text: &str) -> Result<bool, Fail> {
+    let label = read(alloc, text)?;
+    Ok(pattern.matches(&label))
+}
+
+fn match_each_other(alloc: Global, text: &str, label: &str) -> Result<bool, Fail> {
+    let pattern = pattern(alloc, text)?;
+    matches(alloc, &pattern, label)
+}
+
+fn is_matched(alloc: Global, row: &str, wanted: bool) -> Result<bool, Fail> {
+    match two(row) {
+        Some((text, label)) => Ok(match_each_other(alloc, text, label)? == wanted),
+        None => Ok(false),
+    }
 }
 
 #[test]
 fn patterns_match_labels(rt: HostRuntime) -> Result<(), Fail> {
-    for row in &MATCHED {
-        assert!(rt; is_matched(rt.alloc(), row)?, "{:?} {:?}", row.0, row.1);
+    for row in MATCHED.split_terminator('\x1e') {
+        assert!(rt; is_matched(rt.alloc(), row, true)?, "at {row}");
     }
     Ok(())
 }
 
-const BAD_PATTERNS: [(&[u8], PatternError); 6] = [
-    (b"//a*", PatternError::BadPattern),
-    (b"//a*:b", PatternError::BadPattern),
-    (b"a", PatternError::BadPattern),
-    (b"/s/*", PatternError::BadPattern),
-    (b"//../*(x)", PatternError::BadPattern),
-    (b"//../*", PatternError::Path(PathError::AboveRoot)),
-];
+#[test]
+fn patterns_pass_labels_by(rt: HostRuntime) -> Result<(), Fail> {
+    for row in PASSED_BY.split_terminator('\x1e') {
+        assert!(rt; is_matched(rt.alloc(), row, false)?, "at {row}");
+    }
+    Ok(())
+}
 
-fn is_bad_pattern(alloc: Global, row: &(&[u8], PatternError)) -> bool {
-    match pattern(alloc, row.0) {
+// A text, and why it is no pattern.
+const BAD_PATTERNS: &str = rows! {
+    "//a*", "BadPattern";
+    "//a*:b", "BadPattern";
+    "a", "BadPattern";
+    "/s/*", "BadPattern";
+    "//../*(x)", "BadPattern";
+    "//../*", "AboveRoot";
+    "//../a)//", "BadPattern";
+    "//../a)/.", "BadPattern";
+    "//a\0//", "BadPattern";
+    "//a\0/.", "BadPattern";
+    "//a:b(//t*:t)", "BadPattern";
+};
+
+fn pattern_error_name(error: &PatternError) -> &'static [u8] {
+    match error {
+        PatternError::BadPattern => b"BadPattern",
+        PatternError::Path(error) => path_error_name(error),
+        PatternError::Memory => b"Memory",
+    }
+}
+
+fn is_no_pattern(alloc: Global, text: &str, wanted: &str) -> bool {
+    match &pattern(alloc, text) {
         Ok(_) => false,
-        Err(error) => error == row.1,
+        Err(error) => pattern_error_name(error) == wanted.as_bytes(),
+    }
+}
+
+fn is_bad_pattern(alloc: Global, row: &str) -> bool {
+    match two(row) {
+        Some((text, wanted)) => is_no_pattern(alloc, text, wanted),
+        None => false,
     }
 }
 
 #[test]
 fn bad_patterns_are_refused(rt: HostRuntime) -> Result<(), Fail> {
-    for row in &BAD_PATTERNS {
-        assert!(rt; is_bad_pattern(rt.alloc(), row), "{:?}", row.0);
+    for row in BAD_PATTERNS.split_terminator('\x1e') {
+        assert!(rt; is_bad_pattern(rt.alloc(), row), "at {row}");
     }
     Ok(())
 }

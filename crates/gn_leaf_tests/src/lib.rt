@@ -16,6 +16,8 @@ mod outside;
 #[cfg(test)]
 mod paths;
 #[cfg(test)]
+mod rows;
+#[cfg(test)]
 mod substs;
 #[cfg(test)]
 mod syntax;

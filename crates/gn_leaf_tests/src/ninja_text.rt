@@ -24,11 +24,7 @@ fn paths_are_escaped(rt: HostRuntime) -> Result<(), Fail> {
     Ok(())
 }
 
-const VALUES: [(&[u8], &[u8]); 3] = [
-    (b"  a b:c", b"$  a b:c"),
-    (b"", b""),
-    (b"a$b ", b"a$$b "),
-];
+const VALUES: [(&[u8], &[u8]); 3] = [(b"  a b:c", b"$  a b:c"), (b"", b""), (b"a$b ", b"a$$b ")];
 
 fn is_escaped_value(alloc: Global, row: &(&[u8], &[u8])) -> Result<bool, AllocError> {
     let text = escape_value(alloc, row.0)?;
