@@ -281,7 +281,6 @@ const BELOW: &str = rows! {
     "//out/x/", "//out/";
     "//x", "//";
     "/x", "/";
-    "/s//", "/s";
 };
 
 // Paths, each with a directory below which it doesn't stand.
@@ -291,6 +290,7 @@ const NOT_BELOW: &str = rows! {
     "//output", "//out";
     "//", "//";
     "//x", "/";
+    "/s//", "/s";
 };
 
 fn stands_below(alloc: Global, path: &str, directory: &str) -> Result<bool, PathError> {
