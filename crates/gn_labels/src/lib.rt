@@ -26,6 +26,3 @@ pub use laws::{
 pub use name::is_name;
 pub use named::Named;
 pub use pattern::{Extent, Pattern};
-
-#[cfg(test)]
-mod tests;

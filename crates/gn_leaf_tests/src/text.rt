@@ -30,10 +30,10 @@ fn are_interned(names: &mut Names) -> Result<bool, AllocError> {
 
 // What the names answer once they are interned.
 fn are_known(names: &Names) -> bool {
-    names.len() == 4
-        && names.number(b"deps") == Some(1)
+    names.number(b"deps") == Some(1)
         && names.number(b"dep") == None
         && names.name(1) == Some(&b"deps"[..])
+        && names.name(3).is_some()
         && names.name(4).is_none()
 }
 

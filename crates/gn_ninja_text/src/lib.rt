@@ -7,6 +7,3 @@ mod words;
 
 pub use escapes::{append_doubled, escape_path, escape_value};
 pub use words::shell_word;
-
-#[cfg(test)]
-mod tests;

@@ -30,8 +30,3 @@ pub use rebasing::rebase;
 pub use resolving::{path_meant, resolve};
 pub use text::Text;
 pub use texts::Texts;
-
-#[cfg(test)]
-mod tests;
-#[cfg(test)]
-mod tests_paths;

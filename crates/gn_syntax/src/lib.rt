@@ -11,8 +11,6 @@ mod operator;
 mod parser;
 mod pieces;
 mod place;
-#[cfg(test)]
-mod tests;
 
 pub use error::SyntaxError;
 pub use file::{Parsed, parse, parse_expr};

@@ -12,6 +12,3 @@ pub use position::Position;
 pub use tree::{
     Block, Call, Condition, Expr, Exprs, Otherwise, Statement, SubCondition, SubExpr, Target,
 };
-
-#[cfg(test)]
-mod tests;

@@ -19,6 +19,3 @@ pub use kept::{Definition, DefinitionName, Definitions, KeptScope};
 pub use limits::{MAX_BYTES, MAX_DEPTH, MAX_ITEMS, append_text};
 pub use operators::{add, compare, index, subtract};
 pub use value::{Entries, Entry, Items, Value, print_text};
-
-#[cfg(test)]
-mod tests;

@@ -1,7 +1,7 @@
 // The limit of 200 on the nesting.
 
 use super::{error_of, push_times};
-use crate::SyntaxError;
+use gn_syntax::SyntaxError;
 use std::alloc::{AllocError, Global};
 use std::test::Fail;
 
@@ -33,29 +33,36 @@ const NESTS: [Nest; 17] = [
     (["if(a){}", "else if(a){}", "", "", ""], 199, 2402),
 ];
 
-fn nested(alloc: Global, parts: [&'static str; 5], count: usize) -> Result<Vec<u8>, AllocError> {
-    let [before, opens, inside, closes, after] = parts;
-    let mut bytes = before.as_bytes().to_vec(alloc)?;
-    push_times(&mut bytes, opens, count)?;
-    push_times(&mut bytes, inside, 1)?;
-    push_times(&mut bytes, closes, count)?;
-    push_times(&mut bytes, after, 1)?;
+// The parts of a row, the middle ones so many times.
+fn nested(alloc: Global, parts: &[&'static str; 5], count: usize) -> Result<Vec<u8>, AllocError> {
+    let mut bytes = parts[0].as_bytes().to_vec(alloc)?;
+    push_times(&mut bytes, parts[1], count)?;
+    push_times(&mut bytes, parts[2], 1)?;
+    push_times(&mut bytes, parts[3], count)?;
+    push_times(&mut bytes, parts[4], 1)?;
     Ok(bytes)
+}
+
+fn error_at(
+    alloc: Global,
+    parts: &[&'static str; 5],
+    count: usize,
+) -> Result<Option<SyntaxError>, AllocError> {
+    let bytes = nested(alloc, parts, count)?;
+    Ok(error_of(alloc, &bytes))
+}
+
+fn is_limited(alloc: Global, row: &Nest) -> Result<bool, AllocError> {
+    let count = usize::from(row.1);
+    let deepest = error_at(alloc, &row.0, count)?;
+    let deeper = error_at(alloc, &row.0, count + 1)?;
+    Ok(deepest == None && deeper == Some(SyntaxError::TooDeep(row.2)))
 }
 
 #[test]
 fn nests_200_deep_and_no_deeper(rt: HostRuntime) -> Result<(), Fail> {
-    let alloc = rt.alloc();
-    for (parts, count, too_deep) in NESTS {
-        let count = usize::from(count);
-        let deepest = nested(alloc, parts, count)?;
-        assert_eq!(rt; error_of(alloc, &deepest), None, "at {parts:?}");
-        let deeper = nested(alloc, parts, count + 1)?;
-        assert_eq!(rt;
-            error_of(alloc, &deeper),
-            Some(SyntaxError::TooDeep(too_deep)),
-            "at {parts:?}"
-        );
+    for (number, row) in NESTS.iter().enumerate() {
+        assert!(rt; is_limited(rt.alloc(), row)?, "row {number}");
     }
     Ok(())
 }
@@ -71,13 +78,21 @@ fn push_deepest_left(bytes: &mut Vec<u8>) -> Result<(), AllocError> {
     Ok(())
 }
 
+fn are_deepest(alloc: Global, bytes: &mut Vec<u8>) -> Result<bool, AllocError> {
+    push_deepest_left(bytes)?;
+    let deepest = error_of(alloc, bytes);
+    push_times(bytes, "+a", 1)?;
+    let deeper = error_of(alloc, bytes);
+    Ok(deepest == None && deeper == Some(SyntaxError::TooDeep(40603)))
+}
+
+fn stand_deep(alloc: Global) -> Result<bool, AllocError> {
+    let mut bytes = "x=".as_bytes().to_vec(alloc)?;
+    are_deepest(alloc, &mut bytes)
+}
+
 #[test]
 fn left_operands_stand_20100_deep(rt: HostRuntime) -> Result<(), Fail> {
-    let alloc = rt.alloc();
-    let mut bytes = "x=".as_bytes().to_vec(alloc)?;
-    push_deepest_left(&mut bytes)?;
-    assert_eq!(rt; error_of(alloc, &bytes), None);
-    push_times(&mut bytes, "+a", 1)?;
-    assert_eq!(rt; error_of(alloc, &bytes), Some(SyntaxError::TooDeep(40603)));
+    assert!(rt; stand_deep(rt.alloc())?);
     Ok(())
 }

@@ -7,7 +7,7 @@ mod places;
 mod sizes;
 mod trees;
 
-use crate::{SyntaxError, parse};
+use gn_syntax::{SyntaxError, parse};
 use std::alloc::{AllocError, Global};
 
 /// The first error of a file, none where it parses.

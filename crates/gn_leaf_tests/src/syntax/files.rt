@@ -1,9 +1,9 @@
 // Files that parse, and the first error of those that don't.
 
 use super::error_of;
-use crate::SyntaxError;
-use crate::SyntaxError::{Token, Unexpected};
+use gn_syntax::SyntaxError::{self, Token, Unexpected};
 use gn_tokens::TokenError;
+use std::alloc::Global;
 use std::test::Fail;
 
 const FILES: [(&str, Option<SyntaxError>); 38] = [
@@ -56,10 +56,14 @@ const FILES: [(&str, Option<SyntaxError>); 38] = [
     ("x = \"$\"", Some(Token(TokenError::BadDollar(5)))),
 ];
 
+fn is_read(alloc: Global, row: &(&str, Option<SyntaxError>)) -> bool {
+    error_of(alloc, row.0.as_bytes()) == row.1
+}
+
 #[test]
 fn files_parse_or_have_their_first_error(rt: HostRuntime) -> Result<(), Fail> {
-    for (text, error) in FILES {
-        assert_eq!(rt; error_of(rt.alloc(), text.as_bytes()), error, "at {text}");
+    for row in &FILES {
+        assert!(rt; is_read(rt.alloc(), row), "at {}", row.0);
     }
     Ok(())
 }

@@ -1,7 +1,8 @@
 // Which trees: how operators group, and the pieces of strings.
 
-use crate::parse;
+use gn_syntax::{SyntaxError, parse};
 use gn_tree::{BinaryOp, Block, Expr, Piece, Position, Statement, Subscript};
+use std::alloc::Global;
 use std::test::Fail;
 
 // A file, the operator at the top of the value, and whether its left and its right operand are operators with operands.
@@ -47,15 +48,15 @@ fn grouping(block: &Block) -> Option<(BinaryOp, bool, bool)> {
     }
 }
 
+fn is_grouped(alloc: Global, row: &Grouped) -> Result<bool, SyntaxError> {
+    let parsed = parse(alloc, row.0.as_bytes())?;
+    Ok(grouping(parsed.block()) == Some((row.1, row.2, row.3)))
+}
+
 #[test]
 fn operators_group_by_priority_and_to_the_left(rt: HostRuntime) -> Result<(), Fail> {
-    for (text, operator, left, right) in GROUPED {
-        let parsed = parse(rt.alloc(), text.as_bytes())?;
-        assert_eq!(rt;
-            grouping(parsed.block()),
-            Some((operator, left, right)),
-            "at {text}"
-        );
+    for row in &GROUPED {
+        assert!(rt; is_grouped(rt.alloc(), row)?, "at {}", row.0);
     }
     Ok(())
 }
@@ -162,11 +163,15 @@ fn are_as_wanted(block: &Block, wants: &[Want]) -> bool {
             .all(|(piece, want)| is_as_wanted(piece, want))
 }
 
+fn is_cut(alloc: Global, row: &(&[u8], &[Want])) -> Result<bool, SyntaxError> {
+    let parsed = parse(alloc, row.0)?;
+    Ok(are_as_wanted(parsed.block(), row.1))
+}
+
 #[test]
 fn strings_are_cut_into_pieces(rt: HostRuntime) -> Result<(), Fail> {
-    for (text, wants) in STRINGS {
-        let parsed = parse(rt.alloc(), text)?;
-        assert!(rt; are_as_wanted(parsed.block(), wants), "at {text:?}");
+    for (number, row) in STRINGS.iter().enumerate() {
+        assert!(rt; is_cut(rt.alloc(), row)?, "row {number}");
     }
     Ok(())
 }

@@ -1,0 +1,351 @@
+// Faults: every text, the details that are missing, the places, and the order.
+
+use crate::rows::two;
+use gn_faults::{Code, Fault, Stage};
+use gn_paths::{Place, Text, Texts};
+use std::alloc::{AllocError, Global};
+use std::test::Fail;
+
+// The codes in the order of their numbers, which begin at 1.
+const CODES: [Code; 48] = [
+    Code::BadByte,
+    Code::BadNumber,
+    Code::OpenString,
+    Code::BadDollar,
+    Code::AboveRoot,
+    Code::BadPath,
+    Code::Unexpected,
+    Code::TooDeep,
+    Code::BadLabel,
+    Code::BadPattern,
+    Code::UnknownSubstitution,
+    Code::BadTypes,
+    Code::Overflow,
+    Code::NotInList,
+    Code::BadIndex,
+    Code::TooLong,
+    Code::Undefined,
+    Code::Overwrite,
+    Code::Conflict,
+    Code::NoEffect,
+    Code::AlreadySet,
+    Code::DuplicateArgument,
+    Code::NotBoolean,
+    Code::UnknownFunction,
+    Code::BadArguments,
+    Code::Nesting,
+    Code::AssertFailed,
+    Code::Excluded,
+    Code::WrongType,
+    Code::Missing,
+    Code::DuplicateItem,
+    Code::NotAllowedHere,
+    Code::Unresolved,
+    Code::WrongKind,
+    Code::Cycle,
+    Code::Invisible,
+    Code::TestOnly,
+    Code::AssertNoDeps,
+    Code::SameOutput,
+    Code::ImportedBuildFile,
+    Code::UnknownLabel,
+    Code::NoPath,
+    Code::BadInclude,
+    Code::NoSourceFile,
+    Code::ImportCycle,
+    Code::TooLarge,
+    Code::NoFile,
+    Code::FileTooBig,
+];
+
+// A table of two fields a row.
+macro_rules! rows {
+    ($($first:literal, $second:literal;)+) => {
+        concat!($($first, "\x1f", $second, "\x1e"),+)
+    };
+}
+
+// Details that are parted by `|`, and the text of a code with them, in the order of the numbers.
+const TEXTS: &str = rows! {
+    "", "Invalid token.";
+    "", "Invalid number.";
+    "", "Unterminated string literal.";
+    "", "Invalid expansion in string.";
+    "", "Path is above the source root.";
+    "", "Invalid path.";
+    "", "Unexpected token.";
+    "", "Nesting is too deep.";
+    "", "Invalid label.";
+    "", "Invalid pattern.";
+    "", "Unknown substitution.";
+    "", "Wrong type of value.";
+    "", "Integer overflow.";
+    "", "Item not found in the list.";
+    "", "Index out of range.";
+    "", "Value is too long.";
+    "x", "Undefined identifier \"x\".";
+    "x", "Replacing nonempty list or scope \"x\".";
+    "x", "Value collision on import: \"x\".";
+    "x", "Assignment had no effect: \"x\".";
+    "x", "\"x\" is already set.";
+    "x", "Duplicate build argument \"x\".";
+    "", "Condition is not a boolean.";
+    "x", "Unknown function \"x\".";
+    "x", "Wrong arguments to \"x\".";
+    "", "Evaluation is nested too deeply.";
+    "no x", "Assertion failed. no x";
+    "x", "\"x\" is not in this profile.";
+    "x", "Wrong type for \"x\".";
+    "x", "\"x\" is missing.";
+    "//:l", "Duplicate item \"//:l\".";
+    "x", "\"x\" is not allowed here.";
+    "//:l|//:m", "\"//:l\" needs \"//:m\", which is not defined.";
+    "//:l|//:m", "\"//:l\" names \"//:m\", which is of another kind.";
+    "//:l|//:m|//:l", "Dependency cycle: //:l -> //:m -> //:l";
+    "//:l|//:m", "\"//:l\" may not depend on \"//:m\" (visibility).";
+    "//:l|//:m", "\"//:l\" may not depend on \"//:m\" (testonly).";
+    "//:l|//:m", "\"//:l\" must not reach \"//:m\".";
+    "//a/b.cc", "Output \"//a/b.cc\" is made twice.";
+    "//a/b.cc", "\"//a/b.cc\" is both loaded and imported.";
+    "//:l", "No such item: //:l";
+    "//:l|//:m", "No path between //:l and //:m";
+    "//a/b.cc|//:l", "Include of \"//a/b.cc\" is not allowed from \"//:l\".";
+    "//a/b.cc", "Source file \"//a/b.cc\" is missing.";
+    "", "Import cycle.";
+    "", "The build is larger than a limit.";
+    "//a/b.cc", "No such file \"//a/b.cc\".";
+    "//a/b.cc", "File \"//a/b.cc\" is too big.";
+};
+
+// The texts between the bars, none where there is no byte.
+fn texts(alloc: Global, parted: &str) -> Result<Texts, AllocError> {
+    let mut list = Texts::new(alloc);
+    if parted.is_empty() {
+        return Ok(list);
+    }
+    for text in parted.split('|') {
+        push(alloc, &mut list, text)?;
+    }
+    Ok(list)
+}
+
+fn push(alloc: Global, list: &mut Texts, text: &str) -> Result<(), AllocError> {
+    list.push(Text::from_bytes(alloc, text.as_bytes())?)
+}
+
+fn fault(alloc: Global, code: Code, parted: &str) -> Result<Fault, AllocError> {
+    let detail = texts(alloc, parted)?;
+    Ok(Fault {
+        stage: Stage::Loading,
+        place: None,
+        toolchain: Text::new(alloc),
+        code,
+        detail,
+    })
+}
+
+fn printed(alloc: Global, code: Code, parted: &str) -> Result<Text, AllocError> {
+    fault(alloc, code, parted)?.print(alloc)
+}
+
+fn prints(alloc: Global, code: Code, parted: &str, line: &[u8]) -> Result<bool, AllocError> {
+    let printed = printed(alloc, code, parted)?;
+    Ok(printed.as_bytes() == line)
+}
+
+fn has_text(alloc: Global, code: Code, parted: &str, text: &str) -> Result<bool, AllocError> {
+    let line = format!(in alloc; "ERROR: {text}\n")?;
+    prints(alloc, code, parted, line.as_bytes())
+}
+
+fn has_row(alloc: Global, code: Code, row: &str) -> Result<bool, AllocError> {
+    match two(row) {
+        Some((parted, text)) => has_text(alloc, code, parted, text),
+        None => Ok(false),
+    }
+}
+
+// Whether the row of this number says the text of its code.
+fn is_text(alloc: Global, number: usize, row: &str) -> Result<bool, AllocError> {
+    match CODES.get(number) {
+        Some(code) => Ok(
+            usize::from(code.number()) == number.wrapping_add(1) && has_row(alloc, *code, row)?,
+        ),
+        None => Ok(false),
+    }
+}
+
+#[test]
+fn each_code_has_its_number_and_its_text(rt: HostRuntime) -> Result<(), Fail> {
+    for (number, row) in TEXTS.split_terminator('\x1e').enumerate() {
+        assert!(rt; is_text(rt.alloc(), number, row)?, "at {row}");
+    }
+    Ok(())
+}
+
+// Details that are missing or too many.
+const LINES: [(Code, &str, &str); 8] = [
+    (Code::AssertFailed, "", "ERROR: Assertion failed.\n"),
+    (Code::AssertFailed, "a|b", "ERROR: Assertion failed. a\n"),
+    (Code::Missing, "", "ERROR: \"\" is missing.\n"),
+    (Code::Missing, "a|b", "ERROR: \"a\" is missing.\n"),
+    (Code::NoPath, "a", "ERROR: No path between a and \n"),
+    (Code::NoPath, "%|b", "ERROR: No path between % and b\n"),
+    (Code::Cycle, "", "ERROR: Dependency cycle: \n"),
+    (
+        Code::TooLarge,
+        "a",
+        "ERROR: The build is larger than a limit.\n",
+    ),
+];
+
+fn has_line(alloc: Global, row: &(Code, &str, &str)) -> Result<bool, AllocError> {
+    prints(alloc, row.0, row.1, row.2.as_bytes())
+}
+
+#[test]
+fn details_may_be_missing_or_too_many(rt: HostRuntime) -> Result<(), Fail> {
+    for row in &LINES {
+        assert!(rt; has_line(rt.alloc(), row)?, "{}", row.2);
+    }
+    Ok(())
+}
+
+// The file, the line and the column of a place.
+type At = (&'static str, u32, u32);
+
+// The stage of a fault, its place, its toolchain and its code.
+type Standing = (Stage, Option<At>, &'static str, Code);
+
+fn place(alloc: Global, at: &At) -> Result<Place, AllocError> {
+    let file = Text::from_bytes(alloc, at.0.as_bytes())?;
+    Ok(Place {
+        file,
+        line: at.1,
+        column: at.2,
+    })
+}
+
+fn place_if_any(alloc: Global, at: &Option<At>) -> Result<Option<Place>, AllocError> {
+    match at {
+        Some(at) => Ok(Some(place(alloc, at)?)),
+        None => Ok(None),
+    }
+}
+
+fn put_place(
+    alloc: Global,
+    fault: &mut Fault,
+    at: &Option<At>,
+    toolchain: &str,
+) -> Result<(), AllocError> {
+    fault.place = place_if_any(alloc, at)?;
+    fault.toolchain = Text::from_bytes(alloc, toolchain.as_bytes())?;
+    Ok(())
+}
+
+fn standing(alloc: Global, row: &Standing) -> Result<Fault, AllocError> {
+    let detail = if matches!(row.3, Code::NoFile) {
+        "//a"
+    } else {
+        ""
+    };
+    let mut fault = fault(alloc, row.3, detail)?;
+    fault.stage = row.0;
+    put_place(alloc, &mut fault, &row.1, row.2)?;
+    Ok(fault)
+}
+
+const PLACED: Standing = (
+    Stage::Loading,
+    Some(("//a/BUILD.gn", 12, 4294967295)),
+    "",
+    Code::BadByte,
+);
+
+fn is_placed(alloc: Global, fault: &Fault) -> Result<bool, AllocError> {
+    let line = fault.print(alloc)?;
+    Ok(line.as_bytes() == b"ERROR at //a/BUILD.gn:12:4294967295: Invalid token.\n".as_slice())
+}
+
+fn are_equal(fault: &Fault, other: &Fault) -> bool {
+    !fault.before(other) && !other.before(fault)
+}
+
+fn is_copied(alloc: Global, fault: &Fault) -> Result<bool, AllocError> {
+    let copied = fault.copy(alloc)?;
+    Ok(is_placed(alloc, &copied)? && are_equal(fault, &copied))
+}
+
+fn is_placed_and_copied(alloc: Global) -> Result<bool, AllocError> {
+    let fault = standing(alloc, &PLACED)?;
+    Ok(is_placed(alloc, &fault)? && is_copied(alloc, &fault)?)
+}
+
+#[test]
+fn a_place_is_printed_and_copied(rt: HostRuntime) -> Result<(), Fail> {
+    assert!(rt; is_placed_and_copied(rt.alloc())?);
+    Ok(())
+}
+
+// Faults, each before the next. The one for a file that is missing names it.
+const IN_ORDER: [Standing; 10] = [
+    (Stage::Arguments, Some(("//z", 9, 9)), "", Code::BadByte),
+    (Stage::Loading, None, "", Code::TooLarge),
+    (Stage::Loading, None, "", Code::NoFile),
+    (Stage::Loading, Some(("//a", 1, 1)), "", Code::BadByte),
+    (Stage::Loading, Some(("//a", 1, 1)), "", Code::BadNumber),
+    (Stage::Loading, Some(("//a", 1, 2)), "", Code::BadByte),
+    (Stage::Loading, Some(("//a", 2, 1)), "", Code::BadByte),
+    (Stage::Loading, Some(("//a", 1, 1)), "//t:t", Code::BadByte),
+    (Stage::Loading, Some(("//a/b", 1, 1)), "", Code::BadByte),
+    (Stage::Graph, None, "", Code::BadByte),
+];
+
+fn is_before(alloc: Global, fault: &Fault, other: &Standing) -> Result<bool, AllocError> {
+    let other = standing(alloc, other)?;
+    Ok(fault.before(&other))
+}
+
+// Whether the fault stands before the later ones alone.
+fn is_at(alloc: Global, place: usize, fault: &Fault) -> Result<bool, AllocError> {
+    for (number, other) in IN_ORDER.iter().enumerate() {
+        if is_before(alloc, fault, other)? != (place < number) {
+            return Ok(false);
+        }
+    }
+    Ok(true)
+}
+
+fn is_in_order(alloc: Global, place: usize, row: &Standing) -> Result<bool, AllocError> {
+    let fault = standing(alloc, row)?;
+    is_at(alloc, place, &fault)
+}
+
+#[test]
+fn faults_are_ordered(rt: HostRuntime) -> Result<(), Fail> {
+    for (number, row) in IN_ORDER.iter().enumerate() {
+        assert!(rt; is_in_order(rt.alloc(), number, row)?, "row {number}");
+    }
+    Ok(())
+}
+
+// Whether more details stand behind fewer.
+fn are_counted(alloc: Global) -> Result<bool, AllocError> {
+    let few = fault(alloc, Code::Missing, "a|b")?;
+    let more = fault(alloc, Code::Missing, "a|b|")?;
+    Ok(few.before(&more) && !more.before(&few))
+}
+
+#[test]
+fn details_are_ordered(rt: HostRuntime) -> Result<(), Fail> {
+    assert!(rt; are_counted(rt.alloc())?);
+    Ok(())
+}
+
+#[test]
+fn stages_and_codes_are_ordered(rt: HostRuntime) -> Result<(), Fail> {
+    assert!(rt; Stage::Question < Stage::Includes && Code::BadByte < Code::FileTooBig);
+    assert!(rt; Stage::Graph == Stage::Graph && Code::Cycle != Code::ImportCycle);
+    Ok(())
+}
