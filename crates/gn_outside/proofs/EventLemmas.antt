@@ -43,8 +43,8 @@ module _ (events : List Event) (i : ℕ) (event : Event) (here : i < length even
   file_passed path bytes (suc n) some kept =
       let less : n ≡ suc n - 1 = omega arith in
       next_is (suc n) ∙ ap (λ (e : Event). file_in (e ∷ drop (i + 1) events) (suc n)) kept ∙ ap (λ m. file_in (drop (i + 1) events) m) less
-
   -- behind the last event there is no file
+
 pub none_left : (events : List Event) (n : ℕ) → file_in (drop (length events) events) n ≡ None
 none_left events n = ap (λ rest. file_in rest n) (drop-length events)
 

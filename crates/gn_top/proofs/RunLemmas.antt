@@ -26,9 +26,11 @@ ends_as meaning text status wanted sink after same none at under told = record {
 pub cut_answer : (meaning : Said) (text : List ℕ) (sources now : List SourceState) (sink after : SinkState) → text ≡ meaning.text → meaning.files ≡ [] → SaysPart sink after text
     → IsCutShort meaning sources now sink after
 cut_answer meaning text sources now sink after same none (inl nothing) = inl (inl (0, nothing_more sink.events after.events nothing))
-cut_answer meaning text sources now sink after same none (inr (n, part)) = inl (inr (n,
-    part ∙ ap (λ (t : List ℕ). option_map (λ xs. xs ++ Piece (take n t) ∷ []) sink.events) same
-    ∙ ap (λ (files : List PutFile). option_map (λ xs. xs ++ (map Put files ++ Piece (take n meaning.text) ∷ [])) sink.events) (sym none)))
+cut_answer meaning text sources now sink after same none (inr (n, part)) = inl (inr (
+  n,
+  part ∙ ap (λ (t : List ℕ). option_map (λ xs. xs ++ Piece (take n t) ∷ []) sink.events) same
+      ∙ ap (λ (files : List PutFile). option_map (λ xs. xs ++ (map Put files ++ Piece (take n meaning.text) ∷ [])) sink.events) (sym none),
+))
 
 -- nothing has been told
 pub cut_at_once : (meaning : Said) (sources now : List SourceState) (sink : SinkState) → IsCutShort meaning sources now sink sink

@@ -22,7 +22,7 @@ loop-event-preserved c = elim c.match-event.branch [
   | in-Kept-2 w ↦ ap (λ n. file_in (drop (c.loop-event.event-index + 1) c.args.events.now) n) w.left-is
       ∙ sym (file_passed c.args.events.now c.loop-event.event-index c.event-item.result c.loop-event-test.true c.event-item.is w.in-Kept.path w.in-Kept.bytes c.loop-event.left w.if-left-eq0.false w.in-Kept.is)
       ∙ c.loop-event.invariant
-  ]
+]
 
 pub returns : goal.returns
 returns c =
