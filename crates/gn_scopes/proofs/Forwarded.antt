@@ -1,6 +1,6 @@
 -- Forwarding as what it does to the innermost layer and to the callers.
-use Rattle.std.proofs.Common.{◌≡◌, ℕ, true, false, not, cond, map, List, [], ◌∷◌, Option, Some, None, Ok, Err, refl, sym, ap, ◌∙◌}
-use Rattle.std.specs.List.{find, filter}
+use Rattle.std.proofs.Common.{◌≡◌, ℕ, true, false, not, cond, map, List, [], ◌∷◌, Option, Some, None, refl, sym, ap, ◌∙◌}
+use Rattle.std.specs.List.{filter}
 use Rattle.gn_values.specs.View.{entry_of}
 use Rattle.gn_values.specs.declared.value.Entry.{Entry}
 use Rattle.gn_values.specs.Val.{Val}
@@ -9,7 +9,7 @@ use Rattle.gn_scopes.specs.Chains.{is_one_of, chain_read}
 use Rattle.gn_scopes.specs.Environment.{Environment, restored, given}
 use Rattle.gn_scopes.specs.Templates.{with_caller, in_block}
 use Rattle.gn_scopes.specs.Invoker.{entries_by, invoker_entries, after_invoker_read, after_caller_read}
-use Rattle.gn_scopes.specs.Forwarding.{Origin, from_entries, from_invoker, origin_value, forwarded_names, given_if, names_given, is_set_here, forwarded_unless, names_forwarded, entries_given, target_name, all_forwarded}
+use Rattle.gn_scopes.specs.Forwarding.{Origin, from_entries, from_invoker, origin_value, given_if, names_given, entries_given, target_name, all_forwarded}
 use Rattle.gn_scopes.specs.Giving.{all_given, entries_but, found_before, entries_at, origin_entries, read_at, read_at_origin, read_all_at}
 
 -- the environment with these names given their values in the innermost scope
@@ -51,21 +51,6 @@ module _ (value : List ℕ → Option Val) where
   names_given_is from_invoker [] env = refl
   names_given_is from_invoker (n ∷ ns) env =
       one_of_invoker n ns (names_given_is from_invoker ns) env (value n)
-
--- forwarding with a list of names, where these are the ones that are there
-module _ (origin : Origin) (names except ns : List (List ℕ)) (env : Environment) (there : ns ≡ forwarded_names origin names except env) where
-  pub forwards : (new : Environment) → find (is_set_here env) ns ≡ None → new ≡ names_given (origin_value origin env) origin ns env → names_forwarded origin names except env ≡ Ok new
-  unfolding names_forwarded
-  forwards new free is =
-      ap (λ fs. forwarded_unless (find (is_set_here env) fs) (names_given (origin_value origin env) origin fs env)) (sym there)
-      ∙ ap (λ o. forwarded_unless o (names_given (origin_value origin env) origin ns env)) free
-      ∙ ap Ok (sym is)
-
-  pub refuses : (name : List ℕ) → find (is_set_here env) ns ≡ Some name → names_forwarded origin names except env ≡ Err name
-  unfolding names_forwarded
-  refuses name taken =
-      ap (λ fs. forwarded_unless (find (is_set_here env) fs) (names_given (origin_value origin env) origin fs env)) (sym there)
-      ∙ ap (λ o. forwarded_unless o (names_given (origin_value origin env) origin ns env)) taken
 
 -- forwarding with `"*"`
 module _ (except : List (List ℕ)) (given : Table Val) (env new : Environment) where

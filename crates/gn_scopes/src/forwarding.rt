@@ -1,10 +1,11 @@
 // Forwarding variables, and names that count as read.
 
-ghost use Rattle.std.specs.Prelude.{◌≡◌, ◌∷◌, IfOk, OnOk, OnErr, IfErr, IfSome, Err, Ok, map, option_map};
+ghost use Rattle.std.specs.Prelude.{◌≡◌, ◌∷◌, ◌&&◌, not, is_some, IfOk, OnOk, OnErr, IfErr, IfSome, Err, Ok, map, option_map};
 ghost use Rattle.std.specs.List.{find};
 ghost use Rattle.gn_values.specs.View.{val_of, entry_of};
+ghost use Rattle.gn_scopes.specs.Chains.{is_one_of};
 ghost use Rattle.gn_scopes.specs.Invoker.{entries_by};
-ghost use Rattle.gn_scopes.specs.Forwarding.{origin_value, forwarded_names, names_given, is_set_here, names_forwarded, all_forwarded, after_names_read_here, after_all_read_here, target_name};
+ghost use Rattle.gn_scopes.specs.Forwarding.{origin_value, forwarded_names, names_given, is_set_here, forwarded_unless, names_forwarded, all_forwarded, after_names_read_here, after_all_read_here, target_name};
 ghost use Rattle.gn_scopes.specs.Giving.{entries_but, entries_at, origin_entries, read_at, read_at_origin, read_all_at};
 ghost use Rattle.gn_scopes.specs.Origins.{origin_of, name_set};
 
@@ -52,6 +53,7 @@ impl Env {
     /// given copies of their values in the innermost scope, where they count as read. `AlreadySet` comes exactly where
     /// that scope has one of them, and names the first. After a refusal nothing is changed. The work is n log n in the
     /// names.
+    #[tactic(auto, unfolding(crate::specs::Forwarding::names_forwarded))]
     pub fn forward_names(
         &mut self,
         alloc: Global,
@@ -66,16 +68,8 @@ impl Env {
             (λ name. names_forwarded (origin_of from.entry) names.now except.now self.old ≡ Err name)) }
         ensures err { OnErr result (self.new ≡ self.old) }
     {
-        let except = NameSet::new(alloc, except)?;
-        let chosen = self.forwarded(alloc, from, names, &except)?;
-        let there = chosen.as_slice();
-        match self.first_set(there) {
-            Some(name) => Err(ForwardError::AlreadySet(name.copy(alloc)?)),
-            None => {
-                self.give_from(alloc, from, there)?;
-                Ok(())
-            }
-        }
+        let chosen = self.chosen(alloc, from, names, except)?;
+        self.forward_chosen(alloc, from, chosen.as_slice())
     }
 
     /// `forward_variables_from` with `"*"`: all that stands directly there, but for `target_name` and the excepted names,
@@ -138,6 +132,57 @@ impl Env {
         }
     }
 
+    // The names that are there, but for the excepted ones, by the list of these.
+    fn chosen<'a>(
+        &self,
+        alloc: Global,
+        from: Origin<'_>,
+        names: &'a Texts,
+        except: &Texts,
+    ) -> Result<Vec<&'a Text>, AllocError>
+        ensures { IfOk result (λ chosen. map (λ n. n.now) chosen.items
+            ≡ forwarded_names (origin_of from.entry) names.now except.now self.now) }
+    {
+        let except = NameSet::new(alloc, except)?;
+        self.forwarded(alloc, from, names, &except)
+    }
+
+    // Forwards names that are there, unless the innermost scope has one of them. After a refusal nothing is changed.
+    fn forward_chosen(
+        &mut self,
+        alloc: Global,
+        from: Origin<'_>,
+        names: &[&Text],
+    ) -> Result<(), ForwardError>
+        ensures ok { OnOk result
+            (forwarded_unless (find (is_set_here self.old) (map (λ n. n.now) names.now))
+            (names_given (origin_value (origin_of from.entry) self.old) (origin_of from.entry)
+            (map (λ n. n.now) names.now) self.old) ≡ Ok self.new) }
+        ensures set { IfErr result
+            (λ e. IfSome (name_set e)
+            (λ name. forwarded_unless (find (is_set_here self.old) (map (λ n. n.now) names.now))
+            (names_given (origin_value (origin_of from.entry) self.old) (origin_of from.entry)
+            (map (λ n. n.now) names.now) self.old) ≡ Err name)) }
+        ensures err { OnErr result (self.new ≡ self.old) }
+    {
+        match self.first_set(names) {
+            Some(name) => Err(ForwardError::AlreadySet(name.copy(alloc)?)),
+            None => {
+                self.give_from(alloc, from, names)?;
+                Ok(())
+            }
+        }
+    }
+
+    // Whether a name is there, and isn't one of the excepted ones.
+    fn is_chosen(&self, from: Origin<'_>, name: &Text, except: &NameSet<'_>) -> bool
+        ensures { result
+            ≡ (not (is_one_of name.now except.now)
+            && is_some (origin_value (origin_of from.entry) self.now name.now)) }
+    {
+        !except.has(name.as_bytes()) && self.origin_value(from, name).is_some()
+    }
+
     // The names that are there, but for the excepted ones.
     fn forwarded<'a>(
         &self,
@@ -151,7 +196,7 @@ impl Env {
     {
         let mut chosen = Vec::new(alloc);
         for name in names.as_slice() {
-            if !except.has(name.as_bytes()) && self.origin_value(from, name).is_some() {
+            if self.is_chosen(from, name, except) {
                 chosen.push(name)?;
             }
         }
