@@ -6,7 +6,7 @@ ghost use Rattle.gn_values.specs.View.{val_of};
 ghost use Rattle.gn_scopes.specs.Layers.{empty_layer};
 ghost use Rattle.gn_scopes.specs.Chains.{variable_in, set_in, variable_of, further_value, marked, IsFirstAt, chain_value, chain_read, chain_entered, chain_left};
 ghost use Rattle.gn_values.specs.Assigning.{combined, element_assigned};
-ghost use Rattle.gn_scopes.specs.Assigning.{assigned, element_changed, changed_by, put_and_read, has_no_value, operator_refuses, base_has_no_value, element_refuses};
+ghost use Rattle.gn_scopes.specs.Assigning.{assigned, element_changed, changed_by, copied_inwards, put_and_read, has_no_value, operator_refuses, base_has_no_value, element_refuses};
 ghost use Rattle.gn_tree.specs.declared.position.Position.{Position};
 ghost use Rattle.gn_scopes.specs.Unread.{reported};
 ghost use Rattle.gn_scopes.specs.Errors.{refusal_of, element_refusal_of, scope_refusal_of, IsReport};
@@ -245,9 +245,34 @@ impl Scopes {
         if self.inner.has(name) {
             return self.inner.combine(alloc, name, op, value, position);
         }
-        let Some(mut copy) = self.copy_of_outer(alloc, name, beneath)? else {
-            return Err(AssignError::Undefined);
-        };
+        match self.copy_of_outer(alloc, name, beneath) {
+            Ok(Some(copy)) => self.combine_inwards(alloc, name, copy, op, value, position),
+            Ok(None) => Err(AssignError::Undefined),
+            Err(_) => Err(AssignError::Memory),
+        }
+    }
+
+    // `+=` and `-=` on a name at which the innermost layer has nothing, where `copy` is a copy of what it has further out.
+    fn combine_inwards(
+        &mut self,
+        alloc: Global,
+        name: &Key,
+        copy: Value,
+        op: AssignOp,
+        value: Value,
+        position: Position,
+    ) -> Result<(), AssignError>
+        requires { variable_in name.now self.old.inner ≡ None }
+        ensures ok { OnOk result
+            (copied_inwards has_no_value operator_refuses (λ old. combined op old (val_of value))
+            name.now position self.old (Some (val_of copy)) ≡ Ok self.new) }
+        ensures refused { IfErr result
+            (λ e. IfSome (refusal_of e)
+            (λ r. copied_inwards has_no_value operator_refuses (λ old. combined op old (val_of value))
+            name.now position self.old (Some (val_of copy)) ≡ Err r)) }
+        ensures err { OnErr result (self.new ≡ self.old) }
+    {
+        let mut copy = copy;
         if let Err(error) = copy.combine(alloc, op, value) {
             return Err(AssignError::of_operator(error));
         }
@@ -312,9 +337,40 @@ impl Scopes {
                 .inner
                 .assign_element(alloc, name, at, op, value, position);
         }
-        let Some(mut copy) = self.copy_of_outer(alloc, name, beneath)? else {
-            return Err(ElementAssignError::Undefined);
-        };
+        match self.copy_of_outer(alloc, name, beneath) {
+            Ok(Some(copy)) => self.assign_element_inwards(
+                alloc, name, copy, at, op, value, position,
+            ),
+            Ok(None) => Err(ElementAssignError::Undefined),
+            Err(_) => Err(ElementAssignError::Memory),
+        }
+    }
+
+    // An assignment to an element of a name at which the innermost layer has nothing, where `copy` is a copy of what it
+    // has further out.
+    fn assign_element_inwards(
+        &mut self,
+        alloc: Global,
+        name: &Key,
+        copy: Value,
+        at: &Value,
+        op: AssignOp,
+        value: Value,
+        position: Position,
+    ) -> Result<(), ElementAssignError>
+        requires { variable_in name.now self.old.inner ≡ None }
+        ensures ok { OnOk result
+            (copied_inwards base_has_no_value element_refuses
+            (λ old. element_assigned old (val_of at.now) op (val_of value)) name.now position self.old
+            (Some (val_of copy)) ≡ Ok self.new) }
+        ensures refused { IfErr result
+            (λ e. IfSome (element_refusal_of e)
+            (λ r. copied_inwards base_has_no_value element_refuses
+            (λ old. element_assigned old (val_of at.now) op (val_of value)) name.now position self.old
+            (Some (val_of copy)) ≡ Err r)) }
+        ensures err { OnErr result (self.new ≡ self.old) }
+    {
+        let mut copy = copy;
         if let Err(error) = copy.assign_element(alloc, at, op, value) {
             return Err(ElementAssignError::of_element(error));
         }
