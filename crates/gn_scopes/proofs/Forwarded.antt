@@ -9,7 +9,7 @@ use Rattle.gn_scopes.specs.Chains.{is_one_of, chain_read}
 use Rattle.gn_scopes.specs.Environment.{Environment, restored, given}
 use Rattle.gn_scopes.specs.Templates.{with_caller, in_block}
 use Rattle.gn_scopes.specs.Invoker.{entries_by, invoker_entries, after_invoker_read, after_caller_read}
-use Rattle.gn_scopes.specs.Forwarding.{Origin, from_entries, from_invoker, origin_value, given_if, names_given, entries_given, target_name, all_forwarded}
+use Rattle.gn_scopes.specs.Forwarding.{Origin, from_entries, from_invoker, given_if, names_given, entries_given, target_name, all_forwarded}
 use Rattle.gn_scopes.specs.Giving.{all_given, entries_but, found_before, entries_at, origin_entries, read_at, read_at_origin, read_all_at}
 
 -- the environment with these names given their values in the innermost scope
