@@ -172,10 +172,14 @@ impl Env {
     pub fn end_body(&mut self)
         ensures { self.new ≡ body_ends self.old }
     {
-        if let Some(mut caller) = self.callers.pop_front() {
-            self.swap_with(&mut caller);
-            self.scopes.leave();
-        }
+        let Some(caller) = self.callers.pop_front() else {
+            return;
+        };
+        let Caller { scopes, body, file } = caller;
+        self.scopes = scopes;
+        self.body = body;
+        self.file = file;
+        self.scopes.leave();
     }
 
     /// Says how deep the evaluation is: the sum over the template calls that are open.
@@ -207,20 +211,6 @@ impl Env {
             return self.made.get(name.number);
         }
         self.definitions.get(&name.execution)?.get(name.number)
-    }
-
-    // Takes the scopes, the body and the file of a caller, and leaves it those that were here.
-    fn swap_with(&mut self, caller: &mut Caller)
-        ensures { self.new
-            ≡ record self.old {
-              setting = record self.old.setting { file = caller.old.file };
-              chain = caller.old.chain;
-              body = caller.old.body;
-            } }
-    {
-        mem::swap(&mut self.scopes, &mut caller.scopes);
-        mem::swap(&mut self.body, &mut caller.body);
-        mem::swap(&mut self.file, &mut caller.file);
     }
 
     // Whether a template of this definition is visible here.
