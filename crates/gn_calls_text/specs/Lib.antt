@@ -1,0 +1,7 @@
+pub mod Answers
+pub mod Patterns
+pub mod Pieces
+pub mod Calls
+pub mod Rows
+pub mod Kept
+pub mod Views
