@@ -1,0 +1,24 @@
+use Rattle.std.proofs.Common.{◌++◌, sym, ap, ◌∙◌}
+use Rattle.gn_calls_text.proofs.GrowthLemmas.{text_refused, text_settled, moved, not_moved}
+use Rattle.gn_calls_text.proofs.CutLemmas.{replaced_more, replaced_none, replaced_over}
+use Rattle.gn_calls_text.proofs.strings.replace_into.Goals as goal
+
+pub returns-in_default : goal.returns-in_default
+returns-in_default c =
+    text_settled c.append.result _ _ _ c.append.ensures.ok c.append.ensures.fits c.append.ensures.err
+    (sym c.loop-left.invariant ∙ ap (λ t. c.loop-left.text ++ t) (replaced_none c.loop-left.left c.args.old.now c.args.new.now c.loop-left.rest.now c.in_default.ensures))
+
+pub returns-in_err-append_both : goal.returns-in_err-append_both
+returns-in_err-append_both c =
+    text_refused _ _ _ _ _ c.in_err-append_both.ensures.err
+    (not_moved _ _ _ _ _ c.loop-left.invariant (replaced_more c.loop-left.left c.in-Some.place c.args.old.now c.args.new.now c.loop-left.rest.now c.loop-left-test.true c.in-Some.ensures))
+
+pub loop-left-preserved : goal.loop-left-preserved
+loop-left-preserved c =
+    moved _ _ _ _ _ _ c.loop-left.invariant
+    (replaced_more c.loop-left.left c.in-Some.place c.args.old.now c.args.new.now c.loop-left.rest.now c.loop-left-test.true c.in-Some.ensures) c.in_ok-append_both.ensures.ok
+
+pub returns : goal.returns
+returns c =
+    text_settled c.append-2.result _ _ _ c.append-2.ensures.ok c.append-2.ensures.fits c.append-2.ensures.err
+    (sym c.loop-left.invariant ∙ ap (λ t. c.loop-left.text ++ t) (replaced_over c.loop-left.left c.args.old.now c.args.new.now c.loop-left.rest.now c.loop-left-test.false))
