@@ -24,6 +24,12 @@ first_fit a b h =
     let deep = deepest_item-append a b in
     grind (arith, nat_tests)
 
+pub last_fit : (a b : List Val) → list_fits (a ++ b) ≡ true → list_fits b ≡ true
+last_fit a b h =
+    let long = length-append a b in
+    let deep = deepest_item-append a b in
+    grind (arith, nat_tests)
+
 pub list_over : (a b : List Val) → list_fits a ≡ false → list_fits (a ++ b) ≡ false
 list_over a b h = by (list_fits (a ++ b)) refl
   where
@@ -71,14 +77,21 @@ length_texts (t ∷ ts) = omega (arith, length_texts ts)
 pub texts_fit : (ts : List (List ℕ)) → length ts ≤ max_items → list_fits (map vstr ts) ≡ true
 texts_fit ts h = list_fits-list (map vstr ts) (record { shallow = omega (arith, texts_depth ts); short = omega (arith, length_texts ts) })
 
+-- the same of what a `?` returns
+pub text_fails : {T : Type 0} (view : T → Val) (r : Result T CallError) (x e : CallError) (a b whole : List ℕ) → r ≡ Err x → x ≡ e → IsOver e (text_fits a) → whole ≡ a ++ b → Settles view r (text_answer whole)
+text_fails view r x e a b whole is same h cut = subst (λ q. Settles view q (text_answer whole)) (sym (is ∙ ap Err same)) (text_refused view e a b whole h cut)
+
+pub list_fails : {T : Type 0} (view : T → Val) (r : Result T CallError) (x e : CallError) (a b whole : List Val) → r ≡ Err x → x ≡ e → IsOver e (list_fits a) → whole ≡ a ++ b → Settles view r (list_answer whole)
+list_fails view r x e a b whole is same h cut = subst (λ q. Settles view q (list_answer whole)) (sym (is ∙ ap Err same)) (list_refused view e a b whole h cut)
+
 -- the end of a call that puts the last part
 pub text_settled : (r : Result (Unit {0}) CallError) (new a whole : List ℕ) → OnOk r (new ≡ a) → OnOk r (text_fits new ≡ true) → IfErr r (λ e. IsOver e (text_fits a)) → whole ≡ a → Settles (λ u. vstr new) r (text_answer whole)
 text_settled (Ok u) new a whole ok fits err is = text_made new whole fits (is ∙ sym ok)
-text_settled (Err e) new a whole ok fits err is = text_refused (λ u. vstr new) e a [] whole err (is ∙ sym (append-nil a))
+text_settled (Err e) new a whole ok fits err is = text_refused {T = Unit {0}} (λ u. vstr new) e a [] whole err (is ∙ sym (append-nil a))
 
 pub list_settled : (r : Result (Unit {0}) CallError) (new a whole : List Val) → OnOk r (new ≡ a) → OnOk r (list_fits new ≡ true) → IfErr r (λ e. IsOver e (list_fits a)) → whole ≡ a → Settles (λ u. vlist (vals_of new)) r (list_answer whole)
 list_settled (Ok u) new a whole ok fits err is = list_made new whole fits (is ∙ sym ok)
-list_settled (Err e) new a whole ok fits err is = list_refused (λ u. vlist (vals_of new)) e a [] whole err (is ∙ sym (append-nil a))
+list_settled (Err e) new a whole ok fits err is = list_refused {T = Unit {0}} (λ u. vlist (vals_of new)) e a [] whole err (is ∙ sym (append-nil a))
 
 -- one more copy of a value
 pub copied : (xs : List Value) (i : ℕ) (x : Value) (y : Val) (items : List Val) → i < length xs → x ≡ get_or xs i x → y ≡ val_of x → items ≡ take i (map val_of xs) → items ++ y ∷ [] ≡ take (i + 1) (map val_of xs)

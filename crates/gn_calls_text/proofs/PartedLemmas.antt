@@ -1,15 +1,17 @@
 -- Lists in parts.
-use Rattle.std.proofs.Common.{◌≡◌, ℕ, zero, suc, ◌+◌, ◌-◌, ◌*◌, ◌/◌, ◌%◌, ◌<◌, ◌≤◌, Bool, true, false, cond, List, [], ◌∷◌, ◌++◌, length, take, drop, map, refl, sym, ap, ◌∙◌, arith}
-use Rattle.std.proofs.lemmas.List.{take-map, drop-map, take-append-drop}
+use Rattle.std.proofs.Common.{◌≡◌, ℕ, ℤ, pos, zero, suc, ◌+◌, ◌-◌, ◌*◌, ◌/◌, ◌%◌, ◌<◌, ◌≤◌, Bool, true, false, cond, List, [], ◌∷◌, ◌++◌, length, take, drop, map, refl, sym, ap, ◌∙◌, arith}
+use Rattle.std.proofs.lemmas.List.{take-map, drop-map, take-append-drop, length-map}
 use Rattle.std.proofs.lemmas.Nat.{div-add-mod'}
 use Rattle.std.proofs.Math.Nat.{mod-lt, div-le_self}
 use Rattle.gn_values.specs.Val.{Val, vlist, vals_of}
 use Rattle.gn_values.specs.View.{val_of}
 use Rattle.gn_values.specs.declared.value.Value.{Value}
-use Rattle.gn_values.specs.Limits.{list_fits}
-use Rattle.gn_calls_text.proofs.GrowthLemmas.{first_fit}
-use Rattle.gn_calls_text.specs.Calls.{list_list}
-use Rattle.gn_calls_text.specs.Pieces.{lengths, lists_of, parted}
+use Rattle.gn_values.specs.Limits.{list_fits, max_items}
+use Rattle.gn_values.proofs.Depths.{too_many}
+use Rattle.gn_calls_text.specs.Answers.{gives, too_long}
+use Rattle.gn_calls_text.proofs.GrowthLemmas.{first_fit, last_fit}
+use Rattle.gn_calls_text.specs.Calls.{list_list, parts_answer}
+use Rattle.gn_calls_text.specs.Pieces.{first_length, lengths, lists_of, parted}
 
 -- the sum of lengths
 abbrev pub total : List ℕ → ℕ
@@ -27,10 +29,6 @@ total_is n count some =
     lengths_total count (n / count) (n % count) (omega arith) ∙ (let e = div-add-mod' n count in grind arith)
 
 -- the length of the first part, and those of the others
-abbrev pub first_length : ℕ → ℕ → ℕ
-first_length least zero = least
-first_length least (suc more) = least + 1
-
 pub lengths_more : (left least more : ℕ) → 0 < left → lengths left least more ≡ first_length least more ∷ lengths (left - 1) least (more - 1)
 lengths_more zero least more some = absurd (omega arith)
 lengths_more (suc n) least zero some =
@@ -43,14 +41,16 @@ lengths_more (suc n) least (suc more) some =
     λ i. len i ∷ lengths (one i) least (two i)
 
 -- the first list, and those behind it
-pub lists_more : (left least more len : ℕ) (rest : List Value) → 0 < left → len ≡ first_length least more → list_list (lists_of (lengths left least more) (map val_of rest)) ≡ vlist (vals_of (map val_of (take len rest))) ∷ list_list (lists_of (lengths (left - 1) least (more - 1)) (map val_of (drop len rest)))
-lists_more left least more len rest some is =
-    ap (λ ns. list_list (lists_of ns (map val_of rest))) (lengths_more left least more some ∙ ap (λ n. n ∷ lengths (left - 1) least (more - 1)) (sym is))
-    ∙ (λ i. vlist (vals_of (take-map val_of len rest i)) ∷ list_list (lists_of (lengths (left - 1) least (more - 1)) (drop-map val_of len rest i)))
+pub lists_more : (left least more more' len : ℕ) (rest front behind : List Value) → 0 < left → len ≡ first_length least more → more' ≡ more - 1 → front ≡ take len rest → behind ≡ drop len rest → list_list (lists_of (lengths left least more) (map val_of rest)) ≡ vlist (vals_of (map val_of front)) ∷ list_list (lists_of (lengths (left - 1) least more') (map val_of behind))
+lists_more left least more more' len rest front behind some is fewer first others =
+    ap (λ ns. list_list (lists_of ns (map val_of rest))) (lengths_more left least more some ∙ (λ i. sym is i ∷ lengths (left - 1) least (sym fewer i)))
+    ∙ (λ i. vlist (vals_of (take-map val_of len rest i)) ∷ list_list (lists_of (lengths (left - 1) least more') (drop-map val_of len rest i)))
+    ∙ (λ i. vlist (vals_of (map val_of (sym first i))) ∷ list_list (lists_of (lengths (left - 1) least more') (map val_of (sym others i))))
 
-pub total_more : (left least more len n : ℕ) → 0 < left → len ≡ first_length least more → total (lengths left least more) ≡ n → len + total (lengths (left - 1) least (more - 1)) ≡ n
-total_more left least more len n some is e =
-    ap (λ m. m + total (lengths (left - 1) least (more - 1))) is ∙ sym (ap total (lengths_more left least more some)) ∙ e
+pub total_more : (left least more more' len n k : ℕ) → 0 < left → len ≡ first_length least more → more' ≡ more - 1 → total (lengths left least more) ≡ n → k + len ≡ n → total (lengths (left - 1) least more') ≡ k
+total_more left least more more' len n k some is fewer e part =
+    let whole : len + total (lengths (left - 1) least more') ≡ n = (λ i. is i + total (lengths (left - 1) least (fewer i))) ∙ sym (ap total (lengths_more left least more some)) ∙ e in
+    omega arith
 
 pub no_lists_left : (left least more : ℕ) (rest : List Val) → left ≤ 0 → list_list (lists_of (lengths left least more) rest) ≡ []
 no_lists_left zero least more rest over = refl
@@ -75,3 +75,22 @@ pub part_fits : (len : ℕ) (xs : List Value) → list_fits (map val_of xs) ≡ 
 part_fits len xs fits =
     ap list_fits (sym (take-map val_of len xs))
     ∙ first_fit (take len (map val_of xs)) (drop len (map val_of xs)) (ap list_fits (take-append-drop len (map val_of xs)) ∙ fits)
+
+pub rest_fits : (len : ℕ) (xs behind : List Value) → behind ≡ drop len xs → list_fits (map val_of xs) ≡ true → list_fits (map val_of behind) ≡ true
+rest_fits len xs behind is fits =
+    ap (λ ys. list_fits (map val_of ys)) is ∙ ap list_fits (sym (drop-map val_of len xs))
+    ∙ last_fit (take len (map val_of xs)) (drop len (map val_of xs)) (ap list_fits (take-append-drop len (map val_of xs)) ∙ fits)
+
+pub parted_begins : (count : ℕ) (values : List Value) (lists : List Val) → lists ≡ [] → lists ++ list_list (lists_of (lengths count (length values / count) (length values % count)) (map val_of values)) ≡ list_list (parted count (map val_of values))
+unfolding parted
+parted_begins count values lists none =
+    ap (λ l. l ++ list_list (lists_of (lengths count (length values / count) (length values % count)) (map val_of values))) none
+    ∙ ap (λ n. list_list (lists_of (lengths count (n / count) (n % count)) (map val_of values))) (sym (length-map values val_of))
+
+-- more parts than a list may have items
+pub too_many_parts : (n : ℤ) (k : ℕ) (vs : List Val) → n ≡ pos k → max_items < k → parts_answer vs n ≡ too_long
+too_many_parts n zero vs is many = absurd (omega arith)
+too_many_parts n (suc k) vs is many =
+    let lists = list_list (parted (suc k) vs) in
+    let count : length lists ≡ suc k = length-map (parted (suc k) vs) (λ ws. vlist (vals_of ws)) ∙ count_parts (suc k) vs in
+    ap (parts_answer vs) is ∙ ap (λ f. cond f (gives (vlist (vals_of lists))) too_long) (too_many lists (omega arith))

@@ -1,5 +1,5 @@
 -- Runs of bytes that aren't white space.
-use Rattle.std.proofs.Common.{◌≡◌, ℕ, suc, ◌+◌, ◌-◌, ◌<◌, ◌≤◌, Bool, true, false, cond, not, ◌&&◌, List, [], ◌∷◌, ◌++◌, length, take, drop, get_or, map, refl, sym, ap, ◌∙◌, arith, true≢false}
+use Rattle.std.proofs.Common.{◌≡◌, ℕ, suc, ◌+◌, ◌-◌, ◌<◌, ◌≤◌, Bool, true, false, cond, not, ◌&&◌, List, [], ◌∷◌, ◌++◌, length, take, drop, get_or, map, refl, sym, ap, ◌∙◌, subst, arith, true≢false}
 use Rattle.std.specs.List.{filter, list_all}
 use Rattle.std.proofs.lemmas.List.{map-append, drop_more, drop-drop, take-append-drop, take_rest, get_or-drop, length-drop}
 use Rattle.std.proofs.lemmas.List.Folds.{list_all_more}
@@ -70,7 +70,7 @@ gathered_run text runs runs' start start' place g within white next grown fits =
     let low : start' ≤ place + 1 = omega arith in
     let none : place + 1 - start' ≡ 0 = omega arith in
     (low, (ap (λ n. runs' ++ text_list (words (drop n text))) next
-    ∙ moved runs runs' _ (text_list (words (drop start text))) (text_list (words (drop (place + 1) text))) (text_list (words text)) g.1.0 (words_cut text runs start place g within white) grown,
+    ∙ moved runs runs' _ (text_list (words (drop (place + 1) text))) (text_list (words (drop start text))) (text_list (words text)) g.1.0 (words_cut text runs start place g within white) grown,
     (ap (λ n. is_run (take n (drop start' text))) none, fits)))
 
 pub gathered_byte : (text : List ℕ) (runs runs' : List Val) (start start' place : ℕ) → IsGathered text runs start place → place < length text → is_white_space (get_or text place 0) ≡ false → start' ≡ start → runs' ≡ runs → IsGathered text runs' start' (place + 1)
@@ -87,8 +87,9 @@ gathered_byte text runs runs' start start' place g within other same kept =
     subst (λ r. IsGathered text r start' (place + 1)) (sym kept) (subst (λ s. IsGathered text runs s (place + 1)) (sym same) (next, (g.1.0, (run, g.1.1.1))))
 
 -- the last run goes up to the end of the text
-pub words_over : (text : List ℕ) (runs : List Val) (start place : ℕ) → IsGathered text runs start place → length text ≤ place → place ≤ length text → text_list (words text) ≡ runs ++ text_list (filter is_filled (drop start text ∷ []))
+pub words_over : (text : List ℕ) (runs : List Val) (start place : ℕ) → IsGathered text runs start place → length text ≤ place → place ≤ length text → text_list (words text) ≡ runs ++ text_list (filter is_filled (take (length text - start) (drop start text) ∷ []))
 words_over text runs start place g over within =
     let at : place - start ≡ length text - start = omega arith in
-    let whole : take (place - start) (drop start text) ≡ drop start text = ap (λ n. take n (drop start text)) at ∙ take_rest text start in
-    sym g.1.0 ∙ ap (λ r. runs ++ r) (words_end (drop start text) (ap is_run (sym whole) ∙ g.1.1.0))
+    let run = take (length text - start) (drop start text) in
+    sym g.1.0 ∙ ap (λ t. runs ++ text_list (words t)) (sym (take_rest text start))
+    ∙ ap (λ r. runs ++ r) (words_end run (ap (λ n. is_run (take n (drop start text))) (sym at) ∙ g.1.1.0))

@@ -57,6 +57,11 @@ is_filled (b ∷ more) = Bool.true
 unfoldable pub words : List ℕ → List (List ℕ)
 words text = filter is_filled (between_white_space text)
 
+-- the first of some lengths, so many of which are one above `least`
+abbrev pub first_length : ℕ → ℕ → ℕ
+first_length least zero = least
+first_length least (suc more) = least + 1
+
 -- so many lengths, the first `more` of which are one above `least`
 abbrev pub lengths : ℕ → ℕ → ℕ → List ℕ
 lengths zero least more = []

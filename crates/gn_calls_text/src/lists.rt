@@ -6,7 +6,7 @@ ghost use Rattle.gn_values.specs.Val.{vlist, vals_of};
 ghost use Rattle.gn_values.specs.View.{val_of};
 ghost use Rattle.gn_calls_text.specs.Answers.{list_answer};
 ghost use Rattle.gn_calls_text.specs.Calls.{list_list, parts_answer, split_list_answer};
-ghost use Rattle.gn_calls_text.specs.Pieces.{parted};
+ghost use Rattle.gn_calls_text.specs.Pieces.{first_length, parted};
 ghost use Rattle.gn_calls_text.specs.Views.{Settles, IsOver};
 
 use crate::arguments::{bad_arguments, integer_of, list_of, too_long};
@@ -50,6 +50,14 @@ fn push_list(alloc: Global, lists: &mut Items, values: &[Value]) -> Result<(), C
     push(lists, Value::List(list))
 }
 
+/// The length of the first of some lists, of which `longer` have one item above `least`.
+fn first_length(least: usize, longer: usize) -> usize
+    requires { least ≤ max_items }
+    ensures { result ≡ first_length least longer }
+{
+    if longer > 0 { least + 1 } else { least }
+}
+
 /// Puts the values, in `count` lists, into an empty list.
 fn split_into(
     alloc: Global,
@@ -70,9 +78,8 @@ fn split_into(
     let mut rest = values;
     while left > 0 {
         left -= 1;
-        let len = if longer > 0 { least + 1 } else { least };
+        let (first, behind) = rest.split_at(first_length(least, longer));
         longer = longer.saturating_sub(1);
-        let (first, behind) = rest.split_at(len);
         push_list(alloc, lists, first)?;
         rest = behind;
     }

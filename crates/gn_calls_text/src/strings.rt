@@ -76,8 +76,9 @@ fn replace_into(
         let Some(place) = old.find(rest) else {
             return append(text, rest);
         };
-        append_both(text, &rest[..place], new)?;
-        rest = &rest[place + len..];
+        let (piece, behind) = rest.split_at(place);
+        append_both(text, piece, new)?;
+        rest = &behind[len..];
     }
     append(text, rest)
 }
@@ -180,8 +181,9 @@ fn cut_into(
         let Some(place) = separator.find(rest) else {
             return push_text(alloc, pieces, rest);
         };
-        push_text(alloc, pieces, &rest[..place])?;
-        rest = &rest[place + len..];
+        let (piece, behind) = rest.split_at(place);
+        push_text(alloc, pieces, piece)?;
+        rest = &behind[len..];
     }
     push_text(alloc, pieces, rest)
 }

@@ -1,4 +1,4 @@
-use Rattle.std.proofs.Common.{[], ◌∷◌, ◌++◌, ap, ◌∙◌, sym, map}
+use Rattle.std.proofs.Common.{ℕ, List, [], ◌∷◌, ◌++◌, ap, ◌∙◌, sym, map}
 use Rattle.gn_values.specs.Val.{vstr}
 use Rattle.gn_values.specs.Limits.{list_fits}
 use Rattle.gn_calls_text.specs.Calls.{text_list}
@@ -16,6 +16,6 @@ keep_text-requires c =
 
 pub loop-text-preserved : goal.loop-text-preserved
 loop-text-preserved c =
-    let p = λ t. keeps c.args.keep (part_lists c.args.lists.now) t in
+    let p = λ (t : List ℕ). keeps c.args.keep (part_lists c.args.lists.now) t in
     c.in_ok-keep_text.ensures ∙ (λ i. c.loop-text.invariant i ++ text_list (filter p (c.bytes_of.ensures i ∷ [])))
     ∙ sym (kept_more p c.args.texts.now c.loop-text.text-index _ c.loop-text-test.true c.text-item.is)
