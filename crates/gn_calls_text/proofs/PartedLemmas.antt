@@ -1,5 +1,7 @@
 -- Lists in parts.
-use Rattle.std.proofs.Common.{◌≡◌, ℕ, ℤ, pos, zero, suc, ◌+◌, ◌-◌, ◌*◌, ◌/◌, ◌%◌, ◌<◌, ◌≤◌, Bool, true, false, cond, List, [], ◌∷◌, ◌++◌, length, take, drop, map, refl, sym, ap, ◌∙◌, arith}
+use Rattle.std.proofs.Common.{◌≡◌, ℕ, ℤ, pos, negsuc, zero, suc, ◌+◌, ◌-◌, ◌*◌, ◌/◌, ◌%◌, ◌<◌, ◌≤◌, Bool, true, false, cond, List, [], ◌∷◌, ◌++◌, length, take, drop, map, refl, sym, ap, ◌∙◌, arith, true≢false}
+use lib.IntN.{nat_abs}
+use lib.Signed.{lt_z}
 use Rattle.std.proofs.lemmas.List.{take-map, drop-map, take-append-drop, length-map}
 use Rattle.std.proofs.lemmas.Nat.{div-add-mod'}
 use Rattle.std.proofs.Math.Nat.{mod-lt, div-le_self}
@@ -94,3 +96,10 @@ too_many_parts n (suc k) vs is many =
     let lists = list_list (parted (suc k) vs) in
     let count : length lists ≡ suc k = length-map (parted (suc k) vs) (λ ws. vlist (vals_of ws)) ∙ count_parts (suc k) vs in
     ap (parts_answer vs) is ∙ ap (λ f. cond f (gives (vlist (vals_of lists))) too_long) (too_many lists (omega arith))
+
+too_many_from : (z : ℤ) (vs : List Val) → lt_z z (pos 1) ≡ false → max_items < nat_abs z → parts_answer vs z ≡ too_long
+too_many_from (pos k) vs low high = too_many_parts (pos k) k vs refl high
+too_many_from (negsuc k) vs low high = absurd (true≢false low)
+
+pub too_many_at : (n z : ℤ) (vs : List Val) → z ≡ n → lt_z z (pos 1) ≡ false → max_items < nat_abs z → parts_answer vs n ≡ too_long
+too_many_at n z vs is low high = ap (parts_answer vs) (sym is) ∙ too_many_from z vs low high

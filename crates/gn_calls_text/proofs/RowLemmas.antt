@@ -73,11 +73,11 @@ cell_step parts row row' place p first c more behind here h long is mine new s =
       known = after;
       below = λ k low. let ne : k ≢ place = omega arith in ap (λ r. get_or r k false) new ∙ get_or-set_other row place k _ false ne ∙ s.below k (omega arith);
       above = put parts first (c ∷ more) row row' place (cell p first c here behind (get_or row (place + 1) false)) (omega arith) new
-        (ap (λ n. cell p first c here behind n) (s.above (place + 1) (omega arith) (omega arith))
-        ∙ ap (λ b. cell p first c here b (matches_parts rest first (c ∷ more))) s.known
-        ∙ ap (λ b. cell p first c b (matches_parts rest false more) (matches_parts rest first (c ∷ more))) (after ∙ ap (λ ps. matches_parts ps false more) cut)
-        ∙ sym (cell_law p rest first c more) ∙ ap (λ ps. matches_parts ps first (c ∷ more)) (sym cut))
-        s.above;
+          (ap (λ n. cell p first c here behind n) (s.above (place + 1) (omega arith) (omega arith))
+          ∙ ap (λ b. cell p first c here b (matches_parts rest first (c ∷ more))) s.known
+          ∙ ap (λ b. cell p first c b (matches_parts rest false more) (matches_parts rest first (c ∷ more))) (after ∙ ap (λ ps. matches_parts ps false more) cut)
+          ∙ sym (cell_law p rest first c more) ∙ ap (λ ps. matches_parts ps first (c ∷ more)) (sym cut))
+          s.above;
     }
 
 pub whole_row : (parts : List Part) (first : Bool) (text : List ℕ) (row : List Bool) → length row ≡ length parts + 1 → FromPlace parts first text row 0 → IsRow parts first text row

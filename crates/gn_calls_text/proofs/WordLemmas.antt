@@ -68,10 +68,14 @@ words_cut text runs start place g within white =
 pub gathered_run : (text : List ℕ) (runs runs' : List Val) (start start' place : ℕ) → IsGathered text runs start place → place < length text → is_white_space (get_or text place 0) ≡ true → start' ≡ place + 1 → runs' ≡ runs ++ text_list (filter is_filled (take (place - start) (drop start text) ∷ [])) → list_fits runs' ≡ true → IsGathered text runs' start' (place + 1)
 gathered_run text runs runs' start start' place g within white next grown fits =
     let low : start' ≤ place + 1 = omega arith in
-    let none : place + 1 - start' ≡ 0 = omega arith in
-    (low, (ap (λ n. runs' ++ text_list (words (drop n text))) next
-    ∙ moved runs runs' _ (text_list (words (drop (place + 1) text))) (text_list (words (drop start text))) (text_list (words text)) g.1.0 (words_cut text runs start place g within white) grown,
-    (ap (λ n. is_run (take n (drop start' text))) none, fits)))
+    let none : place + 1 - start' ≡ 0 = omega arith in (
+      low,
+      (
+        ap (λ n. runs' ++ text_list (words (drop n text))) next
+            ∙ moved runs runs' _ (text_list (words (drop (place + 1) text))) (text_list (words (drop start text))) (text_list (words text)) g.1.0 (words_cut text runs start place g within white) grown,
+        (ap (λ n. is_run (take n (drop start' text))) none, fits),
+      ),
+    )
 
 pub gathered_byte : (text : List ℕ) (runs runs' : List Val) (start start' place : ℕ) → IsGathered text runs start place → place < length text → is_white_space (get_or text place 0) ≡ false → start' ≡ start → runs' ≡ runs → IsGathered text runs' start' (place + 1)
 gathered_byte text runs runs' start start' place g within other same kept =
@@ -81,8 +85,8 @@ gathered_byte text runs runs' start start' place g within other same kept =
     let inside : place - start < length (drop start text) = omega (arith, length-drop start text) in
     let byte : get_or (drop start text) (place - start) 0 ≡ get_or text place 0 = get_or-drop start text (place - start) 0 ∙ ap (λ n. get_or text n 0) at in
     let run : is_run (take (place + 1 - start) (drop start text)) ≡ true =
-        ap (λ n. is_run (take n (drop start text))) one ∙ list_all_more (λ b. not (is_white_space b)) (drop start text) (place - start) 0 inside
-        ∙ ap (λ v. v && not (is_white_space (get_or (drop start text) (place - start) 0))) g.1.1.0 ∙ ap (λ b. not (is_white_space b)) byte ∙ ap not other in
+    ap (λ n. is_run (take n (drop start text))) one ∙ list_all_more (λ b. not (is_white_space b)) (drop start text) (place - start) 0 inside
+    ∙ ap (λ v. v && not (is_white_space (get_or (drop start text) (place - start) 0))) g.1.1.0 ∙ ap (λ b. not (is_white_space b)) byte ∙ ap not other in
     let next : start ≤ place + 1 = omega arith in
     subst (λ r. IsGathered text r start' (place + 1)) (sym kept) (subst (λ s. IsGathered text runs s (place + 1)) (sym same) (next, (g.1.0, (run, g.1.1.1))))
 

@@ -111,7 +111,13 @@ fn step_row(row: &mut [bool], parts: &[Part], first: bool, byte: u8)
     while place > 0 {
         place -= 1;
         let here = row[place];
-        row[place] = cell(parts[place], first, byte, Behind { here, next: behind }, row[place + 1]);
+        row[place] = cell(
+            parts[place],
+            first,
+            byte,
+            Behind { here, next: behind },
+            row[place + 1],
+        );
         behind = here;
     }
 }
@@ -139,7 +145,11 @@ fn matches_by(row: &mut [bool], parts: &[Part], text: &[u8]) -> bool
 }
 
 /// Whether the text matches one of the patterns.
-pub(crate) fn matches_some(alloc: Global, lists: &[Vec<Part>], text: &[u8]) -> Result<bool, AllocError>
+pub(crate) fn matches_some(
+    alloc: Global,
+    lists: &[Vec<Part>],
+    text: &[u8],
+) -> Result<bool, AllocError>
     ensures { IfOk result (λ m. m
         ≡ list_any (λ parts. matches_parts parts true text.now) (part_lists lists.now)) }
 {

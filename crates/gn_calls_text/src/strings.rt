@@ -118,12 +118,7 @@ fn replace_some(
 }
 
 /// `string_replace` at all places.
-fn replace_three(
-    alloc: Global,
-    text: &Value,
-    old: &Value,
-    new: &Value,
-) -> Result<Value, CallError>
+fn replace_three(alloc: Global, text: &Value, old: &Value, new: &Value) -> Result<Value, CallError>
     ensures { Settles val_of result
         (replace_answer (val_of text.now ∷ val_of old.now ∷ val_of new.now ∷ [])) }
 {
@@ -196,7 +191,13 @@ fn split(alloc: Global, text: &[u8], separator: &[u8]) -> Result<Value, CallErro
         return Err(bad_arguments());
     }
     let mut pieces = Items::new(alloc);
-    cut_into(alloc, &mut pieces, &Finder::new(separator), text.len(), text)?;
+    cut_into(
+        alloc,
+        &mut pieces,
+        &Finder::new(separator),
+        text.len(),
+        text,
+    )?;
     Ok(Value::List(pieces))
 }
 

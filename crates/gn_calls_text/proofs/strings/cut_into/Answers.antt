@@ -15,7 +15,7 @@ returns-in_default c =
 pub returns-in_err-push_text : goal.returns-in_err-push_text
 returns-in_err-push_text c =
     let p = err_from_is_err_and c.from_residual.result c.from_residual.ensures.1 in
-    list_fails _ c.from_residual.result _ _ _ _ _ p.1 p.2 c.in_err-push_text.ensures.err
+    list_fails _ c.from_residual.result _ _ (c.loop-left.pieces ++ vstr c.split_at.result.0.now ∷ []) _ _ p.1 p.2 c.in_err-push_text.ensures.err
     (not_moved _ (vstr c.split_at.result.0.now ∷ []) _ _ _ c.loop-left.invariant (ap text_list (cut_more c.loop-left.left c.in-Some.place c.args.separator.now c.loop-left.rest.now c.split_at.result.0.now c.loop-left-test.true c.in-Some.ensures c.split_at.ensures.front)))
 
 pub loop-left-preserved : goal.loop-left-preserved
