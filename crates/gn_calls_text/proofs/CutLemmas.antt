@@ -67,7 +67,7 @@ cut_over zero separator text over = refl
 cut_over (suc n) separator text over = absurd (omega arith)
 
 -- there is always a piece
-join_piece : (new t : List ℕ) (left : ℕ) (separator text : List ℕ) → joined new (t ∷ cut left separator text) ≡ (t ++ new) ++ joined new (cut left separator text)
+pub join_piece : (new t : List ℕ) (left : ℕ) (separator text : List ℕ) → joined new (t ∷ cut left separator text) ≡ (t ++ new) ++ joined new (cut left separator text)
 unfolding cut
 join_piece new t zero separator text = ap (λ r. t ++ r) (append_assoc new text []) ∙ sym (append_assoc t new (text ++ []))
 join_piece new t (suc n) separator text = by (first_place separator text)

@@ -6,3 +6,5 @@ pub mod CutLemmas
 pub mod WordLemmas
 pub mod PartedLemmas
 pub mod FilterLemmas
+pub mod LawLemmas
+pub mod MatchLemmas

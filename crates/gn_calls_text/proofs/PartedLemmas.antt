@@ -58,7 +58,7 @@ pub no_lists_left : (left least more : ℕ) (rest : List Val) → left ≤ 0 →
 no_lists_left zero least more rest over = refl
 no_lists_left (suc n) least more rest over = absurd (omega arith)
 
-count_lengths : (count least more : ℕ) → length (lengths count least more) ≡ count
+pub count_lengths : (count least more : ℕ) → length (lengths count least more) ≡ count
 count_lengths zero least more = refl
 count_lengths (suc count) least zero = ap suc (count_lengths count least zero)
 count_lengths (suc count) least (suc more) = ap suc (count_lengths count least more)

@@ -5,3 +5,4 @@ pub mod Calls
 pub mod Rows
 pub mod Kept
 pub mod Views
+pub mod Laws
