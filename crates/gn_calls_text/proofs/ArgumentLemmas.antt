@@ -1,5 +1,5 @@
 -- Lists of strings.
-use Rattle.std.proofs.Common.{◌≡◌, ℕ, Bool, true, false, ◌&&◌, List, [], ◌∷◌, Option, Some, None, map, option_map, refl, sym, ap, ◌∙◌, true≢false}
+use Rattle.std.proofs.Common.{◌≡◌, true, false, List, [], ◌∷◌, Some, None, map, option_map, refl, sym, ap, true≢false}
 use Rattle.std.specs.List.{list_all}
 use Rattle.gn_values.specs.View.{val_of}
 use Rattle.gn_values.specs.declared.value.Value.{Value}

@@ -1,10 +1,10 @@
 -- Texts that are cut at a separator.
 use Rattle.std.proofs.Common.{◌≡◌, ℕ, zero, suc, ◌+◌, ◌-◌, ◌<◌, ◌≤◌, Bool, true, false, cond, nat_eq, List, [], ◌∷◌, ◌++◌, length, take, drop, Option, Some, None, option_map, refl, sym, ap, ◌∙◌, subst, arith, append_assoc, length-append, true≢false}
-use Rattle.std.specs.List.{starts_with, join_by, flat_map}
+use Rattle.std.specs.List.{starts_with, flat_map}
 use Rattle.std.proofs.lemmas.List.{append-nil, take_at, take_rest, length-drop, drop-drop}
 use Rattle.std.proofs.lemmas.Slice.Eq.{starts_is}
 use Rattle.std.proofs.lemmas.Bool.Decides.{Decides-eqb}
-use Rattle.memchr.specs.Find.{IsFirst, NoneBefore, Nowhere, FindsNeedle, OccursAt}
+use Rattle.memchr.specs.Find.{IsFirst, FindsNeedle, OccursAt}
 use Rattle.memchr.proofs.lemmas.MatchLemmas.{OccursAt-split, OccursAt-from_part}
 use Rattle.gn_calls_text.specs.Pieces.{first_where, first_place, cut, cut_at, joined, replaced}
 

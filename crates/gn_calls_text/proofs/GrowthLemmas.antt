@@ -1,5 +1,5 @@
 -- What is above the limits stays so, whatever comes behind it.
-use Rattle.std.proofs.Common.{◌≡◌, ℕ, ◌+◌, ◌≤◌, max, Bool, true, false, cond, not, nat_le, ◌&&◌, ◌<◌, List, [], ◌∷◌, ◌++◌, length, map, take, drop, get_or, Option, None, Result, Ok, Err, OnOk, IfErr, refl, sym, ap, ◌∙◌, subst, arith, length-append, append_assoc}
+use Rattle.std.proofs.Common.{◌≡◌, ℕ, ◌+◌, ◌≤◌, Bool, true, false, cond, ◌<◌, List, [], ◌∷◌, ◌++◌, length, map, take, drop, get_or, Option, None, Result, Ok, Err, OnOk, IfErr, refl, sym, ap, ◌∙◌, subst, arith, length-append, append_assoc}
 use Rattle.std.proofs.lemmas.Bool.Decides.{nat_tests}
 use Rattle.std.proofs.lemmas.List.{append-nil, take-append-drop}
 use Rattle.gn_values.specs.View.{val_of}
@@ -7,10 +7,10 @@ use Rattle.gn_values.specs.declared.value.Value.{Value}
 use Rattle.gn_values.proofs.Among.{took_more}
 use Rattle.gn_items.specs.declared.code.Code.{Code}
 use Rattle.gn_items.specs.declared.code.Code.TheVariants.{TooLong}
-use Rattle.gn_values.specs.Val.{Val, vstr, vlist, vals_of, deepest_item, list_depth}
-use Rattle.gn_values.specs.Limits.{text_fits, list_fits, max_items, max_depth, IsList}
+use Rattle.gn_values.specs.Val.{Val, vstr, vlist, vals_of, list_depth}
+use Rattle.gn_values.specs.Limits.{text_fits, list_fits, max_items}
 use Rattle.gn_values.proofs.Depths.{deepest_item-append, list_fits-list}
-use Rattle.gn_calls_text.specs.Answers.{Settled, gives, refuses, too_long, text_answer, list_answer}
+use Rattle.gn_calls_text.specs.Answers.{gives, refuses, too_long, text_answer, list_answer}
 use Rattle.gn_calls_text.specs.Views.{Settles, IsOver}
 use Rattle.gn_calls_text.specs.declared.error.CallError.{CallError}
 use Rattle.gn_calls_text.specs.declared.error.CallError.TheVariants.{Refused, Memory}

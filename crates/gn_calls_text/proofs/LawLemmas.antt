@@ -1,5 +1,5 @@
 -- Laws of the calls.
-use Rattle.std.proofs.Common.{◌≡◌, ℕ, zero, suc, pos, ◌+◌, ◌-◌, ◌*◌, ◌/◌, ◌%◌, ◌<◌, ◌≤◌, Bool, true, false, cond, not, nat_eq, List, [], ◌∷◌, ◌++◌, length, take, drop, get_or, map, Option, Some, None, option_map, refl, sym, ap, ◌∙◌, subst, arith, append_assoc, inl, inr, true≢false}
+use Rattle.std.proofs.Common.{◌≡◌, ℕ, zero, suc, pos, ◌+◌, ◌/◌, ◌%◌, ◌<◌, ◌≤◌, Bool, true, false, cond, not, nat_eq, List, [], ◌∷◌, ◌++◌, length, take, drop, get_or, map, Option, Some, None, option_map, refl, sym, ap, ◌∙◌, subst, arith, append_assoc, inl, inr}
 use Rattle.std.specs.List.{starts_with, flat_map, filter}
 use Rattle.std.proofs.lemmas.List.{append-nil, take-append-drop, drop-drop, length-take, length-drop}
 use Rattle.std.proofs.lemmas.Slice.Eq.{starts_is}
@@ -9,7 +9,7 @@ use Rattle.gn_values.specs.Limits.{text_fits, list_fits}
 use Rattle.gn_values.proofs.Mapped.{list_of-vals}
 use Rattle.gn_calls_text.specs.declared.call.TextCall.TheVariants.{FilterInclude, FilterExclude, SplitList, StringJoin, StringSplit}
 use Rattle.gn_calls_text.specs.Answers.{Settled, gives, too_long, typed, text_answer, list_answer, texts_in, texts_among}
-use Rattle.gn_calls_text.specs.Calls.{text_call, text_list, list_list, split_answer, parts_answer}
+use Rattle.gn_calls_text.specs.Calls.{text_call, text_list, list_list}
 use Rattle.gn_calls_text.specs.Patterns.{matches_some, matches_none}
 use Rattle.gn_calls_text.specs.Pieces.{first_where, first_place, cut, cut_at, joined, split_by, lengths, lists_of, parted}
 use Rattle.gn_calls_text.specs.Laws.{IsMerge, IsParted}

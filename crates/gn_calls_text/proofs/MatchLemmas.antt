@@ -6,7 +6,7 @@ use Rattle.std.proofs.lemmas.Bool.{eqb-true}
 use Rattle.gn_calls_text.specs.declared.patterns.Part.{Part}
 use Rattle.gn_calls_text.specs.declared.patterns.Part.TheVariants.{Any, Boundary, Byte}
 use Rattle.gn_calls_text.specs.Patterns.{parts_of, matches_parts, matches, some_rest}
-use Rattle.gn_calls_text.specs.Laws.{StandsFor, StandFor, IsMatch}
+use Rattle.gn_calls_text.specs.Laws.{StandFor, IsMatch}
 
 -- whether nothing stands before a text
 abbrev is_first : List ℕ → Bool

@@ -1,10 +1,10 @@
 -- Lists in parts.
-use Rattle.std.proofs.Common.{◌≡◌, ℕ, ℤ, pos, negsuc, zero, suc, ◌+◌, ◌-◌, ◌*◌, ◌/◌, ◌%◌, ◌<◌, ◌≤◌, Bool, true, false, cond, List, [], ◌∷◌, ◌++◌, length, take, drop, map, refl, sym, ap, ◌∙◌, arith, true≢false}
+use Rattle.std.proofs.Common.{◌≡◌, ℕ, ℤ, pos, negsuc, zero, suc, ◌+◌, ◌-◌, ◌*◌, ◌/◌, ◌%◌, ◌<◌, ◌≤◌, true, false, cond, List, [], ◌∷◌, ◌++◌, length, take, drop, map, refl, sym, ap, ◌∙◌, arith, true≢false}
 use lib.IntN.{nat_abs}
 use lib.Signed.{lt_z}
 use Rattle.std.proofs.lemmas.List.{take-map, drop-map, take-append-drop, length-map}
 use Rattle.std.proofs.lemmas.Nat.{div-add-mod'}
-use Rattle.std.proofs.Math.Nat.{mod-lt, div-le_self}
+use Rattle.std.proofs.Math.Nat.{mod-lt}
 use Rattle.gn_values.specs.Val.{Val, vlist, vals_of}
 use Rattle.gn_values.specs.View.{val_of}
 use Rattle.gn_values.specs.declared.value.Value.{Value}

@@ -2,7 +2,7 @@
 -- right, then values that the call doesn't take, then the limits.
 use Rattle.std.specs.Prelude.{ℕ, ℤ, pos, negsuc, zero, suc, Bool, List, [], ◌∷◌, length, map, filter}
 use Rattle.gn_values.specs.Val.{Val, vstr, vlist, vals_of}
-use Rattle.gn_calls_text.specs.Answers.{Settled, gives, bad_arguments, too_long, text_answer, list_answer, text_in, integer_in, list_in, texts_in, typed}
+use Rattle.gn_calls_text.specs.Answers.{Settled, gives, bad_arguments, text_answer, list_answer, text_in, integer_in, list_in, texts_in, typed}
 use Rattle.gn_calls_text.specs.Patterns.{matches_some, matches_none}
 use Rattle.gn_calls_text.specs.Pieces.{split_by, joined, replaced, words, parted}
 use Rattle.gn_calls_text.specs.declared.call.TextCall.{TextCall}

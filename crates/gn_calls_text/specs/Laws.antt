@@ -1,5 +1,5 @@
 -- Words for laws of the calls.
-use Rattle.std.specs.Prelude.{◌≡◌, ℕ, suc, ◌+◌, ◌<◌, ◌≤◌, ◌/◌, ◌%◌, ◌⊎◌, Bool, true, false, List, [], ◌∷◌, ◌++◌, length, slice_index_or}
+use Rattle.std.specs.Prelude.{◌≡◌, ℕ, suc, ◌<◌, ◌≤◌, ◌/◌, ◌%◌, ◌⊎◌, List, [], ◌∷◌, ◌++◌, length, slice_index_or}
 use Rattle.std.specs.List.{flat_map, concat}
 use Rattle.gn_values.specs.Val.{Val}
 use Rattle.gn_calls_text.specs.declared.patterns.Part.{Part}

@@ -4,12 +4,15 @@ use Rattle.std.specs.List.{list_any}
 use Rattle.gn_calls_text.specs.declared.patterns.Part.{Part}
 use Rattle.gn_calls_text.specs.declared.patterns.Part.TheVariants.{Any, Boundary, Byte}
 
--- the parts of a pattern: `*` and `\b` are special, and every other byte, a backslash too, stands for itself
+-- the part that a byte stands for by itself: `*` is special, and every other byte, a backslash too, stands for itself
+abbrev pub part_of : ℕ → Part
+part_of b = if b == 42 then Any else Byte b
+
+-- the parts of a pattern: `\b` is one, and so is every other byte
 abbrev pub parts_of : List ℕ → List Part
 parts_of [] = []
-parts_of (b ∷ []) = (if b == 42 then Any else Byte b) ∷ []
-parts_of (b ∷ c ∷ more) =
-    if b == 92 && c == 98 then Boundary ∷ parts_of more else ((if b == 42 then Any else Byte b) ∷ parts_of (c ∷ more))
+parts_of (b ∷ []) = part_of b ∷ []
+parts_of (b ∷ c ∷ more) = if b == 92 && c == 98 then Boundary ∷ parts_of more else (part_of b ∷ parts_of (c ∷ more))
 
 -- whether the text, or what is left of it behind some of its first bytes, passes the test, which is told whether the
 -- text is at the beginning of the string

@@ -1,5 +1,5 @@
 -- Texts and lists in pieces.
-use Rattle.std.specs.Prelude.{ℕ, zero, suc, ◌+◌, ◌==◌, ◌||◌, not, Bool, nat_eq, if◌then◌else◌, List, [], ◌∷◌, take, drop, length, filter, Option, Some, None, option_map, ◌/◌, ◌%◌}
+use Rattle.std.specs.Prelude.{ℕ, zero, suc, ◌+◌, ◌==◌, ◌||◌, Bool, nat_eq, if◌then◌else◌, List, [], ◌∷◌, take, drop, length, filter, Option, Some, None, option_map, ◌/◌, ◌%◌}
 use Rattle.std.specs.List.{starts_with, join_by}
 
 -- the first place, counted from 0, at which a part of the text begins that passes the test

@@ -1,5 +1,5 @@
 -- What the code's results stand for.
-use Rattle.std.specs.Prelude.{◌≡◌, ℕ, Bool, true, false, List, [], Option, None, Result, Ok, Err}
+use Rattle.std.specs.Prelude.{◌≡◌, ℕ, Bool, true, false, List, [], None, Result, Ok, Err}
 use Rattle.gn_items.specs.declared.code.Code.TheVariants.{TooLong}
 use Rattle.gn_values.specs.Val.{Val}
 use Rattle.gn_values.specs.declared.value.Value.{Value}

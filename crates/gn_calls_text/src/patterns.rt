@@ -2,7 +2,7 @@
 
 ghost use Rattle.std.specs.Prelude.{◌≡◌, ◌+◌, ℕ, Bool, true, false, List, [], ◌∷◌, length, map, IfOk, option_map};
 ghost use Rattle.std.specs.List.{list_any};
-ghost use Rattle.gn_calls_text.specs.Patterns.{parts_of, matches_parts};
+ghost use Rattle.gn_calls_text.specs.Patterns.{part_of, parts_of, matches_parts};
 ghost use Rattle.gn_calls_text.specs.Rows.{BeginsWith, end_cell, cell, IsRow, part_lists};
 ghost use Rattle.gn_calls_text.specs.Views.{bytes_in};
 
@@ -21,14 +21,24 @@ pub(crate) enum Part {
     Byte(u8),
 }
 
+/// The part that a byte stands for which doesn't begin a `\b`.
+fn part_of(byte: u8) -> Part
+    ensures { result ≡ part_of byte }
+{
+    if byte == b'*' {
+        Part::Any
+    } else {
+        Part::Byte(byte)
+    }
+}
+
 /// The first part of a pattern, and what follows it.
 fn first_part(pattern: &[u8]) -> Option<(Part, &[u8])>
     ensures { BeginsWith (option_map (λ p. (p.0, p.1.now)) result) pattern.now }
 {
     match pattern {
         [b'\\', b'b', more @ ..] => Some((Part::Boundary, more)),
-        [b'*', more @ ..] => Some((Part::Any, more)),
-        [byte, more @ ..] => Some((Part::Byte(*byte), more)),
+        [byte, more @ ..] => Some((part_of(*byte), more)),
         [] => None,
     }
 }

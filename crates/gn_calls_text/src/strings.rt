@@ -68,7 +68,7 @@ fn replace_into(
     ensures { Settles (λ u. vstr text.new) result
         (text_answer (text.old ++ replaced count old.now new.now source.now)) }
 {
-    let len = old.needle().len();
+    let old_len = old.needle().len();
     let mut rest = source;
     let mut left = count;
     while left > 0 {
@@ -78,7 +78,7 @@ fn replace_into(
         };
         let (piece, behind) = rest.split_at(place);
         append_both(text, piece, new)?;
-        rest = &behind[len..];
+        rest = &behind[old_len..];
     }
     append(text, rest)
 }

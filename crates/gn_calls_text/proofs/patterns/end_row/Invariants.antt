@@ -1,5 +1,4 @@
-use Rattle.std.proofs.Common.{◌≡◌, ℕ, ◌+◌, ◌≤◌, Bool, false, List, [], length, drop, get_or}
-use Rattle.gn_calls_text.specs.Patterns.{matches_parts}
+use Rattle.std.proofs.Common.{◌≡◌, ◌+◌, ◌≤◌, Bool, [], length}
 use Rattle.gn_calls_text.proofs.RowLemmas.{FromPlace}
 use Rattle.gn_calls_text.proofs.patterns.end_row.Given as goal
 

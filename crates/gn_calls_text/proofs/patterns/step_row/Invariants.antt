@@ -1,4 +1,4 @@
-use Rattle.std.proofs.Common.{◌≡◌, ℕ, ◌+◌, ◌≤◌, Bool, false, List, length}
+use Rattle.std.proofs.Common.{◌≡◌, ℕ, ◌+◌, ◌≤◌, false, List, length}
 use Rattle.gn_calls_text.specs.Rows.{IsRow}
 use Rattle.gn_calls_text.proofs.RowLemmas.{IsStepped}
 use Rattle.gn_calls_text.proofs.patterns.step_row.Given as goal

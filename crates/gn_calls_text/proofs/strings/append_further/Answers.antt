@@ -1,4 +1,3 @@
-use Rattle.std.proofs.Common.{ap, ◌∙◌}
 use Rattle.std.proofs.lemmas.Result.{err_from_is_err_and}
 use Rattle.gn_calls_text.proofs.GrowthLemmas.{text_fails, not_moved}
 use Rattle.gn_calls_text.proofs.JoinLemmas.{further_more}

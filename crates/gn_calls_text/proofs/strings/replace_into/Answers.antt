@@ -18,7 +18,7 @@ returns-in_err-append_both c =
 
 pub loop-left-preserved : goal.loop-left-preserved
 loop-left-preserved c =
-    ap (λ r. c.append_both.new.text ++ replaced (c.loop-left.left - 1) c.args.old.now c.args.new.now r) (rest_is c.loop-left.rest.now c.args.old.now c.needle-len.result.now c.split_at.result.1.now c.in-Some.place c.needle-len.ensures c.split_at.ensures.back)
+    ap (λ r. c.append_both.new.text ++ replaced (c.loop-left.left - 1) c.args.old.now c.args.new.now r) (rest_is c.loop-left.rest.now c.args.old.now c.needle-old_len.result.now c.split_at.result.1.now c.in-Some.place c.needle-old_len.ensures c.split_at.ensures.back)
     ∙ moved _ _ (c.split_at.result.0.now ++ c.args.new.now) _ _ _ c.loop-left.invariant (replaced_more c.loop-left.left c.in-Some.place c.args.old.now c.args.new.now c.loop-left.rest.now c.split_at.result.0.now c.loop-left-test.true c.in-Some.ensures c.split_at.ensures.front) c.in_ok-append_both.ensures.ok
 
 pub returns : goal.returns
