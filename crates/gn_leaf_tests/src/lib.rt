@@ -2,6 +2,8 @@
 #![tactic(auto)]
 
 #[cfg(test)]
+mod calls_text;
+#[cfg(test)]
 mod faults;
 #[cfg(test)]
 mod keys;

@@ -1,0 +1,19 @@
+//! The built-in calls of the language on texts and lists, over values alone.
+#![tactic(auto)]
+
+mod arguments;
+mod call;
+mod error;
+mod filters;
+mod growing;
+mod laws;
+mod lists;
+mod patterns;
+mod strings;
+
+pub use call::{TextCall, call_text};
+pub use error::CallError;
+pub use laws::{
+    filters_part_a_list, joining_undoes_splitting, patterns_match_by_pieces,
+    split_lists_are_the_list,
+};
