@@ -2,8 +2,6 @@
 #![tactic(auto)]
 
 #[cfg(test)]
-mod calls_text;
-#[cfg(test)]
 mod faults;
 #[cfg(test)]
 mod keys;
