@@ -1,5 +1,5 @@
 -- How the end of a run follows from its steps.
-use Rattle.std.proofs.Common.{◌≡◌, inl, inr, ⊎_elim, ℕ, ◌<◌, ◌≤◌, ◌+◌, List, [], ◌∷◌, ◌++◌, take, refl, sym, ap, ◌∙◌, arith, append-nil, map, length, drop}
+use Rattle.std.proofs.Common.{◌≡◌, ◌⊎◌, inl, inr, ⊎_elim, ℕ, ◌<◌, ◌≤◌, ◌+◌, List, [], ◌∷◌, ◌++◌, take, refl, sym, ap, ◌∙◌, arith, append-nil, map, length, drop}
 use Rattle.std.specs.Prelude.{Option, None, Some, option_map}
 use Rattle.std.proofs.Math.Seq.{drop-length}
 use Rattle.std.specs.Prelude.{slice_set, slice_index_or}
@@ -8,7 +8,7 @@ use Rattle.gn_top.specs.Said.{Said}
 use Rattle.gn_outside.specs.Lists.{EachPair, SomePair, Extends}
 use Rattle.gn_outside.specs.Sources.{AllTellReads, total_faults, FailedAt, IsLeastFailure, reads_since, joined_reads, GoesOn}
 use Rattle.gn_top.specs.Texts.{cannot_read_line}
-use Rattle.gn_top.specs.Run.{EndsAs, piece_of, SaysPart, IsCutShort, CutsFailure, CannotRead, EndsWithUsage}
+use Rattle.gn_top.specs.Run.{EndsAs, piece_of, SaysPart, TellsPart, IsCutShort, CutsFailure, CannotRead, EndsWithUsage}
 
 pub nothing_more : {X : Type 0} (before after : Option (List X)) → after ≡ before → Extends before after []
 nothing_more None after same = same
@@ -25,21 +25,24 @@ ends_as meaning text status wanted sink after same none at under told = record {
 
 pub cut_answer : (meaning : Said) (text : List ℕ) (sources now : List SourceState) (sink after : SinkState) → text ≡ meaning.text → meaning.files ≡ [] → SaysPart sink after text
     → IsCutShort meaning sources now sink after
-cut_answer meaning text sources now sink after same none (inl nothing) = inl (inl (0, nothing_more sink.events after.events nothing))
-cut_answer meaning text sources now sink after same none (inr (n, part)) = inl (inr (
-  n,
-  part ∙ ap (λ (t : List ℕ). option_map (λ xs. xs ++ Piece (take n t) ∷ []) sink.events) same
-      ∙ ap (λ (files : List PutFile). option_map (λ xs. xs ++ (map Put files ++ Piece (take n meaning.text) ∷ [])) sink.events) (sym none),
-))
+cut_answer meaning text sources now sink after same none (inl nothing) = record { told = inl (inl (0, nothing_more sink.events after.events nothing)) }
+cut_answer meaning text sources now sink after same none (inr (n, part)) = record {
+  told = inl (inr (
+    n,
+    part ∙ ap (λ (t : List ℕ). option_map (λ xs. xs ++ Piece (take n t) ∷ []) sink.events) same
+        ∙ ap (λ (files : List PutFile). option_map (λ xs. xs ++ (map Put files ++ Piece (take n meaning.text) ∷ [])) sink.events) (sym none),
+  ));
+}
 
 -- nothing has been told
 pub cut_at_once : (meaning : Said) (sources now : List SourceState) (sink : SinkState) → IsCutShort meaning sources now sink sink
-cut_at_once meaning sources now sink = inl (inl (0, nothing_more sink.events sink.events refl))
+cut_at_once meaning sources now sink = record { told = inl (inl (0, nothing_more sink.events sink.events refl)) }
 
 pub cut_failure : (meaning : Said) (path : List ℕ) (before now : SourceState) (sink after : SinkState) → before.faults < now.faults
     → SaysPart sink after (cannot_read_line path) → (AllTellReads (before ∷ []) → IsLeastFailure (before ∷ []) (now ∷ []) path) → IsCutShort meaning (before ∷ []) (now ∷ []) sink after
-cut_failure meaning path before now sink after rose part least =
-    inr (path, record { failed = let both : before.faults + 0 < now.faults + 0 = omega arith in both; text = part; least = least })
+cut_failure meaning path before now sink after rose part least = record {
+  told = inr (path, record { failed = let both : before.faults + 0 < now.faults + 0 = omega arith in both; text = part; least = least });
+}
 
 pub one_failed : (path : List ℕ) (before now : SourceState) (sink after : SinkState) → before.faults < now.faults
     → Extends sink.events after.events (piece_of (cannot_read_line path)) → (AllTellReads (before ∷ []) → IsLeastFailure (before ∷ []) (now ∷ []) path)
@@ -96,9 +99,13 @@ module _ (s t : SourceState) (rest : List SourceState) where
   cuts_more : (sink after : SinkState) (path : List ℕ) → CutsFailure (s ∷ []) (t ∷ []) sink after path → CutsFailure (s ∷ rest) (t ∷ rest) sink after path
   cuts_more sink after path one = record { failed = rose_more one.failed; text = one.text; least = λ told. least_more _ (one.least (told.0, tt)) }
 
+  cut_more : (meaning : Said) (sink after : SinkState) → TellsPart meaning sink after ⊎ ((path : List ℕ) × CutsFailure (s ∷ []) (t ∷ []) sink after path)
+      → TellsPart meaning sink after ⊎ ((path : List ℕ) × CutsFailure (s ∷ rest) (t ∷ rest) sink after path)
+  cut_more meaning sink after (inl part) = inl part
+  cut_more meaning sink after (inr (path, failure)) = inr (path, cuts_more sink after path failure)
+
   pub cut_short_more : (meaning : Said) (sink after : SinkState) → IsCutShort meaning (s ∷ []) (t ∷ []) sink after → IsCutShort meaning (s ∷ rest) (t ∷ rest) sink after
-  cut_short_more meaning sink after (inl part) = inl part
-  cut_short_more meaning sink after (inr (path, failure)) = inr (path, cuts_more sink after path failure)
+  cut_short_more meaning sink after one = record { told = cut_more meaning sink after one.told }
 
   pub usage_more : (sink after : SinkState) (status units : ℕ) → EndsWithUsage (s ∷ []) (t ∷ []) sink after status units → EndsWithUsage (s ∷ rest) (t ∷ rest) sink after status units
   usage_more sink after status units one = record {

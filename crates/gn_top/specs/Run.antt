@@ -59,8 +59,8 @@ pub record CutsFailure (sources now : List SourceState) (sink after : SinkState)
   pub least : AllTellReads sources → IsLeastFailure sources now path
 
 -- before a failed write or want of memory: a first part of what the meaning tells, or of the line on a failed read
-abbrev pub IsCutShort : Said → List SourceState → List SourceState → SinkState → SinkState → Type 0
-IsCutShort meaning sources now sink after = TellsPart meaning sink after ⊎ ((path : List ℕ) × CutsFailure sources now sink after path)
+pub record IsCutShort (meaning : Said) (sources now : List SourceState) (sink after : SinkState) : Type 0 where
+  pub told : TellsPart meaning sink after ⊎ ((path : List ℕ) × CutsFailure sources now sink after path)
 
 -- at most so many build files
 abbrev pub IsWithin : ℕ → UnitCount → Type 0

@@ -3,6 +3,12 @@ use Rattle.gn_top.proofs.RunLemmas.{cannot_read_more, cut_short_more, joined_mor
 use Rattle.gn_top.specs.Words.{worker_count}
 use Rattle.gn_top.proofs.many.run_gn.Goals as goal
 
+pub returns-clause-meaning : goal.returns-clause-meaning
+returns-clause-meaning g c =
+    let some : 1 ≤ length c.args.sources.items = omega (arith, c.args.sources.ok.0) in
+    rw (map_split g.S.Source.state c.args.sources.items c.index_mut.result.now some c.index_mut.ensures.value)
+    (λ tree told ended. c.run_one-one.ensures.meaning tree (told.0, tt) ended)
+
 pub returns-clause-cannot_read : goal.returns-clause-cannot_read
 returns-clause-cannot_read g c = λ three.
     let some : 1 ≤ length c.args.sources.items = omega (arith, c.args.sources.ok.0) in
