@@ -1,5 +1,5 @@
 -- Whole steps of the grammar: what the parser's functions need at their returns.
-use Rattle.std.proofs.Common.{◌≡◌, ◌≢◌, ℕ, ◌+◌, ◌<◌, ◌≤◌, List, [], ◌∷◌, ◌++◌, length, Option, Some, None, Result, Ok, Err, IfOk, refl, sym, ◌∙◌, ap, subst, arith}
+use Rattle.std.proofs.Common.{◌≡◌, ◌≢◌, ℕ, ◌+◌, ◌<◌, ◌≤◌, List, [], ◌∷◌, ◌++◌, length, Option, Some, Result, Ok, Err, IfOk, refl, sym, ◌∙◌, ap, subst, arith}
 use Rattle.std.proofs.lemmas.Bool.{le-ltb}
 use Rattle.gn_tree.specs.declared.operator.AssignOp.{AssignOp}
 use Rattle.gn_tree.specs.declared.operator.AssignOp.TheVariants as assign
@@ -7,14 +7,14 @@ use Rattle.gn_tree.specs.declared.operator.BinaryOp.{BinaryOp}
 use Rattle.gn_tree.specs.declared.operator.BinaryOp.TheVariants as binary
 use Rattle.gn_tree.specs.declared.tree.Expr.{Expr}
 use Rattle.gn_tree.specs.declared.tree.Statement.{Statement}
-use Rattle.gn_tree.specs.Tree.{ExprTree, ExprTrees, TargetTree}
-use Rattle.gn_tree.specs.Views.{expr_of, exprs_of, statement_of, block_of}
+use Rattle.gn_tree.specs.Tree.{ExprTrees, TargetTree}
+use Rattle.gn_tree.specs.Views.{exprs_of, statement_of, block_of}
 use Rattle.gn_tokens.specs.declared.token.TokenKind.{TokenKind}
 use Rattle.gn_tokens.specs.declared.token.TokenKind.TheVariants as k
-use Rattle.gn_syntax.specs.declared.error.SyntaxError.{SyntaxError}
-use Rattle.gn_syntax.specs.Lexemes.{Lexeme, Last}
-use Rattle.gn_syntax.specs.Grammar.{mark_of, assign_mark, LastComma, SpellsList, SpellsTarget, SpellsStatement, SpellsStatements}
-use Rattle.gn_syntax.specs.Machine.{Symbol, Statements, Head, Sign, Operand, Operators, Items, MoreItems, CloseParen, next, judged, Verdict, Bad, verdict}
+use Rattle.gn_syntax.specs.declared.error.Stop.{Stop}
+use Rattle.gn_grammar.specs.Lexemes.{Lexeme, Last}
+use Rattle.gn_grammar.specs.Grammar.{mark_of, assign_mark, LastComma, SpellsList, SpellsTarget, SpellsStatement, SpellsStatements}
+use Rattle.gn_grammar.specs.Machine.{Symbol, Statements, Head, Sign, Operand, Operators, MoreItems, CloseParen, next, Bad, verdict}
 use Rattle.gn_syntax.specs.Parsing.{front, rest_of, level, refusal, sign_of, Begun}
 use Rattle.gn_syntax.proofs.Steps.{operators_pass, close_paren_refused, more_items_refused, sign_comes}
 use Rattle.gn_syntax.proofs.Trees.{begun_nothing, last_comma, last_none, statements_push}
@@ -127,7 +127,7 @@ items_end r items s rest e h =
 pub items_none : (r : ExprTrees) (items : List Expr) (s : List Lexeme) → r ≡ exprs_of items → LastComma r s s
 items_none r items s e = subst (λ x. LastComma x s s) (sym e) (last_none items s)
 
-pub assigned_spelled : (r : Result Statement SyntaxError) (target : TargetTree) (s mid rest : List Lexeme) →
+pub assigned_spelled : (r : Result Statement Stop) (target : TargetTree) (s mid rest : List Lexeme) →
     IfOk r (λ st. (z : List Lexeme) → SpellsTarget target z mid → SpellsStatement (statement_of st) z rest) → SpellsTarget target s mid → IfOk r (λ st. SpellsStatement (statement_of st) s rest)
 assigned_spelled (Ok x) target s mid rest h tgt = h s tgt
 assigned_spelled (Err e) target s mid rest h tgt = tt

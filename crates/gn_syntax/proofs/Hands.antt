@@ -1,17 +1,13 @@
 -- What is in hand, and what is behind it.
-use Rattle.std.proofs.Common.{◌≡◌, ℕ, ◌+◌, ◌≤◌, ◌<◌, List, [], ◌∷◌, length, slice_range, Option, Some, None, Result, Ok, Err, refl, sym, ◌∙◌, ap, subst, arith}
+use Rattle.std.proofs.Common.{◌≡◌, ℕ, ◌≤◌, List, length, slice_range, Option, Some, None, Result, Ok, Err, sym, ◌∙◌, ap, subst, arith}
 use Rattle.gn_tree.specs.declared.position.Position.{Position}
 use Rattle.gn_tokens.specs.declared.token.Token.{Token}
 use Rattle.gn_tokens.specs.declared.token.TokenError.{TokenError}
-use Rattle.gn_tokens.specs.declared.token.TokenError.TheVariants.{BadByte, BadNumber, OpenString, BadDollar}
-use Rattle.gn_tokens.specs.declared.token.TokenKind.{TokenKind}
 use Rattle.gn_tokens.specs.Token as tokens
 use Rattle.gn_tokens.specs.Next.{Reader, IsNext, behind}
-use Rattle.gn_tokens.specs.Stream.{Stream, stream_with, stream_of}
-use Rattle.gn_syntax.specs.Position.{position_of}
-use Rattle.gn_syntax.specs.Lexemes.{Lexeme, lexemes_in, last_in}
+use Rattle.gn_grammar.specs.Position.{position_of}
 use Rattle.gn_syntax.specs.Counting.{behind_bytes}
-use Rattle.gn_syntax.specs.Parsing.{Follows, StandsAt, IsInHand, ahead_of, front, rest_of, text_at}
+use Rattle.gn_syntax.specs.Parsing.{Follows, StandsAt, IsInHand}
 use Rattle.gn_syntax.proofs.Positions.{position_between}
 
 -- the next token begins behind the offset from which it was looked for

@@ -1,15 +1,3 @@
-pub mod Fits
-pub mod Spelled
-pub mod Longer
-pub mod Taken
-pub mod Finish
-pub mod Viable
-pub mod Grouping
-pub mod Same
-pub mod Unique
-pub mod OneAnswer
-pub mod Nestings
-pub mod Standing
 pub mod Positions
 pub mod Hands
 pub mod Steps
@@ -17,4 +5,4 @@ pub mod Trees
 pub mod Calls
 pub mod Whole
 pub mod Literals
-pub mod Shallow
+pub mod Readings

@@ -1,17 +1,16 @@
 -- String literals, read from the left.
-use Rattle.std.proofs.Common.{◌≡◌, ◌≢◌, ◌⊎◌, ℕ, zero, suc, ◌+◌, ◌-◌, ◌*◌, ◌<◌, ◌≤◌, Bool, true, false, not, ◌&&◌, ◌||◌, ◌==◌, if◌then◌else◌, List, [], ◌∷◌, ◌++◌, length, take, drop, Option, Some, None, All, IsTrue, refl, sym, ◌∙◌, ap, subst, inl, inr, arith, append_assoc, length-append}
-use Rattle.std.specs.List.{prefix_len}
+use Rattle.std.proofs.Common.{◌≡◌, ◌≢◌, ◌⊎◌, ℕ, zero, suc, ◌+◌, ◌-◌, ◌≤◌, Bool, true, false, not, ◌&&◌, ◌==◌, List, [], ◌∷◌, ◌++◌, length, take, drop, IsTrue, refl, sym, ◌∙◌, ap, subst, inl, inr, arith, append_assoc, length-append}
 use Rattle.std.proofs.lemmas.Bool.{cases_Bool}
 use Rattle.std.proofs.lemmas.Bool.Decides.{eqb_tells}
 use Rattle.gn_tree.specs.declared.position.Position.{Position}
 use Rattle.gn_tree.specs.declared.piece.Piece.{Piece}
 use Rattle.gn_tree.specs.declared.piece.Piece.TheVariants as piece
 use Rattle.gn_tree.specs.declared.piece.Subscript.{Subscript}
-use Rattle.gn_tokens.specs.Bytes.{IsIdentifier, is_letter, is_word_byte, is_hex_digit, is_escapable, begins, begins_with, front_word, past_word, is_name}
-use Rattle.gn_tokens.specs.Number.{IsInteger, begins_run, run_len, is_integer, integer_len}
+use Rattle.gn_tokens.specs.Bytes.{IsIdentifier, is_letter, is_hex_digit, is_escapable, begins, begins_with, front_word, past_word, is_name}
+use Rattle.gn_tokens.specs.Number.{IsInteger, begins_run, run_len, is_integer}
 use Rattle.gn_tokens.specs.Text.{Item, Plain, Escape, Hex, Variable, Braced, Element, Field, item_bytes, Reads, AllExpand, IsItem, IsString, is_stop, expands, is_braced, is_braced_end, is_hex, index_len, closes_behind, front_index, first_or_zero, braced_item, hex_item, expansion_item, front_item, items_from, text_items, placed, string_items}
-use Rattle.gn_syntax.specs.Position.{further}
-use Rattle.gn_syntax.specs.Pieces.{byte_before, item_before, pieces_from, pieces_of, subscript_of}
+use Rattle.gn_grammar.specs.Position.{further}
+use Rattle.gn_grammar.specs.Pieces.{byte_before, item_before, pieces_from, pieces_of, subscript_of}
 use Rattle.gn_syntax.specs.Literals.{run_before, run_pieces, meaning, IsPiece, Expands, IsRest, Took, Stepped, IsWritten, IsBraced}
 
 run_push : (run : List ℕ) (b : ℕ) (later : List Piece) → run_before (run ++ b ∷ []) later ≡ run_before run (byte_before b later)

@@ -1,11 +1,10 @@
 -- Positions, counted a byte at a time, are those of the bytes before.
-use Rattle.std.proofs.Common.{◌≡◌, ℕ, zero, suc, ◌+◌, ◌-◌, ◌≤◌, ◌<◌, ◌^◌, ◌==◌, min, Bool, true, false, not, cond, if◌then◌else◌, List, [], ◌∷◌, ◌++◌, length, take, drop, reverse, get_or, refl, sym, ◌∙◌, ap, subst, arith, append_assoc}
-use Rattle.std.specs.List.{prefix_len, count_by, sum_by, slice_range}
+use Rattle.std.proofs.Common.{◌≡◌, ℕ, zero, suc, ◌+◌, ◌-◌, ◌≤◌, ◌==◌, Bool, true, false, not, cond, if◌then◌else◌, List, [], ◌∷◌, ◌++◌, length, take, drop, reverse, refl, sym, ◌∙◌, ap, arith, append_assoc}
+use Rattle.std.specs.List.{prefix_len, count_by, slice_range}
 use Rattle.std.proofs.lemmas.List.{reverse-append, length-reverse}
 use Rattle.std.proofs.lemmas.List.Sums.{sum_by-append, count_by-le-length, prefix_len-le-length}
-use Rattle.std.proofs.lemmas.List.{drop_more}
 use Rattle.gn_tree.specs.declared.position.Position.{Position}
-use Rattle.gn_syntax.specs.Position.{counted, line_behind, column_behind, position_of}
+use Rattle.gn_grammar.specs.Position.{counted, line_behind, column_behind, position_of}
 use Rattle.gn_syntax.specs.Counting.{behind_byte, behind_bytes, behind_first}
 
 abbrev at : ℕ → ℕ → Position

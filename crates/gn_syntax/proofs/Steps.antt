@@ -1,11 +1,10 @@
 -- How the verdict goes past a token, or stays where a symbol passes.
-use Rattle.std.proofs.Common.{◌≡◌, ◌≢◌, ℕ, ◌+◌, ◌<◌, ◌≤◌, Bool, true, false, List, [], ◌∷◌, ◌++◌, Option, Some, None, refl, sym, ◌∙◌, ap, arith}
-use Rattle.gn_tree.specs.declared.operator.AssignOp.{AssignOp}
+use Rattle.std.proofs.Common.{◌≡◌, ◌≢◌, ℕ, ◌<◌, false, List, [], ◌∷◌, Some, None, refl, ap, arith}
 use Rattle.gn_tokens.specs.declared.token.TokenKind.{TokenKind}
 use Rattle.gn_tokens.specs.declared.token.TokenKind.TheVariants as k
-use Rattle.gn_syntax.specs.Lexemes.{Lexeme, Last, End, Wrong}
-use Rattle.gn_syntax.specs.Machine.{Symbol, Statements, Head, Sign, Test, Block, BlockOr, ElseOr, ElseBody, Operand, Suffix, Operators, Args, MoreArgs, Items, MoreItems, Name, CloseParen, CloseBracket, CloseBrace, next, judged, is_done, Verdict, Bad, verdict}
-use Rattle.gn_syntax.specs.Parsing.{front, rest_of, level, level_of, refusal, sign_of}
+use Rattle.gn_grammar.specs.Lexemes.{Lexeme, Last, End, Wrong}
+use Rattle.gn_grammar.specs.Machine.{Symbol, Statements, Head, Sign, Test, Block, BlockOr, ElseOr, ElseBody, Operand, Suffix, Operators, Args, MoreArgs, Items, MoreItems, Name, CloseParen, CloseBracket, CloseBrace, next, judged, is_done, Bad, verdict}
+use Rattle.gn_syntax.specs.Parsing.{front, level, level_of, refusal, sign_of}
 
 abbrev Refuses : List Symbol → List Lexeme → Type 0
 Refuses stack [] = is_done stack ≡ false

@@ -1,16 +1,16 @@
 -- How spelled trees grow.
-use Rattle.std.proofs.Common.{◌≡◌, ℕ, ◌+◌, ◌<◌, ◌≤◌, List, [], ◌∷◌, ◌++◌, Option, Some, None, Result, Ok, Err, IfOk, OnOk, refl, sym, ◌∙◌, ap, subst, arith, inl, inr, ◌⊎◌}
+use Rattle.std.proofs.Common.{◌≡◌, ℕ, ◌≤◌, List, [], ◌∷◌, ◌++◌, Some, Result, Ok, Err, IfOk, OnOk, refl, sym, ◌∙◌, subst, arith, inl, inr}
 use Rattle.gn_tree.specs.declared.position.Position.{Position}
 use Rattle.gn_tree.specs.declared.tree.Expr.{Expr}
 use Rattle.gn_tree.specs.declared.tree.Statement.{Statement}
-use Rattle.gn_tree.specs.Tree.{ExprTree, name_expr, integer_expr, string_expr, boolean_expr, call_expr, item_expr, entry_expr, scope_expr, parentheses_expr, list_expr, not_expr, binary_expr, ExprTrees, no_exprs, expr_then, BlockTree, no_statements, statement_then, StatementTree}
+use Rattle.gn_tree.specs.Tree.{ExprTree, binary_expr, no_exprs}
 use Rattle.gn_tree.specs.Views.{expr_of, exprs_of, statement_of, block_of}
 use Rattle.gn_tokens.specs.declared.token.TokenKind.{TokenKind}
 use Rattle.gn_tokens.specs.declared.token.TokenKind.TheVariants as k
-use Rattle.gn_syntax.specs.declared.error.SyntaxError.{SyntaxError}
-use Rattle.gn_syntax.specs.Lexemes.{Lexeme}
-use Rattle.gn_syntax.specs.Grammar.{IsToken, IsMark, IsKind, LastComma, Spells, SpellsList, SpellsMore, SpellsStatement, SpellsStatements, priority, mark_of}
-use Rattle.gn_syntax.specs.Parsing.{front, rest_of, position_at, text_at, level, level_of, CommaBehind, Begun}
+use Rattle.gn_syntax.specs.declared.error.Stop.{Stop}
+use Rattle.gn_grammar.specs.Lexemes.{Lexeme}
+use Rattle.gn_grammar.specs.Grammar.{IsToken, IsMark, IsKind, LastComma, Spells, SpellsList, SpellsMore, SpellsStatement, SpellsStatements}
+use Rattle.gn_syntax.specs.Parsing.{front, rest_of, position_at, text_at, CommaBehind, Begun}
 
 pub token_at : (kind : TokenKind) (position : Position) (text : List ℕ) (s rest : List Lexeme) → front s ≡ Some kind → position ≡ position_at s → text ≡ text_at s → rest ≡ rest_of s →
     IsToken kind position text s rest
@@ -63,7 +63,7 @@ pub statements_push : (statements : List Statement) (x : Statement) (first s res
 statements_push [] x first s rest h e = (rest, subst (λ y. SpellsStatement (statement_of x) y rest) (sym h) e, refl)
 statements_push (y ∷ ys) x first s rest h e = (h.0, h.1, statements_push ys x h.0 s rest h.2 e)
 
-pub entry_spelled : (r : Result (List ℕ) SyntaxError) (s rest : List Lexeme) → front s ≡ Some k.Identifier → IfOk r (λ t. t ≡ text_at s) → OnOk r (rest ≡ rest_of s) →
+pub entry_spelled : (r : Result (List ℕ) Stop) (s rest : List Lexeme) → front s ≡ Some k.Identifier → IfOk r (λ t. t ≡ text_at s) → OnOk r (rest ≡ rest_of s) →
     IfOk r (λ t. (at : Position) × IsToken k.Identifier at t s rest)
 entry_spelled (Ok t) s rest f x r = (position_at s, token_at k.Identifier (position_at s) t s rest f refl x r)
 entry_spelled (Err e) s rest f x r = tt

@@ -1,17 +1,15 @@
 -- The end of a whole file, and of a whole expression.
-use Rattle.std.proofs.Common.{◌≡◌, ◌≢◌, ℕ, ◌<◌, Bool, true, false, List, [], ◌∷◌, Option, Some, None, refl, sym, ◌∙◌, ap, subst}
+use Rattle.std.proofs.Common.{◌≡◌, ◌≢◌, ℕ, ◌<◌, true, false, List, [], ◌∷◌, Some, refl, subst}
 use Rattle.gn_tokens.specs.declared.token.TokenKind.TheVariants as k
-use Rattle.gn_syntax.specs.declared.error.SyntaxError.{SyntaxError}
-use Rattle.gn_syntax.specs.Lexemes.{Lexeme, Last, End, Wrong}
-use Rattle.gn_syntax.specs.Machine.{Statements, Operators, Verdict, Good, Bad, verdict}
-use Rattle.gn_syntax.specs.Parsing.{front, level, refusal, is_end, Fails}
+use Rattle.gn_grammar.specs.Lexemes.{Lexeme, Last, End, Wrong}
+use Rattle.gn_grammar.specs.Machine.{Statements, Operators, Good, Bad, verdict}
+use Rattle.gn_syntax.specs.Parsing.{front, level, refusal, is_end}
 use Rattle.gn_tree.specs.Tree.{ExprTree, BlockTree}
-use Rattle.gn_syntax.specs.declared.error.SyntaxError.TheVariants.{Token as TokenFault, Unexpected, TooDeep, Memory}
-use Rattle.gn_syntax.specs.Lexemes.{lexemes, last_of}
-use Rattle.gn_syntax.specs.Grammar.{Spells, SpellsStatements}
-use Rattle.gn_syntax.specs.Start.{Start, File, Expression, wanted_of}
-use Rattle.gn_syntax.specs.Errors.{IsTree, IsExpr, IsErrorOf}
-use Rattle.gn_syntax.specs.Laws.{IsRight, IsAsJudged, IsJudgedRightly}
+use Rattle.gn_grammar.specs.Lexemes.{lexemes, last_of}
+use Rattle.gn_grammar.specs.Grammar.{Spells, SpellsStatements}
+use Rattle.gn_grammar.specs.Start.{Start, File, Expression, wanted_of}
+use Rattle.gn_grammar.specs.Errors.{IsTree, IsExpr}
+use Rattle.gn_grammar.specs.Laws.{IsRight, IsAsJudged, IsJudgedRightly}
 use Rattle.gn_syntax.proofs.Steps.{statements_pass, operators_pass}
 
 pub whole_refused : (last : Last) (s : List Lexeme) → front s ≢ Some k.Identifier → front s ≢ Some k.If → is_end last s ≡ false → verdict last (Statements 0 ∷ []) s ≡ Bad (refusal last s)
@@ -38,12 +36,6 @@ pub nothing_left : (last : Last) (s : List Lexeme) → is_end last s ≡ true �
 nothing_left last [] h = refl
 nothing_left last (t ∷ ts) h = absurd cc
 
--- The error is the verdict.
-pub refusal_fails : (last : Last) (s : List Lexeme) (v : Verdict) → v ≡ Bad (refusal last s) → Fails (refusal last s) v
-refusal_fails (End offset) [] v h = h
-refusal_fails (Wrong error) [] v h = h
-refusal_fails last (t ∷ ts) v h = h
-
 -- What the machine judges right is a tree, and any tree that is spelled is that of the bytes.
 is_right : (start : Start) (bytes : List ℕ) → IsJudgedRightly start bytes → verdict (last_of bytes) (wanted_of start) (lexemes bytes) ≡ Good → IsRight start bytes
 is_right start bytes judged v = subst (λ x. IsAsJudged start bytes x) v judged
@@ -55,11 +47,3 @@ is_tree bytes tree judged v spells = let h = is_right File bytes judged v in rec
 pub is_expr : (bytes : List ℕ) (tree : ExprTree) → IsJudgedRightly Expression bytes → verdict (last_of bytes) (wanted_of Expression) (lexemes bytes) ≡ Good →
     Spells 1 tree (lexemes bytes) [] → IsExpr bytes tree
 is_expr bytes tree judged v spells = let h = is_right Expression bytes judged v in record { offset = h.offset; ends = h.ends; spells = spells; shallow = h.shallow }
-
--- An error that is the verdict is the first one.
-pub is_error : (start : Start) (bytes : List ℕ) (e : SyntaxError) → IsJudgedRightly start bytes →
-    Fails e (verdict (last_of bytes) (wanted_of start) (lexemes bytes)) → IsErrorOf start e bytes
-is_error start bytes (TokenFault error) judged v = (subst (λ x. IsAsJudged start bytes x) v judged).1
-is_error start bytes (Unexpected offset) judged v = (subst (λ x. IsAsJudged start bytes x) v judged).1
-is_error start bytes (TooDeep offset) judged v = (subst (λ x. IsAsJudged start bytes x) v judged).1
-is_error start bytes Memory judged v = tt

@@ -1,7 +1,7 @@
 -- Positions, counted a byte at a time.
 use Rattle.std.specs.Prelude.{ℕ, ◌+◌, ◌==◌, if◌then◌else◌, List, [], ◌∷◌}
 use Rattle.gn_tree.specs.declared.position.Position.{Position}
-use Rattle.gn_syntax.specs.Position.{counted, line_behind, column_behind}
+use Rattle.gn_grammar.specs.Position.{counted, line_behind, column_behind}
 
 -- the position behind this byte, which stands at the position
 abbrev pub behind_byte : Position → ℕ → Position

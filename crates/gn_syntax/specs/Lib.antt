@@ -1,12 +1,4 @@
-pub mod Position
-pub mod Lexemes
-pub mod Pieces
-pub mod Grammar
-pub mod Machine
-pub mod Start
-pub mod Errors
-pub mod Nesting
-pub mod Laws
+pub mod Reading
 pub mod Counting
 pub mod Parsing
 pub mod Literals

@@ -5,7 +5,7 @@ use Rattle.gn_tree.specs.declared.piece.Piece.{Piece}
 use Rattle.gn_tree.specs.declared.piece.Piece.TheVariants as piece
 use Rattle.gn_tokens.specs.Bytes.{front_word, past_word}
 use Rattle.gn_tokens.specs.Text.{Item, Reads, AllExpand, IsItem, expands, is_braced, braced_item, expansion_item, item_bytes, text_items, string_items}
-use Rattle.gn_syntax.specs.Pieces.{byte_before, item_before, pieces_from}
+use Rattle.gn_grammar.specs.Pieces.{byte_before, item_before, pieces_from}
 
 -- a run of bytes before pieces
 abbrev pub run_before : List ℕ → List Piece → List Piece

@@ -1,21 +1,23 @@
 -- What the functions of the parser promise.
-use Rattle.std.specs.Prelude.{◌≡◌, ℕ, ◌+◌, ◌≤◌, ◌<◌, Bool, true, false, List, [], ◌∷◌, ◌++◌, length, slice_range, Option, Some, None, Result, Ok, Err, ⊤}
+use Rattle.std.specs.Prelude.{◌≡◌, ℕ, ◌≤◌, Bool, true, false, List, [], ◌∷◌, ◌++◌, length, slice_range, Option, Some, None, Result, Ok, Err, ⊤}
 use Rattle.gn_tree.specs.declared.position.Position.{Position}
 use Rattle.gn_tree.specs.declared.operator.AssignOp.{AssignOp}
 use Rattle.gn_tree.specs.declared.operator.AssignOp.TheVariants as assign
-use Rattle.gn_tree.specs.Tree.{ExprTree, ExprTrees, no_exprs, expr_then}
+use Rattle.gn_tree.specs.Tree.{ExprTrees, no_exprs, expr_then}
 use Rattle.gn_tokens.specs.declared.token.Token.{Token}
 use Rattle.gn_tokens.specs.declared.token.TokenError.{TokenError}
 use Rattle.gn_tokens.specs.declared.token.TokenKind.{TokenKind}
 use Rattle.gn_tokens.specs.declared.token.TokenKind.TheVariants as k
 use Rattle.gn_tokens.specs.Token as tokens
 use Rattle.gn_tokens.specs.Stream.{Stream}
-use Rattle.gn_syntax.specs.declared.error.SyntaxError.{SyntaxError}
-use Rattle.gn_syntax.specs.declared.error.SyntaxError.TheVariants.{Token as TokenFault, Unexpected, TooDeep, Memory}
-use Rattle.gn_syntax.specs.Position.{position_of}
-use Rattle.gn_syntax.specs.Lexemes.{Lexeme, Last, End, Wrong, lexemes_in, last_in}
-use Rattle.gn_syntax.specs.Grammar.{IsKind, SpellsList}
-use Rattle.gn_syntax.specs.Machine.{Symbol, Operand, Operators, Verdict, Bad, verdict}
+use Rattle.gn_grammar.specs.declared.fault.SyntaxFault.{SyntaxFault}
+use Rattle.gn_grammar.specs.declared.fault.SyntaxFault.TheVariants.{Token as TokenFault, Unexpected}
+use Rattle.gn_syntax.specs.declared.error.Stop.{Stop}
+use Rattle.gn_syntax.specs.declared.error.Stop.TheVariants.{Fault, Memory}
+use Rattle.gn_grammar.specs.Position.{position_of}
+use Rattle.gn_grammar.specs.Lexemes.{Lexeme, Last, End, Wrong, lexemes_in, last_in}
+use Rattle.gn_grammar.specs.Grammar.{IsKind, SpellsList}
+use Rattle.gn_grammar.specs.Machine.{Symbol, Operand, Operators, Verdict, Bad, verdict}
 
 -- the tokens that are left, and what comes behind them
 pub record Ahead : Type 0 where
@@ -71,12 +73,12 @@ text_at [] = []
 text_at (t ∷ ts) = t.text
 
 -- the error of a file that may not end behind the last token
-abbrev pub end_refusal : Last → SyntaxError
+abbrev pub end_refusal : Last → SyntaxFault
 end_refusal (End offset) = Unexpected offset
 end_refusal (Wrong error) = TokenFault error
 
 -- the error of a file in which the next token cannot come
-abbrev pub refusal : Last → List Lexeme → SyntaxError
+abbrev pub refusal : Last → List Lexeme → SyntaxFault
 refusal last [] = end_refusal last
 refusal last (t ∷ ts) = Unexpected t.start
 
@@ -98,24 +100,27 @@ level_of (Some _) = 0
 abbrev pub level : List Lexeme → ℕ
 level ts = level_of (front ts)
 
+-- the error at which the parser stops; none where memory is wanting
+abbrev pub fault_at : Stop → Option SyntaxFault
+fault_at (Fault error) = Some error
+fault_at Memory = None
+
 -- The error is the verdict. Want of memory says nothing of it.
-abbrev pub Fails : SyntaxError → Verdict → Type 0
+abbrev pub Fails : Stop → Verdict → Type 0
+Fails (Fault error) v = v ≡ Bad error
 Fails Memory v = ⊤
-Fails (TokenFault error) v = v ≡ Bad (TokenFault error)
-Fails (Unexpected at) v = v ≡ Bad (Unexpected at)
-Fails (TooDeep at) v = v ≡ Bad (TooDeep at)
 
 -- Where there is an answer, the two verdicts are the same, and an error is the first of them.
-abbrev pub Steps : {A : Type 0} → Result A SyntaxError → Verdict → Verdict → Type 0
+abbrev pub Steps : {A : Type 0} → Result A Stop → Verdict → Verdict → Type 0
 Steps (Ok x) before later = before ≡ later
 Steps (Err e) before later = Fails e before
 
 -- What was wanted before is read, and then that behind it is wanted, whatever is wanted later.
-abbrev pub Reads : {A : Type 0} → Result A SyntaxError → Last → List Symbol → List Lexeme → List Symbol → List Lexeme → Type 0
+abbrev pub Reads : {A : Type 0} → Result A Stop → Last → List Symbol → List Lexeme → List Symbol → List Lexeme → Type 0
 Reads r last before s behind rest = (wanted : List Symbol) → Steps r (verdict last (before ++ wanted) s) (verdict last (behind ++ wanted) rest)
 
 -- An operand was read where the nesting is deep.
-abbrev pub ReadsOperand : {A : Type 0} → Result A SyntaxError → Last → ℕ → List Lexeme → List Lexeme → Type 0
+abbrev pub ReadsOperand : {A : Type 0} → Result A Stop → Last → ℕ → List Lexeme → List Lexeme → Type 0
 ReadsOperand r last deep s rest = (after : ℕ) → Reads r last (Operand after deep ∷ []) s (Operators after ∷ []) rest
 
 -- Behind items a comma stands.

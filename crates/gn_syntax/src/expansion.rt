@@ -5,15 +5,15 @@ ghost use Rattle.std.specs.List.{prefix_len};
 ghost use Rattle.gn_tokens.specs.Bytes.{begins, begins_with, is_digit, is_hex_digit, is_letter, is_word_byte, front_word, past_word, IsIdentifier};
 ghost use Rattle.gn_tokens.specs.Number.{run_len, IsInteger};
 ghost use Rattle.gn_tokens.specs.Text.{expansion_item, braced_item, is_hex, hex_item, index_len, closes_behind, front_index};
-ghost use Rattle.gn_syntax.specs.Pieces.{hex_value, subscript_of, item_before, byte_before};
+ghost use Rattle.gn_grammar.specs.Pieces.{hex_value, subscript_of, item_before, byte_before};
 ghost use Rattle.gn_syntax.specs.Literals.{IsWritten, IsBraced, Expands};
 ghost use Rattle.gn_tree.specs.declared.piece.Piece.{Piece};
 
-use crate::error::SyntaxError;
+use crate::error::Stop;
 use gn_paths::Text;
 use gn_tokens::integer_value;
 use gn_tree::{Piece, Position, Subscript};
-use std::alloc::Global;
+use std::alloc::{AllocError, Global};
 
 // A letter, a digit or `_`.
 fn is_in_word(byte: u8) -> bool
@@ -85,10 +85,9 @@ fn hex_digit(byte: u8) -> u8
 
 // What stands between the square brackets of an expansion.
 #[tactic(auto, using(crate::proofs::Literals::number_index))]
-fn subscript(alloc: Global, index: &[u8]) -> Result<Subscript, SyntaxError>
+fn subscript(alloc: Global, index: &[u8]) -> Result<Subscript, AllocError>
     requires { IsIdentifier index.now ⊎ IsInteger index.now }
-    ensures ok { IfOk result (λ s. s ≡ subscript_of index.now) }
-    ensures err { IfErr result (λ e. e ≡ SyntaxError.Memory) }
+    ensures { IfOk result (λ s. s ≡ subscript_of index.now) }
 {
     if begins_word(index) {
         return Ok(Subscript::Name(Text::from_bytes(alloc, index)?));
@@ -166,75 +165,86 @@ pub(crate) fn hex_byte(bytes: &[u8]) -> u8
     }
 }
 
+// The expansion of a name.
+fn name_piece(alloc: Global, position: Position, name: &[u8]) -> Result<Piece, AllocError>
+    ensures { IfOk result (λ p. p ≡ Piece.Name position name.now) }
+{
+    let name = Text::from_bytes(alloc, name)?;
+    Ok(Piece::Name { position, name })
+}
+
+// The expansion of an entry.
+fn entry_piece(
+    alloc: Global,
+    position: Position,
+    base: &[u8],
+    entry: &[u8],
+) -> Result<Piece, AllocError>
+    ensures { IfOk result (λ p. p ≡ Piece.Entry position base.now entry.now) }
+{
+    let base = Text::from_bytes(alloc, base)?;
+    let entry = Text::from_bytes(alloc, entry)?;
+    Ok(Piece::Entry {
+        position,
+        base,
+        entry,
+    })
+}
+
+// The expansion of an item.
+fn item_piece(
+    alloc: Global,
+    position: Position,
+    base: &[u8],
+    index: &[u8],
+) -> Result<Piece, AllocError>
+    requires { IsIdentifier index.now ⊎ IsInteger index.now }
+    ensures { IfOk result (λ p. p ≡ Piece.Item position base.now (subscript_of index.now)) }
+{
+    let subscript = subscript(alloc, index)?;
+    let base = Text::from_bytes(alloc, base)?;
+    Ok(Piece::Item {
+        position,
+        base,
+        subscript,
+    })
+}
+
 // What stands behind `${`, and how many bytes the expansion has.
-#[tactic(auto, using(crate::proofs::Literals::name_written, crate::proofs::Literals::field_written, crate::proofs::Literals::element_written, crate::proofs::Literals::index_closes, crate::proofs::Literals::index_right))]
-fn braced(alloc: Global, position: Position, bytes: &[u8]) -> Result<(Piece, usize), SyntaxError>
+fn braced(alloc: Global, position: Position, bytes: &[u8]) -> Result<(Piece, usize), Stop>
     requires { IsBraced bytes.now }
     ensures ok { IfOk result (λ r. IsWritten position (braced_item (front_word bytes.now) (past_word bytes.now)) r.0 r.1) }
-    ensures err { IfErr result (λ e. e ≡ SyntaxError.Memory) }
+    ensures err { IfErr result (λ e. e ≡ Stop.Memory) }
 {
     let name = word(bytes);
     let rest = after_word(bytes);
-    let base = Text::from_bytes(alloc, name)?;
-    if is_next(b'}', rest) {
-        return Ok((
-            Piece::Name {
-                position,
-                name: base,
-            },
-            name.len() + 3,
-        ));
-    }
     let inner = after_one(rest);
+    if is_next(b'}', rest) {
+        let whole = name_piece(alloc, position, name)?;
+        return Ok((whole, name.len() + 3));
+    }
     if is_next(b'.', rest) {
         let field = word(inner);
-        let entry = Text::from_bytes(alloc, field)?;
-        let len = name.len() + field.len() + 4;
-        return Ok((
-            Piece::Entry {
-                position,
-                base,
-                entry,
-            },
-            len,
-        ));
+        let entry = entry_piece(alloc, position, name, field)?;
+        return Ok((entry, name.len() + field.len() + 4));
     }
     let index = index(inner);
-    let subscript = subscript(alloc, index)?;
-    let len = name.len() + index.len() + 5;
-    Ok((
-        Piece::Item {
-            position,
-            base,
-            subscript,
-        },
-        len,
-    ))
+    let item = item_piece(alloc, position, name, index)?;
+    Ok((item, name.len() + index.len() + 5))
 }
 
 /// The expansion behind a `$`, which does not begin with a digit, and how many bytes it has.
 #[tactic(auto, using(crate::proofs::Literals::variable_written, crate::proofs::Literals::braced_here, crate::proofs::Literals::braced_written))]
-pub(crate) fn named(
-    alloc: Global,
-    position: Position,
-    bytes: &[u8],
-) -> Result<(Piece, usize), SyntaxError>
+pub(crate) fn named(alloc: Global, position: Position, bytes: &[u8]) -> Result<(Piece, usize), Stop>
     requires right { Expands bytes.now }
     requires no_digit { begins_with 48 bytes.now ≡ false }
     ensures ok { IfOk result (λ r. IsWritten position (expansion_item bytes.now) r.0 r.1) }
-    ensures err { IfErr result (λ e. e ≡ SyntaxError.Memory) }
+    ensures err { IfErr result (λ e. e ≡ Stop.Memory) }
 {
     if is_next(b'{', bytes) {
-        let (piece, len) = braced(alloc, position, after_one(bytes))?;
-        return Ok((piece, len));
+        return braced(alloc, position, after_one(bytes));
     }
     let name = word(bytes);
-    let text = Text::from_bytes(alloc, name)?;
-    Ok((
-        Piece::Name {
-            position,
-            name: text,
-        },
-        name.len() + 1,
-    ))
+    let text = name_piece(alloc, position, name)?;
+    Ok((text, name.len() + 1))
 }

@@ -1,4 +1,4 @@
-//! The grammar of a build file and its parser: which tree its bytes spell, and the first error where they spell none; and the same of one expression.
+//! The parser of a build file, and of one expression: the tree that bytes spell, or their first error.
 #![tactic(auto)]
 
 mod error;
@@ -14,8 +14,5 @@ mod place;
 
 pub use error::SyntaxError;
 pub use file::{Parsed, parse, parse_expr};
-pub use law::{
-    each_expression_has_one_answer, each_file_has_one_answer, machine_is_right,
-    nestings_are_of_the_tree, pieces_stand_in_the_line, trees_are_shallow,
-};
+pub use law::readings_are_right;
 pub use place::place_of;

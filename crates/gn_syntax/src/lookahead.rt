@@ -3,12 +3,12 @@
 ghost use Rattle.std.specs.Prelude.{◌≡◌, ◌≤◌, length, Some};
 ghost use Rattle.gn_tokens.specs.declared.token.TokenKind.{TokenKind};
 ghost use Rattle.gn_tokens.specs.Token.{IsToken};
-ghost use Rattle.gn_syntax.specs.Position.{position_of};
-ghost use Rattle.gn_syntax.specs.Lexemes.{lexemes, last_of};
+ghost use Rattle.gn_grammar.specs.Position.{position_of};
+ghost use Rattle.gn_grammar.specs.Lexemes.{lexemes, last_of};
 ghost use Rattle.gn_syntax.specs.Parsing.{Follows, StandsAt, front, rest_of, start_of, position_at, text_at, refusal, is_end};
 
-use crate::error::SyntaxError;
 use crate::place::{BEGINNING, behind_bytes};
+use gn_grammar::SyntaxFault;
 use gn_tokens::{Token, TokenError, TokenKind, Tokens};
 use gn_tree::Position;
 use std::marker::Model;
@@ -112,13 +112,13 @@ impl<'a> Lookahead<'a> {
     }
 
     /// The error of a file in which the next token cannot come.
-    pub(crate) fn refuse(&self) -> SyntaxError
+    pub(crate) fn refuse(&self) -> SyntaxFault
         ensures { result ≡ refusal self.now.last self.now.tokens }
     {
         match self.hand {
-            Ok(Some(token)) => SyntaxError::Unexpected(token.start),
-            Ok(None) => SyntaxError::Unexpected(self.bytes.len()),
-            Err(error) => SyntaxError::Token(error),
+            Ok(Some(token)) => SyntaxFault::Unexpected(token.start),
+            Ok(None) => SyntaxFault::Unexpected(self.bytes.len()),
+            Err(error) => SyntaxFault::Token(error),
         }
     }
 

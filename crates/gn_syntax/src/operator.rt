@@ -1,7 +1,7 @@
 // Which tokens are operators.
 
 ghost use Rattle.std.specs.Prelude.{◌≡◌, ◌≤◌, MatchOption, Some, None};
-ghost use Rattle.gn_syntax.specs.Grammar.{priority, mark_of, assign_mark};
+ghost use Rattle.gn_grammar.specs.Grammar.{priority, mark_of, assign_mark};
 ghost use Rattle.gn_syntax.specs.Parsing.{level_of, sign_of};
 
 use gn_tokens::TokenKind;

@@ -2,12 +2,13 @@
 
 ghost use Rattle.std.specs.Prelude.{◌≡◌, ◌≢◌, ◌+◌, ◌<◌, ◌≤◌, true, false, Some, IfOk, OnOk, IfErr, MatchOption};
 ghost use Rattle.gn_tokens.specs.declared.token.TokenKind.{TokenKind};
-ghost use Rattle.gn_syntax.specs.Grammar.{priority, mark_of};
+ghost use Rattle.gn_grammar.specs.Grammar.{priority, mark_of};
 ghost use Rattle.gn_syntax.specs.Parsing.{front, rest_of, start_of, position_at, text_at, level, refusal};
 
-use crate::error::SyntaxError;
+use crate::error::Stop;
 use crate::lookahead::Lookahead;
 use crate::operator::{operator_of, priority};
+use gn_grammar::SyntaxFault;
 use gn_paths::Text;
 use gn_tokens::TokenKind;
 use gn_tree::{BinaryOp, Position};
@@ -39,7 +40,7 @@ impl<'a> Parser<'a> {
     }
 
     /// The error of a file in which the next token cannot come.
-    pub(crate) fn refuse(&self) -> SyntaxError
+    pub(crate) fn refuse(&self) -> SyntaxFault
         ensures { result ≡ refusal self.now.ahead.last self.now.ahead.tokens }
     {
         self.ahead.refuse()
@@ -55,14 +56,14 @@ impl<'a> Parser<'a> {
     }
 
     /// Goes past the next token, behind which the nesting is one more.
-    pub(crate) fn deepen(&mut self) -> Result<(), SyntaxError>
+    pub(crate) fn deepen(&mut self) -> Result<(), Stop>
         ensures nesting { OnOk result ((self.new.nesting ≡ self.old.nesting + 1) × (self.new.nesting ≤ 200)) }
         ensures tokens { OnOk result (self.new.ahead.tokens ≡ rest_of self.old.ahead.tokens) }
         ensures last { self.new.ahead.last ≡ self.old.ahead.last }
-        ensures err { IfErr result (λ e. (e ≡ SyntaxError.TooDeep (start_of self.old.ahead.tokens)) × (200 ≤ self.old.nesting)) }
+        ensures err { IfErr result (λ e. (e ≡ Stop.Fault (SyntaxFault.TooDeep (start_of self.old.ahead.tokens))) × (200 ≤ self.old.nesting)) }
     {
         if self.nesting >= MAX_NESTING {
-            return Err(SyntaxError::TooDeep(self.ahead.start()));
+            return Err(Stop::Fault(SyntaxFault::TooDeep(self.ahead.start())));
         }
         self.nesting += 1;
         self.advance();
@@ -100,23 +101,27 @@ impl<'a> Parser<'a> {
     }
 
     /// Goes past the next token, which has to be of this kind.
-    pub(crate) fn expect(&mut self, kind: TokenKind) -> Result<(), SyntaxError>
+    pub(crate) fn expect(&mut self, kind: TokenKind) -> Result<(), Stop>
         ensures ok { OnOk result ((front self.old.ahead.tokens ≡ Some kind) × (self.new.ahead.tokens ≡ rest_of self.old.ahead.tokens)) }
-        ensures err { IfErr result (λ e. (e ≡ refusal self.old.ahead.last self.old.ahead.tokens) × (front self.old.ahead.tokens ≢ Some kind)) }
+        ensures err { IfErr result (λ e. (e ≡ Stop.Fault (refusal self.old.ahead.last self.old.ahead.tokens)) × (front self.old.ahead.tokens ≢ Some kind)) }
         ensures last { self.new.ahead.last ≡ self.old.ahead.last }
         ensures nesting { self.new.nesting ≡ self.old.nesting }
     {
-        let error = self.refuse();
-        if self.eat(kind) { Ok(()) } else { Err(error) }
+        let fault = self.refuse();
+        if self.eat(kind) {
+            Ok(())
+        } else {
+            Err(Stop::Fault(fault))
+        }
     }
 
     /// Goes past the next token and gives a copy of its bytes.
-    pub(crate) fn take_text(&mut self) -> Result<Text, SyntaxError>
+    pub(crate) fn take_text(&mut self) -> Result<Text, Stop>
         ensures text { IfOk result (λ text. text ≡ text_at self.old.ahead.tokens) }
         ensures tokens { OnOk result (self.new.ahead.tokens ≡ rest_of self.old.ahead.tokens) }
         ensures last { self.new.ahead.last ≡ self.old.ahead.last }
         ensures nesting { self.new.nesting ≡ self.old.nesting }
-        ensures err { IfErr result (λ e. e ≡ SyntaxError.Memory) }
+        ensures err { IfErr result (λ e. e ≡ Stop.Memory) }
     {
         let text = Text::from_bytes(self.alloc, self.ahead.text())?;
         self.advance();

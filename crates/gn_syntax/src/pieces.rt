@@ -5,11 +5,11 @@ ghost use Rattle.gn_tokens.specs.declared.token.TokenKind.{TokenKind};
 ghost use Rattle.gn_tokens.specs.Token.{IsToken};
 ghost use Rattle.gn_tokens.specs.Bytes.{begins, is_escapable};
 ghost use Rattle.gn_tokens.specs.Text.{item_bytes, is_stop, first_or_zero, front_item, expansion_item};
-ghost use Rattle.gn_syntax.specs.Position.{further};
-ghost use Rattle.gn_syntax.specs.Pieces.{pieces_of};
+ghost use Rattle.gn_grammar.specs.Position.{further};
+ghost use Rattle.gn_grammar.specs.Pieces.{pieces_of};
 ghost use Rattle.gn_syntax.specs.Literals.{run_pieces, Expands, IsRest, Took, Stepped};
 
-use crate::error::SyntaxError;
+use crate::error::Stop;
 use crate::expansion::{after_one, behind, hex_byte, is_next, named};
 use gn_paths::Text;
 use gn_tokens::string_is_its_items;
@@ -70,20 +70,20 @@ fn escaped(first: u8, rest: &[u8]) -> Option<u8>
 
 impl Reading {
     // One byte more.
-    fn push_byte(&mut self, byte: u8) -> Result<(), SyntaxError>
+    fn push_byte(&mut self, byte: u8) -> Result<(), Stop>
         ensures run { OnOk result (self.new.run ≡ self.old.run ++ byte ∷ []) }
         ensures pieces { OnOk result (self.new.pieces.items ≡ self.old.pieces.items) }
-        ensures err { IfErr result (λ e. e ≡ SyntaxError.Memory) }
+        ensures err { IfErr result (λ e. e ≡ Stop.Memory) }
     {
         self.run.push(byte)?;
         Ok(())
     }
 
     // Ends the run of bytes.
-    fn end_run(&mut self) -> Result<(), SyntaxError>
+    fn end_run(&mut self) -> Result<(), Stop>
         ensures run { OnOk result (self.new.run ≡ []) }
         ensures pieces { OnOk result (self.new.pieces.items ≡ self.old.pieces.items ++ run_pieces self.old.run) }
-        ensures err { IfErr result (λ e. e ≡ SyntaxError.Memory) }
+        ensures err { IfErr result (λ e. e ≡ Stop.Memory) }
     {
         if self.run.is_empty() {
             return Ok(());
@@ -94,10 +94,10 @@ impl Reading {
     }
 
     // A piece more.
-    fn push_piece(&mut self, piece: Piece) -> Result<(), SyntaxError>
+    fn push_piece(&mut self, piece: Piece) -> Result<(), Stop>
         ensures run { OnOk result (self.new.run ≡ []) }
         ensures pieces { OnOk result (self.new.pieces.items ≡ (self.old.pieces.items ++ run_pieces self.old.run) ++ piece ∷ []) }
-        ensures err { IfErr result (λ e. e ≡ SyntaxError.Memory) }
+        ensures err { IfErr result (λ e. e ≡ Stop.Memory) }
     {
         self.end_run()?;
         self.pieces.push(piece)?;
@@ -106,11 +106,11 @@ impl Reading {
 
     // What stands behind a `$`, and how many bytes it has with the `$`.
     #[tactic(auto, using(crate::proofs::Literals::took_piece, crate::proofs::Literals::took_hex, crate::proofs::Literals::hex_right, crate::proofs::Literals::hex_len))]
-    fn dollar(&mut self, position: Position, rest: &[u8]) -> Result<usize, SyntaxError>
+    fn dollar(&mut self, position: Position, rest: &[u8]) -> Result<usize, Stop>
         requires { Expands rest.now }
         ensures took { OnOk result (Took position (expansion_item rest.now) self.old.pieces.items self.old.run self.new.pieces.items self.new.run) }
         ensures len { IfOk result (λ n. n ≡ length (item_bytes (expansion_item rest.now))) }
-        ensures err { IfErr result (λ e. e ≡ SyntaxError.Memory) }
+        ensures err { IfErr result (λ e. e ≡ Stop.Memory) }
     {
         if is_next(b'0', rest) {
             self.push_byte(hex_byte(rest))?;
@@ -123,11 +123,11 @@ impl Reading {
 
     // The item at the front, and how many bytes it has.
     #[tactic(auto, using(crate::proofs::Literals::front_dollar, crate::proofs::Literals::took_dollar, crate::proofs::Literals::took_plain, crate::proofs::Literals::took_escape, crate::proofs::Literals::plain_len, crate::proofs::Literals::escape_len))]
-    fn item(&mut self, position: Position, first: u8, rest: &[u8]) -> Result<usize, SyntaxError>
+    fn item(&mut self, position: Position, first: u8, rest: &[u8]) -> Result<usize, Stop>
         requires { first ≡ 36 → Expands rest.now }
         ensures took { OnOk result (Took position (front_item first rest.now) self.old.pieces.items self.old.run self.new.pieces.items self.new.run) }
         ensures len { IfOk result (λ n. n ≡ length (item_bytes (front_item first rest.now))) }
-        ensures err { IfErr result (λ e. e ≡ SyntaxError.Memory) }
+        ensures err { IfErr result (λ e. e ≡ Stop.Memory) }
     {
         if first == b'$' {
             let len = self.dollar(position, rest)?;
@@ -143,10 +143,10 @@ impl Reading {
 
     // The item at the front of the bytes, of which the first has this offset, and how many bytes it has; 0 at the end.
     #[tactic(auto, using(crate::proofs::Literals::front_right, crate::proofs::Literals::stepped_item, crate::proofs::Literals::stepped_end, crate::proofs::Literals::stepped_stop))]
-    fn step(&mut self, position: Position, at: usize, bytes: &[u8]) -> Result<usize, SyntaxError>
+    fn step(&mut self, position: Position, at: usize, bytes: &[u8]) -> Result<usize, Stop>
         requires { IsRest bytes.now }
         ensures ok { IfOk result (λ n. Stepped position at bytes.now self.old.pieces.items self.old.run self.new.pieces.items self.new.run n) }
-        ensures err { IfErr result (λ e. e ≡ SyntaxError.Memory) }
+        ensures err { IfErr result (λ e. e ≡ Stop.Memory) }
     {
         let Some(first) = first_byte(bytes) else {
             return Ok(0);
@@ -161,10 +161,10 @@ impl Reading {
 
 /// The pieces of a string literal with these bytes, quotes and all, whose opening quote stands at the position.
 #[tactic(auto, using(crate::proofs::Literals::literal_rest, crate::proofs::Literals::literal_long, crate::proofs::Literals::literal_more, crate::proofs::Literals::rest_more, crate::proofs::Literals::literal_whole))]
-pub(crate) fn pieces(alloc: Global, position: Position, text: &[u8]) -> Result<Pieces, SyntaxError>
+pub(crate) fn pieces(alloc: Global, position: Position, text: &[u8]) -> Result<Pieces, Stop>
     requires { IsToken TokenKind.Str text.now }
     ensures ok { IfOk result (λ p. p ≡ pieces_of position text.now) }
-    ensures err { IfErr result (λ e. e ≡ SyntaxError.Memory) }
+    ensures err { IfErr result (λ e. e ≡ Stop.Memory) }
 {
     string_is_its_items();
     let mut read = Reading {

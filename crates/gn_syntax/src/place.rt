@@ -1,7 +1,7 @@
 // Where a byte stands, counted from a place before it.
 
 ghost use Rattle.std.specs.Prelude.{◌≡◌, ◌≤◌, length, take};
-ghost use Rattle.gn_syntax.specs.Position.{line_behind, column_behind};
+ghost use Rattle.gn_grammar.specs.Position.{line_behind, column_behind};
 ghost use Rattle.gn_syntax.specs.Counting.{behind_byte, behind_bytes};
 
 use gn_tree::Position;

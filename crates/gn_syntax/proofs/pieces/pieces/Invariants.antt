@@ -1,5 +1,5 @@
-use Rattle.std.proofs.Common.{◌≡◌, ℕ, ◌-◌, ◌≤◌, length, drop}
-use Rattle.gn_syntax.specs.Pieces.{pieces_of}
+use Rattle.std.proofs.Common.{◌≡◌, ◌-◌, ◌≤◌, length, drop}
+use Rattle.gn_grammar.specs.Pieces.{pieces_of}
 use Rattle.gn_syntax.specs.Literals.{meaning, IsRest}
 use Rattle.gn_syntax.proofs.pieces.pieces.Given as goal
 

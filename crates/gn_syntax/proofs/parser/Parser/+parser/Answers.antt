@@ -1,13 +1,14 @@
-use Rattle.std.proofs.Common.{rules, ◌≡◌, ◌≢◌, ℕ, ◌+◌, ◌*◌, ◌<◌, ◌≤◌, ◌∷◌, [], max, List, length, Option, Some, None, Ok, Err, true, false, arith, subst, sym, ◌∙◌, ap, refl}
+use Rattle.std.proofs.Common.{rules, ◌≡◌, ◌≢◌, ℕ, ◌+◌, ◌∷◌, max, List, length, Some, true, false, arith, subst, sym, ◌∙◌, ap, refl}
 use Rattle.std.proofs.lemmas.Grind.{common_steps}
 use Rattle.gn_tree.specs.declared.tree.Expr.{Expr}
 use Rattle.gn_tree.specs.Tree.{ExprTree, ExprTrees, name_target, item_target, entry_target}
 use Rattle.gn_tree.specs.Views.{expr_of, exprs_of}
 use Rattle.gn_tokens.specs.declared.token.TokenKind.TheVariants as k
 use Rattle.gn_syntax.specs.declared.parser.Parser.{Parser}
-use Rattle.gn_syntax.specs.Lexemes.{Lexeme}
-use Rattle.gn_syntax.specs.Grammar.{priority, mark_of, assign_mark, Spells, SpellsList}
-use Rattle.gn_syntax.specs.Machine.{Symbol, Operand, Operators, Args, MoreArgs, Items, MoreItems, Test, Sign, Bad, verdict}
+use Rattle.gn_syntax.specs.declared.error.Stop.TheVariants.{Fault}
+use Rattle.gn_grammar.specs.Lexemes.{Lexeme}
+use Rattle.gn_grammar.specs.Grammar.{priority, mark_of, assign_mark, Spells, SpellsList}
+use Rattle.gn_grammar.specs.Machine.{Operand, Operators, Args, MoreArgs, Items, MoreItems, Test, Bad, verdict}
 use Rattle.gn_syntax.specs.Parsing.{front, rest_of, position_at, level, refusal, sign_of, Begun}
 use Rattle.gn_syntax.proofs.Steps.{arg_comes, item_comes}
 use Rattle.gn_syntax.proofs.Trees.{token_at, mark_at, kind_at, spells_weaker, list_push, begun_push}
@@ -60,34 +61,34 @@ arguments-more-preserved t c =
       shorter = omega (arith, rest_shorter c.binary.new.self.ahead.tokens c.eat-in-more.new.self.ahead.tokens taken.1, c.in_ok-argument.ensures.shorter, c.more.invariant.shorter);
     }
 
-pub assignment-returns-clause-spells : goal.assignment-returns-clause-spells
-assignment-returns-clause-spells t c =
-    let f : sign_of (front c.args.self.now.ahead.tokens) ≡ Some c.in-Some.operator = cc (ap sign_of c.peek.ensures) in
-    λ s h. (
-      c.args.self.now.ahead.tokens,
+pub assigned-returns-clause-spells : goal.assigned-returns-clause-spells
+assigned-returns-clause-spells t c =
+    let f : sign_of (front c.args.self.now.ahead.tokens) ≡ Some c.in-Some.operator = cc (ap sign_of c.peek.ensures) in (
       c.advance.new.self.ahead.tokens,
-      h,
       mark_at (assign_mark c.in-Some.operator) c.position-position.result c.args.self.now.ahead.tokens c.advance.new.self.ahead.tokens (sign_mark (front c.args.self.now.ahead.tokens) c.in-Some.operator f) c.position-position.ensures c.advance.ensures.tokens,
       c.in_ok-value.ensures.spells,
     )
 
-pub assignment-returns-clause-reads : goal.assignment-returns-clause-reads
-assignment-returns-clause-reads t c =
+pub assigned-returns-clause-reads : goal.assigned-returns-clause-reads
+assigned-returns-clause-reads t c =
     let f : sign_of (front c.args.self.now.ahead.tokens) ≡ Some c.in-Some.operator = cc (ap sign_of c.peek.ensures) in
     λ wanted. assignment_read c.args.self.now.ahead.last c.advance.new.self.ahead.last c.args.self.now.nesting c.advance.new.self.nesting c.binary.new.self.nesting wanted c.in-Some.operator c.args.self.now.ahead.tokens c.advance.new.self.ahead.tokens c.binary.new.self.ahead.tokens c.advance.ensures.last c.advance.ensures.nesting f c.advance.ensures.tokens c.in_ok-value.ensures.reads c.in_ok-value.ensures.stops
+
+pub assignment-returns-in-Ok-clause-spells : goal.assignment-returns-in-Ok-clause-spells
+assignment-returns-in-Ok-clause-spells t c =
+    let a = c.in-Ok.ensures.spells in
+    λ s h. (c.args.self.now.ahead.tokens, a.0, h, a.1, a.2)
 
 pub binary-loop-operator-preserved : goal.binary-loop-operator-preserved
 binary-loop-operator-preserved t c =
     record {
-      spells = (
+      spells = subst (λ (x : ExprTree). Spells (max c.args.least (level c.binary.new.self.ahead.tokens)) x c.args.self.now.ahead.tokens c.binary.new.self.ahead.tokens) (sym c.in_ok-whole.ensures) (
         c.loop-operator.self.ahead.tokens,
         c.deepen.new.self.ahead.tokens,
         omega (arith, c.in-Some.ensures, c.in_ok-right.ensures.stops, c.priority.ensures),
-        subst (λ (x : ExprTree). Spells (priority c.in-Some.operator) x c.args.self.now.ahead.tokens c.loop-operator.self.ahead.tokens) (sym c.in_ok-new.ensures)
-            (spells_weaker (max c.args.least (level c.loop-operator.self.ahead.tokens)) (priority c.in-Some.operator) (expr_of c.loop-operator.left) c.args.self.now.ahead.tokens c.loop-operator.self.ahead.tokens (omega (arith, c.in-Some.ensures)) c.loop-operator.invariant.spells),
+        (spells_weaker (max c.args.least (level c.loop-operator.self.ahead.tokens)) (priority c.in-Some.operator) (expr_of c.loop-operator.left) c.args.self.now.ahead.tokens c.loop-operator.self.ahead.tokens (omega (arith, c.in-Some.ensures)) c.loop-operator.invariant.spells),
         mark_at (mark_of c.in-Some.operator) c.position-position.result c.loop-operator.self.ahead.tokens c.deepen.new.self.ahead.tokens c.in-Some.ensures.3 c.position-position.ensures c.in_ok-deepen.ensures.tokens,
-        subst (λ (x : ExprTree). Spells (priority c.in-Some.operator + 1) x c.deepen.new.self.ahead.tokens c.binary.new.self.ahead.tokens) (sym c.in_ok-new-2.ensures)
-            (subst (λ (n : ℕ). Spells (n + 1) (expr_of c.in_ok-right.right) c.deepen.new.self.ahead.tokens c.binary.new.self.ahead.tokens) c.priority.ensures c.in_ok-right.ensures.spells),
+        (subst (λ (n : ℕ). Spells (n + 1) (expr_of c.in_ok-right.right) c.deepen.new.self.ahead.tokens c.binary.new.self.ahead.tokens) c.priority.ensures c.in_ok-right.ensures.spells),
       );
       reads = λ wanted. binary_read c.loop-operator.self.ahead.last c.deepen.new.self.ahead.last c.binary.new.self.ahead.last (Operand c.args.self.now.nesting c.args.self.now.nesting ∷ wanted) wanted c.loop-operator.self.nesting c.deepen.new.self.nesting c.binary.new.self.nesting c.in-Some.operator c.args.self.now.ahead.tokens c.loop-operator.self.ahead.tokens c.deepen.new.self.ahead.tokens c.binary.new.self.ahead.tokens
           c.in_ok-deepen.ensures.last c.in_ok-right.ensures.last c.in_ok-deepen.ensures.nesting.0 c.in_ok-deepen.ensures.nesting.1 c.in-Some.ensures.3 c.in_ok-deepen.ensures.tokens
@@ -135,7 +136,7 @@ items-returns-in_err-expect-clause-reads t c =
     let before : (front c.more.self.ahead.tokens ≢ Some k.CloseBracket) × (c.eat.new.self.ahead.tokens ≡ c.more.self.ahead.tokens) = c.eat.ensures.left c.if-eat.false in
     let is : c.eat-in-more.result ≡ false = first_of ((cc), (search rules), (grind (arith, common_steps))) in
     let left : (front c.binary.new.self.ahead.tokens ≢ Some k.Comma) × (c.eat-in-more.new.self.ahead.tokens ≡ c.binary.new.self.ahead.tokens) = c.eat-in-more.ensures.left is in
-    let err : (c.in_err-expect.field-0.0 ≡ refusal c.eat-in-more.new.self.ahead.last c.eat-in-more.new.self.ahead.tokens) × (front c.eat-in-more.new.self.ahead.tokens ≢ Some k.CloseBracket) = c.in_err-expect.ensures.err in
+    let err : (c.in_err-expect.field-0.0 ≡ Fault (refusal c.eat-in-more.new.self.ahead.last c.eat-in-more.new.self.ahead.tokens)) × (front c.eat-in-more.new.self.ahead.tokens ≢ Some k.CloseBracket) = c.in_err-expect.ensures.err in
     let close : front c.binary.new.self.ahead.tokens ≢ Some k.CloseBracket = λ h. err.1 (ap front left.1 ∙ h) in
     λ wanted.
     let e : verdict c.eat.new.self.ahead.last (Items c.args.self.now.nesting ∷ wanted) c.args.self.now.ahead.tokens ≡ Bad (refusal c.eat.new.self.ahead.last c.binary.new.self.ahead.tokens) =
@@ -219,7 +220,7 @@ negation-returns-clause-spells t c = (
 pub parentheses-returns-in_err-expect-clause-reads : goal.parentheses-returns-in_err-expect-clause-reads
 parentheses-returns-in_err-expect-clause-reads t c =
     let f : front c.args.self.now.ahead.tokens ≡ Some k.OpenParen = c.requires in
-    let err : (c.in_err-expect.field-0.0 ≡ refusal c.binary.new.self.ahead.last c.binary.new.self.ahead.tokens) × (front c.binary.new.self.ahead.tokens ≢ Some k.CloseParen) = c.in_err-expect.ensures.err in
+    let err : (c.in_err-expect.field-0.0 ≡ Fault (refusal c.binary.new.self.ahead.last c.binary.new.self.ahead.tokens)) × (front c.binary.new.self.ahead.tokens ≢ Some k.CloseParen) = c.in_err-expect.ensures.err in
     let same : c.binary.new.self.ahead.last ≡ c.args.self.now.ahead.last = c.in_ok-inner.ensures.last ∙ c.in_ok-deepen.ensures.last in
     λ after wanted.
     let e : verdict c.args.self.now.ahead.last (Operand after c.args.self.now.nesting ∷ wanted) c.args.self.now.ahead.tokens ≡ Bad (refusal c.args.self.now.ahead.last c.binary.new.self.ahead.tokens) =
@@ -231,7 +232,7 @@ parentheses-returns-in_err-expect-clause-reads t c =
 pub test-returns-in_err-expect-clause-reads : goal.test-returns-in_err-expect-clause-reads
 test-returns-in_err-expect-clause-reads t c =
     let f : front c.args.self.now.ahead.tokens ≡ Some k.OpenParen = first_of ((search rules), (grind (arith, common_steps)), (cc)) in
-    let err : (c.in_err-expect.field-0.0 ≡ refusal c.binary.new.self.ahead.last c.binary.new.self.ahead.tokens) × (front c.binary.new.self.ahead.tokens ≢ Some k.CloseParen) = c.in_err-expect.ensures.err in
+    let err : (c.in_err-expect.field-0.0 ≡ Fault (refusal c.binary.new.self.ahead.last c.binary.new.self.ahead.tokens)) × (front c.binary.new.self.ahead.tokens ≢ Some k.CloseParen) = c.in_err-expect.ensures.err in
     let same : c.binary.new.self.ahead.last ≡ c.args.self.now.ahead.last = c.in_ok-test.ensures.last ∙ c.in_ok-deepen.ensures.last in
     λ wanted.
     let e : verdict c.args.self.now.ahead.last (Test c.args.self.now.nesting ∷ wanted) c.args.self.now.ahead.tokens ≡ Bad (refusal c.args.self.now.ahead.last c.binary.new.self.ahead.tokens) =

@@ -1,7 +1,7 @@
-use Rattle.std.proofs.Common.{◌≡◌, ℕ, ◌+◌, ◌*◌, ◌<◌, ◌≤◌, max, List, ◌∷◌, length}
+use Rattle.std.proofs.Common.{◌≡◌, ◌+◌, ◌*◌, ◌<◌, ◌≤◌, max, List, ◌∷◌, length}
 use Rattle.gn_tree.specs.Views.{expr_of, exprs_of, block_of}
-use Rattle.gn_syntax.specs.Grammar.{Spells, SpellsStatements}
-use Rattle.gn_syntax.specs.Machine.{Symbol, Statements, Operand, Operators, Args, MoreArgs, Items, verdict}
+use Rattle.gn_grammar.specs.Grammar.{Spells, SpellsStatements}
+use Rattle.gn_grammar.specs.Machine.{Symbol, Statements, Operand, Operators, Args, MoreArgs, Items, verdict}
 use Rattle.gn_syntax.specs.Parsing.{level, Begun}
 use Rattle.gn_syntax.proofs.parser.Parser.+parser.Given as goal
 
@@ -54,7 +54,10 @@ abbrev pub decreases-block : goal.decreases-block
 decreases-block l = 8 * length l.self.now.ahead.tokens + 0
 
 abbrev pub decreases-assignment : goal.decreases-assignment
-decreases-assignment l = 8 * length l.self.now.ahead.tokens + 0
+decreases-assignment l = 8 * length l.self.now.ahead.tokens + 1
+
+abbrev pub decreases-assigned : goal.decreases-assigned
+decreases-assigned l = 8 * length l.self.now.ahead.tokens + 0
 
 abbrev pub decreases-test : goal.decreases-test
 decreases-test l = 8 * length l.self.now.ahead.tokens + 0

@@ -1,4 +1,4 @@
-use Rattle.gn_syntax.specs.Grammar.{boolean_word}
+use Rattle.gn_grammar.specs.Grammar.{boolean_word}
 use Rattle.gn_syntax.proofs.Trees.{mark_at}
 use Rattle.gn_syntax.proofs.parser.Parser.boolean.Goals as goal
 

@@ -1,6 +1,6 @@
 use Rattle.std.proofs.Common.{◌∙◌, ap, refl}
 use Rattle.gn_tokens.specs.declared.token.TokenKind.TheVariants as k
-use Rattle.gn_syntax.specs.Pieces.{pieces_of}
+use Rattle.gn_grammar.specs.Pieces.{pieces_of}
 use Rattle.gn_syntax.specs.Parsing.{text_at}
 use Rattle.gn_syntax.proofs.Trees.{token_at}
 use Rattle.gn_syntax.proofs.parser.Parser.string.Goals as goal

@@ -1,0 +1,13 @@
+pub mod Fits
+pub mod Spelled
+pub mod Longer
+pub mod Taken
+pub mod Finish
+pub mod Viable
+pub mod Grouping
+pub mod Same
+pub mod Unique
+pub mod OneAnswer
+pub mod Nestings
+pub mod Standing
+pub mod Shallow
