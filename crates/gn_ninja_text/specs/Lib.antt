@@ -1,3 +1,4 @@
 pub mod Marks
 pub mod Escapes
+pub mod Values
 pub mod Words

@@ -2,3 +2,4 @@ pub mod PieceLemmas
 pub mod ReadLemmas
 pub mod LawLemmas
 pub mod JoinLemmas
+pub mod VariableLemmas

@@ -2,11 +2,12 @@
 use Rattle.std.specs.Prelude.{ℕ, List, [], ◌∷◌, ◌++◌, map, codes}
 use Rattle.std.specs.List.{flat_map}
 use Rattle.gn_ninja_text.specs.Escapes.{doubled, value_escaped}
+use Rattle.gn_ninja_text.specs.Values.{ValuePart, Byte, Variable}
 use Rattle.gn_substs.specs.declared.names.Substitution.{Substitution}
 use Rattle.gn_substs.specs.declared.names.Substitution.TheVariants.{Source, Inputs, Output, InputsNewline}
 use Rattle.gn_substs.specs.declared.pieces.Piece.{Piece}
-use Rattle.gn_substs.specs.declared.subst.Subst.{Subst}
 use Rattle.gn_substs.specs.Names.{name_of}
+use Rattle.gn_substs.specs.Expansions.{with_texts}
 
 -- the name of the Ninja variable that stands for a substitution
 abbrev pub variable_name : Substitution → List ℕ
@@ -20,16 +21,6 @@ variable_name s = name_of s
 abbrev pub variable_of : Substitution → List ℕ
 variable_of s = 36 ∷ 123 ∷ (variable_name s ++ 125 ∷ [])
 
--- a piece whose bytes stand in a value behind its beginning
-abbrev pub doubled_piece : Piece → Piece
-doubled_piece p = record { before = doubled p.before; substitution = p.substitution }
-
--- the pieces of a text, escaped as a value of a Ninja file: only its beginning can need more than doubled `$`
-abbrev pub value_parts : List Piece → List ℕ → Subst
-value_parts [] last = record { pieces = []; last = value_escaped last }
-value_parts (p ∷ more) last =
-    record { pieces = record { before = value_escaped p.before; substitution = p.substitution } ∷ map doubled_piece more; last = doubled last }
-
 -- the bytes of a piece, escaped, and the variable of its substitution
 abbrev pub doubled_with : Piece → List ℕ
 doubled_with p = doubled p.before ++ variable_of p.substitution
@@ -38,3 +29,15 @@ doubled_with p = doubled p.before ++ variable_of p.substitution
 abbrev pub tool_text : List Piece → List ℕ → List ℕ
 tool_text [] last = value_escaped last
 tool_text (p ∷ more) last = ((value_escaped p.before ++ variable_of p.substitution) ++ flat_map doubled_with more) ++ doubled last
+
+-- what a piece says as a part of a value: its bytes, each for itself, and the variable of its substitution
+abbrev pub piece_parts : Piece → List ValuePart
+piece_parts p = map Byte p.before ++ Variable (variable_name p.substitution) ∷ []
+
+-- what a text says as a value: its bytes, each for itself, and the variables in place of the substitutions
+abbrev pub value_parts : List Piece → List ℕ → List ValuePart
+value_parts pieces last = flat_map piece_parts pieces ++ map Byte last
+
+-- the text with the values of the variables in place of the substitutions
+abbrev pub with_values : (List ℕ → List ℕ) → List Piece → List ℕ → List ℕ
+with_values values pieces last = with_texts (λ s. values (variable_name s)) pieces last

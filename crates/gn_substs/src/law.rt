@@ -1,14 +1,17 @@
 //! Laws of substitution texts, each as a call that does nothing and whose contract is the law.
 
-ghost use Rattle.std.specs.Prelude.{◌≡◌, ℕ, List, Ok, true, map};
+ghost use Rattle.std.specs.Prelude.{◌≡◌, ℕ, List, Ok, Some, true, map};
+ghost use Rattle.gn_ninja_text.specs.Values.{value_parts_read, value_made};
 ghost use Rattle.gn_substs.specs.declared.names.Substitution.{Substitution};
 ghost use Rattle.gn_substs.specs.declared.positions.Position.{Position};
+ghost use Rattle.gn_substs.specs.declared.pieces.Piece.{Piece};
 ghost use Rattle.gn_substs.specs.declared.subst.Subst.{Subst};
 ghost use Rattle.gn_substs.specs.Names.{name_of};
 ghost use Rattle.gn_substs.specs.Positions.{names_at, all_differ, StandsAt};
 ghost use Rattle.gn_substs.specs.Reading.{subst_read};
 ghost use Rattle.gn_substs.specs.Expansions.{text_in};
 ghost use Rattle.gn_substs.specs.Laws.{HasOneReading, IsWrittenAs};
+ghost use Rattle.gn_substs.specs.Variables.{tool_text, value_parts, with_values};
 
 /// Each text has just one reading at a position: its pieces and the bytes behind them, or the offset of its first bad `{{`.
 pub fn each_text_has_one_reading()
@@ -29,4 +32,11 @@ pub fn names_of_a_position_differ()
 /// Where each substitution of a position is given a text, what stands for it is that text.
 pub fn each_name_has_its_text()
     ensures { (position : Position) (text : Substitution → List ℕ) (s : Substitution) → StandsAt position s → text_in (position, map text (names_at position)) s ≡ text s }
+{}
+
+/// What Ninja reads in a tool's text as it is written is, part by part, the text: its bytes as they are, and the variables
+/// of its substitutions. So Ninja makes of it the text with the variables' values in place of the substitutions.
+pub fn tool_texts_are_read_back()
+    ensures parts { (pieces : List Piece) (last : List ℕ) → value_parts_read (tool_text pieces last) ≡ Some (value_parts pieces last) }
+    ensures value { (values : List ℕ → List ℕ) (pieces : List Piece) (last : List ℕ) → value_made values (tool_text pieces last) ≡ Some (with_values values pieces last) }
 {}
