@@ -101,16 +101,16 @@ room = omega arith
 
 -- Lists of units
 
-abbrev unit_in : Step → Unit_key
+abbrev pub unit_in : Step → Unit_key
 unit_in (Holding (Is_reached k)) = k
 unit_in _ = Setup []
 
 -- a kind of facts is a kind of units
-record IsKind (test : Step → Bool) (kind : Unit_key → Type 0) : Type 0 where
-  there : (s : Step) → test s ≡ true → (k : Unit_key) × (s ≡ is_reached k) × kind k
-  back : (k : Unit_key) → kind k → test (is_reached k) ≡ true
+pub record IsKind (test : Step → Bool) (kind : Unit_key → Type 0) : Type 0 where
+  pub there : (s : Step) → test s ≡ true → (k : Unit_key) × (s ≡ is_reached k) × kind k
+  pub back : (k : Unit_key) → kind k → test (is_reached k) ≡ true
 
-load_kind : IsKind is_load IsLoad
+pub load_kind : IsKind is_load IsLoad
 load_kind = record { there = there; back = back }
   where
     there : (s : Step) → is_load s ≡ true → (k : Unit_key) × (s ≡ is_reached k) × IsLoad k
@@ -127,7 +127,7 @@ load_kind = record { there = there; back = back }
     back (Setup t) i = absurd i
     back (Load d t) i = refl
 
-setup_kind : IsKind is_setup IsSetup
+pub setup_kind : IsKind is_setup IsSetup
 setup_kind = record { there = there; back = back }
   where
     there : (s : Step) → is_setup s ≡ true → (k : Unit_key) × (s ≡ is_reached k) × IsSetup k
@@ -157,7 +157,7 @@ module _ (home : List ℕ → List ℕ) (a : Units) (test : Step → Bool) (kind
       let t = is.there x (h x (inl refl)) in
       (subst (λ z. same_unit k (unit_in z) ≡ false) (sym t.1) (subst (λ z. same_step (is_reached k) z ≡ false) t.1 d.0), apart_units k xs (λ s i. h s (inr i)) d.1)
 
-  distinct_units : (xs : List Step) → ((s : Step) → In xs s → test s ≡ true) → IsDistinct same_step xs → IsDistinct same_unit (map unit_in xs)
+  pub distinct_units : (xs : List Step) → ((s : Step) → In xs s → test s ≡ true) → IsDistinct same_step xs → IsDistinct same_unit (map unit_in xs)
   unfolding IsDistinct
   distinct_units [] h d = tt
   distinct_units (x ∷ xs) h d =
@@ -167,34 +167,34 @@ module _ (home : List ℕ → List ℕ) (a : Units) (test : Step → Bool) (kind
         distinct_units xs (λ s i. h s (inr i)) d.1,
       )
 
-  long_units : (xs : List Step) → length (map unit_in xs) ≡ length xs
+  pub long_units : (xs : List Step) → length (map unit_in xs) ≡ length xs
   long_units [] = refl
   long_units (x ∷ xs) = ap suc (long_units xs)
 
-  named_units : (xs : List Step) → ((s : Step) → In xs s → test s ≡ true) → (k : Unit_key) → In (map unit_in xs) k → In xs (is_reached k)
+  pub named_units : (xs : List Step) → ((s : Step) → In xs s → test s ≡ true) → (k : Unit_key) → In (map unit_in xs) k → In xs (is_reached k)
   named_units [] h k i = absurd i
   named_units (x ∷ xs) h k (inl e) =
       let t = is.there x (h x (inl refl)) in
       inl (t.1 ∙ ap is_reached (sym (ap unit_in t.1) ∙ e))
   named_units (x ∷ xs) h k (inr i) = inr (named_units xs (λ s j. h s (inr j)) k i)
 
-  kind_at : (k : Unit_key) → test (is_reached k) ≡ true → kind k
+  pub kind_at : (k : Unit_key) → test (is_reached k) ≡ true → kind k
   kind_at k t = let w = is.there (is_reached k) t in subst kind (sym (ap unit_in w.1)) w.2
 
   apart_steps : (k : Unit_key) (ks : List Unit_key) → AllByRecursion (λ y. same_unit k y ≡ false) ks → AllByRecursion (λ y. same_step (is_reached k) y ≡ false) (map is_reached ks)
   apart_steps k [] d = tt
   apart_steps k (q ∷ ks) d = (d.0, apart_steps k ks d.1)
 
-  distinct_steps : (ks : List Unit_key) → IsDistinct same_unit ks → IsDistinct same_step (map is_reached ks)
+  pub distinct_steps : (ks : List Unit_key) → IsDistinct same_unit ks → IsDistinct same_step (map is_reached ks)
   unfolding IsDistinct
   distinct_steps [] d = tt
   distinct_steps (k ∷ ks) d = (apart_steps k ks d.0, distinct_steps ks d.1)
 
-  long_steps : (ks : List Unit_key) → length (map is_reached ks) ≡ length ks
+  pub long_steps : (ks : List Unit_key) → length (map is_reached ks) ≡ length ks
   long_steps [] = refl
   long_steps (k ∷ ks) = ap suc (long_steps ks)
 
-  named_steps : (ks : List Unit_key) (s : Step) → In (map is_reached ks) s → (k : Unit_key) × In ks k × (s ≡ is_reached k)
+  pub named_steps : (ks : List Unit_key) (s : Step) → In (map is_reached ks) s → (k : Unit_key) × In ks k × (s ≡ is_reached k)
   named_steps [] s i = absurd i
   named_steps (k ∷ ks) s (inl e) = (k, inl refl, sym e)
   named_steps (k ∷ ks) s (inr i) = let w = named_steps ks s i in (w.0, inr w.1, w.2)

@@ -1,0 +1,11 @@
+mod Results
+mod Has
+mod PlanSteps
+mod Table
+mod Known
+mod Reached
+mod Answers
+mod Flat
+mod Order
+mod FactEq
+mod Counting

@@ -1,0 +1,22 @@
+use Rattle.std.proofs.Common.{◌≡◌, ℕ, Bool, true, false, ◌||◌, take, get_or, ap, sym, ◌∙◌, refl, arith, nat_eq, eqb-true}
+use Rattle.gn_graph.specs.Clauses.{has, waits_at}
+use Rattle.gn_graph.proofs.Has.{has-take_more}
+use Rattle.gn_graph.proofs.clause.use_all.Goals as goal
+
+pub loop-p-preserved : goal.loop-p-preserved
+loop-p-preserved c =
+    let needs = c.args.needs.now in
+    let k = c.loop-p.p-index in
+    let x = get_or needs k 0 in
+    let at : (q : ℕ) (a b : Bool) → nat_eq q x ≡ b → (a ≡ true → has (waits_at c.loop-p.uses q) c.args.i ≡ true) → (a || b) ≡ true → has (waits_at c.use_one.new.uses q) c.args.i ≡ true
+    = λ q a b. step q a b in
+    record {
+      kept = λ q j m. c.in_ok-use_one.ensures.kept q j (c.loop-p.invariant.kept q j m);
+      added = λ q h. at q (has (take k needs) q) (nat_eq q x) refl (c.loop-p.invariant.added q) (sym (has-take_more needs k q (omega arith)) ∙ h);
+    }
+  where
+    step : (q : ℕ) (a b : Bool) → nat_eq q (get_or c.args.needs.now c.loop-p.p-index 0) ≡ b → (a ≡ true → has (waits_at c.loop-p.uses q) c.args.i ≡ true) → (a || b) ≡ true
+        → has (waits_at c.use_one.new.uses q) c.args.i ≡ true
+    step q true b e f h = c.in_ok-use_one.ensures.kept q c.args.i (f refl)
+    step q false true e f h = ap (λ (z : ℕ). has (waits_at c.use_one.new.uses z) c.args.i) (eqb-true q _ e) ∙ c.in_ok-use_one.ensures.added
+    step q false false e f h = absurd (cc h)

@@ -1,0 +1,11 @@
+pub mod Clauses
+pub mod Plans
+pub mod Facts
+pub mod Needs
+pub mod Numbers
+pub mod Kept
+pub mod Replies
+pub mod Graphs
+pub mod Over
+pub mod Laws
+pub mod Counts

@@ -1,0 +1,20 @@
+-- What a graph keeps.
+use Rattle.std.specs.Prelude.{◌≡◌, ◌≤◌, [], map, length}
+use Rattle.gn_closure.specs.Reach.{Setup}
+use Rattle.gn_graph.specs.declared.graph.Graph.TheInside.{Inside}
+use Rattle.gn_graph.specs.Graphs.{Answers, reply_of}
+use Rattle.gn_graph.specs.Counts.{AreCounts}
+use Rattle.gn_graph.specs.Numbers.{IsWhole}
+use Rattle.gn_graph.specs.Replies.{units_in, AreSingle, default_in, all_rules}
+
+abbrev pub answers_in : Inside → Answers
+answers_in g = record { replies = map reply_of g.answers.items; found = g.closure.found }
+
+-- the rules are those of the answers
+pub record IsOver (g : Inside) : Type 0 where
+  pub rules : g.closure.rules ≡ all_rules (map reply_of g.answers.items)
+  pub default : g.default ≡ default_in (units_in (map reply_of g.answers.items) (Setup []))
+  pub single : AreSingle (map reply_of g.answers.items)
+  pub counts : AreCounts g.closure.found g.counts
+  pub all : length g.closure.found ≤ g.counts.seen
+  pub whole : IsWhole g.closure

@@ -1,0 +1,24 @@
+//! Which units are reached and which labels are generated, kept while answers come.
+#![tactic(auto)]
+
+mod clause;
+mod closure;
+mod consequences;
+mod counts;
+mod fact;
+mod graph;
+mod home;
+mod laws;
+mod needs;
+mod numbering;
+mod rule;
+mod target_rules;
+mod unit_key;
+mod unit_rules;
+mod wanted_rules;
+
+pub use fact::Fact;
+pub use graph::{Graph, start_graph};
+pub use laws::{more_answers_reach_more, order_of_answers_is_free};
+pub use needs::{TargetNeeds, ToolchainNeeds, UnitNeeds};
+pub use unit_key::UnitKey;
