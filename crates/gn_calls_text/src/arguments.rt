@@ -12,7 +12,7 @@ use gn_faults::Code;
 use gn_values::{Items, Value};
 
 /// An argument of another type than the call takes.
-pub(crate) fn wrong_type(argument: u32) -> CallError
+pub fn wrong_type(argument: u32) -> CallError
     ensures { result ≡ CallError.Refused Code.BadTypes (Some argument) }
 {
     CallError::Refused {
@@ -22,7 +22,7 @@ pub(crate) fn wrong_type(argument: u32) -> CallError
 }
 
 /// Another number of arguments than the call takes, or a value that it doesn't take.
-pub(crate) fn bad_arguments() -> CallError
+pub fn bad_arguments() -> CallError
     ensures { result ≡ CallError.Refused Code.BadArguments None }
 {
     CallError::Refused {
@@ -32,7 +32,7 @@ pub(crate) fn bad_arguments() -> CallError
 }
 
 /// A value above the limits.
-pub(crate) fn too_long() -> CallError
+pub fn too_long() -> CallError
     ensures { result ≡ CallError.Refused Code.TooLong None }
 {
     CallError::Refused {
@@ -42,7 +42,7 @@ pub(crate) fn too_long() -> CallError
 }
 
 /// The bytes of an argument that has to be a string.
-pub(crate) fn text_of(value: &Value, argument: u32) -> Result<&[u8], CallError>
+pub fn text_of(value: &Value, argument: u32) -> Result<&[u8], CallError>
     ensures ok { IfOk result (λ t. text_in (val_of value.now) ≡ Some t.now) }
     ensures none { IfErr result (λ e. text_in (val_of value.now) ≡ None) }
     ensures err { IfErr result (λ e. e ≡ CallError.Refused Code.BadTypes (Some argument)) }
@@ -93,7 +93,7 @@ fn are_texts(values: &[Value]) -> bool
 }
 
 /// The bytes of a string; another value has none.
-pub(crate) fn bytes_of(value: &Value) -> &[u8]
+pub fn bytes_of(value: &Value) -> &[u8]
     ensures { result.now ≡ bytes_in value.now }
 {
     match value {
@@ -104,7 +104,7 @@ pub(crate) fn bytes_of(value: &Value) -> &[u8]
 
 /// The items of an argument that has to be a list of strings.
 #[tactic(auto, unfolding(crate::specs::Answers::texts_in))]
-pub(crate) fn texts_of(value: &Value, argument: u32) -> Result<&[Value], CallError>
+pub fn texts_of(value: &Value, argument: u32) -> Result<&[Value], CallError>
     ensures ok { IfOk result
         (λ ts. texts_in (val_of value.now) ≡ Some (map bytes_in ts.now)) }
     ensures short { IfOk result (λ ts. length ts.now ≤ max_items) }

@@ -60,7 +60,7 @@ pub(crate) fn push_text(alloc: Global, items: &mut Items, bytes: &[u8]) -> Resul
 }
 
 /// Puts a value at the end of a list that has room for it.
-pub(crate) fn push_within(items: &mut Items, value: Value) -> Result<(), AllocError>
+pub fn push_within(items: &mut Items, value: Value) -> Result<(), AllocError>
     requires { list_fits (items.old ++ val_of value ∷ []) ≡ true }
     ensures { OnOk result (items.new ≡ items.old ++ val_of value ∷ []) }
 {

@@ -11,8 +11,10 @@ mod lists;
 mod patterns;
 mod strings;
 
+pub use arguments::{bad_arguments, bytes_of, text_of, texts_of, too_long, wrong_type};
 pub use call::{TextCall, call_text};
 pub use error::CallError;
+pub use growing::push_within;
 pub use laws::{
     filters_part_a_list, joining_undoes_splitting, patterns_match_by_pieces,
     split_lists_are_the_list,

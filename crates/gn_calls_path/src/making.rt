@@ -1,0 +1,151 @@
+// Calls that make a text of each string of their first argument.
+
+ghost use Rattle.std.specs.Prelude.{◌≡◌, IfOk, map};
+ghost use Rattle.gn_paths.specs.Directory.{directory_of, obj_directory_of, gen_directory_of};
+ghost use Rattle.gn_values.specs.View.{val_of};
+ghost use Rattle.gn_calls_text.specs.Views.{Settles, bytes_in};
+ghost use Rattle.gn_calls_path.specs.Calls.{path_info, path_info_at, path_info_answer};
+ghost use Rattle.gn_calls_path.specs.Directories.{root_out};
+ghost use Rattle.gn_calls_path.specs.Each.{one, listed, answer_each};
+ghost use Rattle.gn_calls_path.specs.Found.{each};
+ghost use Rattle.gn_calls_path.specs.Views.{IsFound, made_at, given_of};
+
+use crate::answers::{string, strings};
+use crate::given::{OneOrList, one_or_list};
+use crate::names::PathInfo;
+use crate::place::Where;
+use crate::reading::{put, read_path};
+use crate::rebasing::rebase_text;
+use gn_calls_text::{CallError, bad_arguments, bytes_of, text_of};
+use gn_paths::{Path, Text, directory, gen_directory, obj_directory, part};
+use gn_values::Value;
+use std::alloc::{AllocError, Global};
+
+/// What is made of a text.
+#[derive(Clone, Copy)]
+pub(crate) enum Making<'a> {
+    /// What is asked of a path.
+    Info(PathInfo),
+    /// The path as it is shown from the first of these directories, or as the system's path where there is none. The text
+    /// starts at the second directory.
+    Rebased(&'a Option<Path>, &'a Path),
+}
+
+fn out_dir(alloc: Global, at: &Where, path: &Path) -> Result<Text, AllocError>
+    ensures { IfOk result (λ t. t ≡ obj_directory_of (root_out at.now) (directory_of path.now)) }
+{
+    let out = at.root_out_of(alloc, &at.toolchain)?;
+    let directory = directory(alloc, path)?;
+    let made = obj_directory(alloc, &out, &directory)?;
+    made.as_text().copy(alloc)
+}
+
+fn gen_dir(alloc: Global, at: &Where, path: &Path) -> Result<Text, AllocError>
+    ensures { IfOk result (λ t. t ≡ gen_directory_of (root_out at.now) (directory_of path.now)) }
+{
+    let out = at.root_out_of(alloc, &at.toolchain)?;
+    let directory = directory(alloc, path)?;
+    let made = gen_directory(alloc, &out, &directory)?;
+    made.as_text().copy(alloc)
+}
+
+/// What is asked of a text and its path.
+fn path_info(
+    alloc: Global,
+    at: &Where,
+    info: PathInfo,
+    text: &[u8],
+    path: &Path,
+) -> Result<Text, AllocError>
+    ensures { IfOk result (λ t. t ≡ path_info at.now info text.now path.now) }
+{
+    match info {
+        PathInfo::Part(asked) => part(alloc, text, asked),
+        PathInfo::OutDir => out_dir(alloc, at, path),
+        PathInfo::GenDir => gen_dir(alloc, at, path),
+        PathInfo::AbsPath => path.as_text().copy(alloc),
+    }
+}
+
+fn info_text(alloc: Global, at: &Where, info: PathInfo, text: &[u8]) -> Result<Text, CallError>
+    ensures { IsFound (λ t. t) 0 result (path_info_at at.now info text.now) }
+{
+    let path = read_path(alloc, &at.directory, text, 0)?;
+    Ok(path_info(alloc, at, info, text, &path)?)
+}
+
+/// What is made of a text of the first argument.
+fn make(alloc: Global, at: &Where, making: Making<'_>, text: &[u8]) -> Result<Text, CallError>
+    ensures { IsFound (λ t. t) 0 result (made_at at.now making.entry text.now) }
+{
+    match making {
+        Making::Info(info) => info_text(alloc, at, info, text),
+        Making::Rebased(new_base, current_base) => {
+            rebase_text(alloc, at, new_base, current_base, text)
+        }
+    }
+}
+
+/// What is made of each string of the first argument.
+fn make_each(
+    alloc: Global,
+    at: &Where,
+    making: Making<'_>,
+    texts: &[Value],
+) -> Result<Vec<Text>, CallError>
+    ensures { IsFound (λ ts. ts.items) 0 result (each (made_at at.now making.entry) (map bytes_in texts.now)) }
+{
+    let mut made = Vec::with_capacity(alloc, texts.len())?;
+    for text in texts {
+        put(&mut made, make(alloc, at, making, bytes_of(text))?)?;
+    }
+    Ok(made)
+}
+
+fn make_one(alloc: Global, at: &Where, making: Making<'_>, text: &[u8]) -> Result<Value, CallError>
+    ensures { Settles val_of result (answer_each (made_at at.now making.entry) (one text.now)) }
+{
+    string(make(alloc, at, making, text)?)
+}
+
+fn make_list(
+    alloc: Global,
+    at: &Where,
+    making: Making<'_>,
+    texts: &[Value],
+) -> Result<Value, CallError>
+    ensures { Settles val_of result (answer_each (made_at at.now making.entry) (listed (map bytes_in texts.now))) }
+{
+    let made = make_each(alloc, at, making, texts)?;
+    strings(alloc, made.as_slice())
+}
+
+/// What is made of the first argument: a list gives a list.
+pub(crate) fn make_all(
+    alloc: Global,
+    at: &Where,
+    making: Making<'_>,
+    given: OneOrList<'_>,
+) -> Result<Value, CallError>
+    ensures { Settles val_of result (answer_each (made_at at.now making.entry) (given_of given.entry)) }
+{
+    match given {
+        OneOrList::One(text) => make_one(alloc, at, making, bytes_of(text)),
+        OneOrList::Listed(texts) => make_list(alloc, at, making, texts),
+    }
+}
+
+/// What `get_path_info` answers to its values.
+pub(crate) fn get_path_info(alloc: Global, args: &[Value], at: &Where) -> Result<Value, CallError>
+    ensures { Settles val_of result (path_info_answer at.now (map val_of args.now)) }
+{
+    let [paths, what] = args else {
+        return Err(bad_arguments());
+    };
+    let given = one_or_list(paths, 0)?;
+    let name = text_of(what, 1)?;
+    match PathInfo::named(name) {
+        Some(info) => make_all(alloc, at, Making::Info(info), given),
+        None => Err(bad_arguments()),
+    }
+}
