@@ -9,7 +9,7 @@ use Rattle.std.specs.Map.{lookup, remove_entry}
 use Rattle.std.specs.BTreeMap.{is_at, insert_entry}
 use Rattle.std.specs.FinMap.{find, put, is_sorted, IsAntisymmetric}
 use Rattle.std.specs.FinMap.Entries.{by_order as put_by_order, where_key, below_all, is_sorted-put, is_sorted-where_key, find-put, find-where_key, same_entries}
-use Rattle.gn_values.proofs.Tables.{by_order}
+use Rattle.gn_environment.proofs.Names.{by_order}
 
 pub first : (a b : Bool) → T (a && b) → T a
 first true b p = tt

@@ -4,8 +4,8 @@ use Rattle.std.specs.List.{list_any}
 use Rattle.std.specs.Str.{bytes_eq}
 use Rattle.std.proofs.lemmas.List.{append-nil}
 use Rattle.gn_text.specs.Names.{AllDifferent, with_name}
-use Rattle.gn_scopes.specs.Layers.{LayerState, ChainState}
-use Rattle.gn_scopes.specs.Named.{named_chain, IsNumberedLayer, IsNumberedChain, IsLonger}
+use Rattle.gn_environment.specs.Layers.{LayerState, ChainState}
+use Rattle.gn_layers.specs.Named.{named_chain, IsNumberedLayer, IsNumberedChain, IsLonger}
 use Rattle.gn_scopes.proofs.NamedLayers.{named_answer, chain_longer, longer_numbered}
 
 -- a name that is lacking, by a text that it is

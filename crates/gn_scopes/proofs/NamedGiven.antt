@@ -9,11 +9,11 @@ use Rattle.gn_text.specs.Names.{AllDifferent, with_name as with_text}
 use Rattle.gn_values.specs.Val.{Val}
 use Rattle.gn_values.specs.Tables.{Table, with_name}
 use Rattle.gn_values.specs.Imported.{ScopeState}
-use Rattle.gn_scopes.specs.Layers.{VariableState, ChainState}
-use Rattle.gn_scopes.specs.Templates.{in_block}
-use Rattle.gn_scopes.specs.Giving.{variables_given, all_given}
-use Rattle.gn_scopes.specs.Imports.{with_imported_calls}
-use Rattle.gn_scopes.specs.Named.{key, name_of, named, named_chain, IsNumber, IsNumbered, IsNumberedChain, texted, IsLonger}
+use Rattle.gn_environment.specs.Layers.{VariableState, ChainState}
+use Rattle.gn_environment.specs.Templates.{in_block}
+use Rattle.gn_environment.specs.Giving.{variables_given, all_given}
+use Rattle.gn_environment.specs.Imports.{with_imported_calls}
+use Rattle.gn_layers.specs.Named.{key, name_of, named, named_chain, IsNumber, IsNumbered, IsNumberedChain, texted, IsLonger}
 use Rattle.gn_scopes.proofs.NamedTables.{name_at, name_longer, all_longer, with_number, IsNumbered-with_name}
 use Rattle.gn_scopes.proofs.NamedLayers.{chain_longer, longer_numbered}
 

@@ -10,10 +10,10 @@ use Rattle.std.specs.Ordering.{is_lt}
 use Rattle.gn_text.specs.Names.{AllDifferent}
 use Rattle.gn_values.specs.Tables.{Table, with_names}
 use Rattle.gn_values.specs.Imported.{ScopeState}
-use Rattle.gn_values.proofs.Sorted.{order}
-use Rattle.gn_scopes.specs.Kept.{scope_of, scope_texted, scope_over, layers_over, layers_texted_over}
-use Rattle.gn_scopes.specs.Layers.{VariableState, LayerState, values_in}
-use Rattle.gn_scopes.specs.Named.{named_layer, texted, IsNumbered, IsNumberedLayer}
+use Rattle.gn_environment.proofs.Names.{order}
+use Rattle.gn_layers.specs.Kept.{scope_of, scope_texted, scope_over, layers_over, layers_texted_over}
+use Rattle.gn_environment.specs.Layers.{VariableState, LayerState, values_in}
+use Rattle.gn_layers.specs.Named.{named_layer, texted, IsNumbered, IsNumberedLayer}
 use Rattle.gn_scopes.proofs.NamedTables.{named-from_pairs, named-laid, laid_sorted, IsNumbered-map}
 use Rattle.gn_scopes.proofs.NamedLayers.{named_values_in}
 

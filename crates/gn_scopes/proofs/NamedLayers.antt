@@ -9,10 +9,10 @@ use Rattle.gn_tree.specs.declared.operator.AssignOp.TheVariants.{Set, Add, Subtr
 use Rattle.gn_values.specs.Val.{Val}
 use Rattle.gn_values.specs.Tables.{Table}
 use Rattle.gn_values.specs.Assigning.{combined, element_assigned}
-use Rattle.gn_scopes.specs.Layers.{VariableState, LayerState, ChainState, values_in}
-use Rattle.gn_scopes.specs.Chains.{variable_in, set_in, nearest, variable_of, further_value, read_variable, read_of, read_in, read_through, marked, chain_value, chain_read, chain_read_of, chain_entered, chain_left, is_one_of, read_unless, all_read, all_read_but, chain_all_read}
-use Rattle.gn_scopes.specs.Assigning.{replaces, replaces_nonempty, has_no_value, operator_refuses, base_has_no_value, element_refuses, unread_after, put, with_inner, overwritten_over, overwritten, put_result, copied_inwards, changed_at, changed_by, assigned, element_changed}
-use Rattle.gn_scopes.specs.Named.{key, named, named_layer, named_chain, IsNumberedLayer, IsNumberedChain, all_read_but_named}
+use Rattle.gn_environment.specs.Layers.{VariableState, LayerState, ChainState, values_in}
+use Rattle.gn_environment.specs.Chains.{variable_in, set_in, nearest, variable_of, further_value, read_variable, read_of, read_in, read_through, marked, chain_value, chain_read, chain_read_of, chain_entered, chain_left, is_one_of, read_unless, all_read, all_read_but, chain_all_read}
+use Rattle.gn_environment.specs.Assigning.{replaces, replaces_nonempty, has_no_value, operator_refuses, base_has_no_value, element_refuses, unread_after, put, with_inner, overwritten_over, overwritten, put_result, copied_inwards, changed_at, changed_by, assigned, element_changed}
+use Rattle.gn_layers.specs.Named.{key, named, named_layer, named_chain, IsNumberedLayer, IsNumberedChain, all_read_but_named}
 use Rattle.gn_scopes.proofs.NamedTables.{named_longer, named-map, at_number, with_number, without_number, at_no_number, without_no_number, IsNumbered-empty, IsNumbered-longer, IsNumbered-map, IsNumbered-with_name, IsNumbered-without_name}
 
 -- what an answer says by names

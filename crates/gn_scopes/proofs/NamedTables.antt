@@ -9,13 +9,12 @@ use Rattle.std.specs.Ordering.{nat_cmp, is_eq}
 use Rattle.std.specs.Cmp.{tied_itself, both_ways, Equal-is}
 use Rattle.std.specs.Cmp.Lexicographic.{slice_cmp, nat_list_cmp_total}
 use Rattle.std.specs.BTreeMap.{is_at}
-use Rattle.std.proofs.lemmas.Map.Keys.{any_passes_from_place}
 use Rattle.std.proofs.lemmas.Option.{slice_get_within, slice_get-get_or, unwrap_or-slice_get}
 use Rattle.std.proofs.lemmas.Slice.Eq.{bytes_eq-Decides}
 use Rattle.gn_text.specs.Names.{AllDifferent}
 use Rattle.gn_values.specs.Tables.{Table, at_name, with_name, without_name, with_names}
-use Rattle.gn_values.proofs.Sorted.{order, tied}
-use Rattle.gn_scopes.specs.Named.{key, name_of, named, IsNumber, IsNumbered}
+use Rattle.gn_environment.proofs.Names.{order, tied, not_lacking}
+use Rattle.gn_layers.specs.Named.{key, name_of, named, IsNumber, IsNumbered}
 use Rattle.gn_scopes.proofs.Entries.{first, second, insert_entry-all, remove_entry-all, is_sorted-insert_entry, lookup-insert_entry, lookup_behind, is_sorted-remove_entry, lookup-remove_entry, remove_entry_absent, same_by_lookup, is_sorted-map, map-all, insert_entry-map}
 
 -- a name ties with itself
@@ -42,10 +41,6 @@ among (x ∷ names) q h =
       | true ↦ λ e _. record { number = zero; found = ap Some (sym ((bytes_eq-Decides q x).0 e)) }
       | false ↦ λ e g. let rest = among names q g in record { number = suc rest.number; found = rest.found }
     ] refl h
-
--- a text that stands at a number is among the names
-pub not_lacking : (names : List (List ℕ)) (q : List ℕ) (n : ℕ) → slice_get names n ≡ Some q → list_any (bytes_eq q) names ≡ true
-not_lacking names q n h = any_passes_from_place (bytes_eq q) names n q h ((bytes_eq-Decides q q).1 refl)
 
 -- a table without entries is by numbers
 pub IsNumbered-empty : {A : Type 0} (names : List (List ℕ)) → IsNumbered {A = A} names []

@@ -9,12 +9,12 @@ use Rattle.std.specs.Cmp.Lexicographic.{nat_list_cmp_total}
 use Rattle.std.proofs.lemmas.Option.{none-some}
 use Rattle.gn_text.specs.Names.{AllDifferent}
 use Rattle.gn_values.specs.Tables.{Table, at_name, with_name}
-use Rattle.gn_values.proofs.Sorted.{order}
-use Rattle.gn_scopes.specs.Layers.{VariableState}
-use Rattle.gn_scopes.specs.Named.{key, name_of, named, texted, IsNumber, IsNumbered}
-use Rattle.gn_scopes.specs.Unread.{first_unread_of, earlier, unread_at}
-use Rattle.gn_scopes.proofs.Earlier.{earlier_swap}
-use Rattle.gn_values.proofs.Tables.{by_order}
+use Rattle.gn_environment.proofs.Names.{order}
+use Rattle.gn_environment.specs.Layers.{VariableState}
+use Rattle.gn_layers.specs.Named.{key, name_of, named, texted, IsNumber, IsNumbered}
+use Rattle.gn_environment.specs.Unread.{first_unread_of, earlier, unread_at}
+use Rattle.gn_environment.proofs.Earlier.{earlier_swap}
+use Rattle.gn_environment.proofs.Names.{by_order}
 use Rattle.gn_scopes.proofs.Entries.{first, second, lookup_behind}
 use Rattle.gn_scopes.proofs.NamedTables.{name_at, at_number}
 

@@ -1,7 +1,7 @@
 -- Where a name is found among layers.
 use Rattle.std.specs.Prelude.{◌≡◌, ℕ, List, IsSome, None}
-use Rattle.gn_scopes.specs.Layers.{ChainState}
-use Rattle.gn_scopes.specs.Chains.{variable_in, variable_of, IsFirstAt}
+use Rattle.gn_environment.specs.Layers.{ChainState}
+use Rattle.gn_environment.specs.Chains.{variable_in, variable_of, IsFirstAt}
 use Rattle.gn_scopes.specs.declared.scopes.Found.{Found}
 use Rattle.gn_scopes.specs.declared.scopes.Found.TheVariants.{Inner, Outer, Nowhere}
 

@@ -2,17 +2,17 @@
 
 ghost use Rattle.std.specs.Prelude.{◌≡◌, ◌∷◌, IfOk, map};
 ghost use Rattle.gn_values.specs.View.{entry_of};
-ghost use Rattle.gn_scopes.specs.Chains.{is_one_of};
-ghost use Rattle.gn_scopes.specs.Forwarding.{target_name};
-ghost use Rattle.gn_scopes.specs.Giving.{entries_but};
+ghost use Rattle.gn_environment.specs.Chains.{is_one_of};
+ghost use Rattle.gn_environment.specs.Forwarding.{target_name};
+ghost use Rattle.gn_environment.specs.Giving.{entries_but};
 
-use crate::name_set::NameSet;
+use gn_layers::NameSet;
 use gn_paths::Text;
 use gn_values::Entry;
 use std::alloc::{AllocError, Global};
 
 /// Copies of entries.
-pub(crate) fn copy_entries(alloc: Global, entries: &[Entry]) -> Result<Vec<Entry>, AllocError>
+pub fn copy_entries(alloc: Global, entries: &[Entry]) -> Result<Vec<Entry>, AllocError>
     ensures { IfOk result (λ copies. map entry_of copies.items ≡ map entry_of entries.now) }
 {
     let mut copies = Vec::with_capacity(alloc, entries.len())?;
@@ -23,7 +23,7 @@ pub(crate) fn copy_entries(alloc: Global, entries: &[Entry]) -> Result<Vec<Entry
 }
 
 /// Copies of entries, but for `target_name` and the excepted ones.
-pub(crate) fn copied_but(
+pub fn copied_but(
     alloc: Global,
     entries: &[Entry],
     except: &NameSet<'_>,

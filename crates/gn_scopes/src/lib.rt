@@ -1,22 +1,9 @@
-//! Scopes: where names are looked up and assigned, and which names nothing reads.
+//! Scopes: the layers that are open, by the numbers of their names and by the names that stand in them.
 #![tactic(auto)]
 
-mod caller;
-mod copied;
 mod copies;
-mod env;
 mod error;
-mod forwarding;
-mod imports;
-mod invoker;
-mod key;
-mod laid;
-mod layer;
-mod layer_gives;
-mod layer_merge;
-mod layer_reads;
-mod layer_templates;
-mod name_set;
+mod innermost;
 mod named_copies;
 mod named_gives;
 mod named_reads;
@@ -24,16 +11,8 @@ mod named_scopes;
 mod named_templates;
 mod scopes;
 mod scopes_templates;
-mod templates;
-mod undo;
-mod unread;
-mod variable;
 
-pub use env::Env;
-pub use error::{AssignError, ElementAssignError, ScopeError};
-pub use forwarding::{ForwardError, Origin};
-pub use imports::MergeError;
-pub use layer::Layer;
+pub use copies::{copied_but, copy_entries};
+pub use error::ScopeError;
+pub use named_scopes::NamedScopes;
 pub use scopes::Scopes;
-pub use templates::GiveError;
-pub use variable::Variable;

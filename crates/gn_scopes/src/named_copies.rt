@@ -2,18 +2,16 @@
 
 ghost use Rattle.std.specs.Prelude.{◌≡◌, ◌∷◌, IfOk, OnOk, map};
 ghost use Rattle.gn_values.specs.View.{entry_of};
-ghost use Rattle.gn_scopes.specs.Chains.{chain_left};
-ghost use Rattle.gn_scopes.specs.Forwarding.{target_name};
-ghost use Rattle.gn_scopes.specs.Giving.{entries_but};
-ghost use Rattle.gn_scopes.specs.Imports.{scope_left};
-ghost use Rattle.gn_scopes.specs.Kept.{layers_over, layers_texted_over};
-ghost use Rattle.gn_scopes.specs.Layers.{values_in};
+ghost use Rattle.gn_environment.specs.Chains.{chain_left};
+ghost use Rattle.gn_environment.specs.Forwarding.{target_name};
+ghost use Rattle.gn_environment.specs.Giving.{entries_but};
+ghost use Rattle.gn_environment.specs.Imports.{scope_left};
+ghost use Rattle.gn_layers.specs.Kept.{layers_over, layers_texted_over};
+ghost use Rattle.gn_environment.specs.Layers.{values_in};
 
 use crate::copies::keep_forwarded;
-use crate::laid::{Laid, copies_by_name};
-use crate::layer::Layer;
-use crate::name_set::NameSet;
 use crate::named_scopes::NamedScopes;
+use gn_layers::{Laid, Layer, NameSet};
 use gn_text::Names;
 use gn_values::{Bindings, Entry, KeptScope};
 use std::alloc::{AllocError, Global};
@@ -22,7 +20,7 @@ use std::collections::VecDeque;
 impl NamedScopes {
     /// Ends the innermost scope, and answers the names that were set in it with their values, which aren't copied. The
     /// scope ends whatever the answer.
-    pub(crate) fn leave_with_bindings(&mut self, alloc: Global) -> Result<Bindings, AllocError>
+    pub fn leave_with_bindings(&mut self, alloc: Global) -> Result<Bindings, AllocError>
         ensures ok { IfOk result (λ bindings. bindings ≡ values_in self.old.inner) }
         ensures new { self.new ≡ chain_left self.old }
     {
@@ -33,7 +31,7 @@ impl NamedScopes {
 
     /// Ends the innermost scope, and answers what an import leaves of it: the names that don't begin with `_`. Nothing
     /// is copied but names. The scope ends whatever the answer.
-    pub(crate) fn leave_public(&mut self, alloc: Global) -> Result<KeptScope, AllocError>
+    pub fn leave_public(&mut self, alloc: Global) -> Result<KeptScope, AllocError>
         ensures ok { IfOk result (λ scope. scope ≡ scope_left self.old.inner) }
         ensures new { self.new ≡ chain_left self.old }
     {
@@ -43,15 +41,15 @@ impl NamedScopes {
     }
 
     /// Copies of the names that stand in the innermost layer with their values.
-    pub(crate) fn copies_here(&self, alloc: Global) -> Result<Bindings, AllocError>
+    pub fn copies_here(&self, alloc: Global) -> Result<Bindings, AllocError>
         ensures { IfOk result (λ bindings. bindings ≡ values_in self.now.inner) }
     {
-        copies_by_name(alloc, &self.names, &self.scopes.innermost().variables)
+        self.scopes.innermost().copies_by_name(alloc, &self.names)
     }
 
     /// Copies of the names that stand in the innermost layer with their values, but for `target_name` and the excepted
     /// ones.
-    pub(crate) fn copies_here_but(
+    pub fn copies_here_but(
         &self,
         alloc: Global,
         except: &NameSet<'_>,
@@ -65,7 +63,7 @@ impl NamedScopes {
     }
 
     /// Lays copies of the names of all layers over those of a scope. After want of memory some of them are.
-    pub(crate) fn lay_over(&self, alloc: Global, lower: &mut Laid) -> Result<(), AllocError>
+    pub fn lay_over(&self, alloc: Global, lower: &mut Laid) -> Result<(), AllocError>
         ensures { OnOk result
             (lower.new ≡ layers_over (self.now.inner ∷ self.now.outer) lower.old) }
     {

@@ -1,18 +1,18 @@
 // Names of the innermost scope that are given values all at once, or not at all.
 
-ghost use Rattle.std.specs.Prelude.{◌≡◌, ◌++◌, [], ◌∷◌, IfOk, IfSome, OnOk, OnErr, map, option_map};
+ghost use Rattle.std.specs.Prelude.{◌≡◌, ◌++◌, [], ◌∷◌, IfOk, OnOk, OnErr, map, option_map};
 ghost use Rattle.std.specs.List.{AllByRecursion};
 ghost use Rattle.gn_text.specs.Names.{AllDifferent};
 ghost use Rattle.gn_values.specs.View.{entry_of};
-ghost use Rattle.gn_scopes.specs.Giving.{all_given};
-ghost use Rattle.gn_scopes.specs.Imports.{other_value, first_name, with_imported};
-ghost use Rattle.gn_scopes.specs.Named.{texted, IsNumber, IsLonger};
-ghost use Rattle.gn_scopes.specs.Templates.{in_block};
-ghost use Rattle.gn_scopes.specs.View.{value_pairs};
+ghost use Rattle.gn_environment.specs.Giving.{all_given};
+ghost use Rattle.gn_environment.specs.Imports.{other_value, first_name, with_imported};
+ghost use Rattle.gn_layers.specs.Named.{texted, IsNumber, IsLonger};
+ghost use Rattle.gn_environment.specs.Templates.{in_block};
+ghost use Rattle.gn_layers.specs.View.{value_pairs};
 
 use crate::copies::copy_entries;
-use crate::key::Key;
 use crate::named_scopes::NamedScopes;
+use gn_layers::Key;
 use gn_paths::Text;
 use gn_text::Names;
 use gn_values::{Bindings, Entry, KeptScope, Value};
@@ -21,7 +21,7 @@ use std::alloc::{AllocError, Global};
 impl NamedScopes {
     /// Gives these names of the innermost layer their values, in order; they count as read. After want of memory the
     /// layers are as before, and the entries are dropped.
-    pub(crate) fn give_all(&mut self, alloc: Global, entries: Vec<Entry>) -> Result<(), AllocError>
+    pub fn give_all(&mut self, alloc: Global, entries: Vec<Entry>) -> Result<(), AllocError>
         ensures ok { OnOk result (self.new ≡ in_block (all_given (map entry_of entries.items)) self.old) }
         ensures err { OnErr result (self.new ≡ self.old) }
     {
@@ -31,7 +31,7 @@ impl NamedScopes {
 
     /// Sets all names of a scope in the innermost layer; its variables count as read. After want of memory the layers are
     /// as before.
-    pub(crate) fn merge(&mut self, alloc: Global, scope: &KeptScope) -> Result<(), AllocError>
+    pub fn merge(&mut self, alloc: Global, scope: &KeptScope) -> Result<(), AllocError>
         ensures ok { OnOk result
             (self.new ≡ record self.old { inner = with_imported scope.now self.old.inner }) }
         ensures err { OnErr result (self.new ≡ self.old) }
@@ -42,7 +42,7 @@ impl NamedScopes {
     }
 
     /// The first of these names, in their order, that the innermost layer has with another value. It takes no memory.
-    pub(crate) fn other_value<'a>(&self, values: &'a Bindings) -> Option<&'a Text>
+    pub fn other_value<'a>(&self, values: &'a Bindings) -> Option<&'a Text>
         ensures { option_map (λ n. n.now) result ≡ first_name (other_value self.now.inner) values.now }
     {
         for entry in values.as_slice() {
@@ -78,7 +78,7 @@ fn numbered(
     ensures longer { IsLonger names.old names.new }
     ensures different { AllDifferent names.new }
 {
-    let mut values = Vec::with_capacity(alloc, entries.len())?;
+    let mut values = Vec::new(alloc);
     for entry in entries {
         push_numbered(names, &mut values, entry)?;
     }

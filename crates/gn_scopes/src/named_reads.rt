@@ -1,20 +1,18 @@
 // Reads of many names, and names that nothing reads, by the names that stand in the layers.
 
 ghost use Rattle.std.specs.Prelude.{◌≡◌, option_map};
-ghost use Rattle.gn_scopes.specs.Chains.{read_in, all_read, all_read_but, names_read, chain_all_read};
-ghost use Rattle.gn_scopes.specs.Templates.{in_block};
-ghost use Rattle.gn_scopes.specs.Unread.{reported};
+ghost use Rattle.gn_environment.specs.Chains.{read_in, all_read, all_read_but, names_read, chain_all_read};
+ghost use Rattle.gn_environment.specs.Templates.{in_block};
+ghost use Rattle.gn_environment.specs.Unread.{reported};
 
-use crate::key::Key;
-use crate::name_set::NameSet;
 use crate::named_scopes::NamedScopes;
-use crate::unread::first_unread_name;
+use gn_layers::{Key, NameSet};
 use gn_paths::{Text, Texts};
 use gn_tree::Position;
 
 impl NamedScopes {
     /// A read of a name of the innermost layer, if it has it. It takes no memory.
-    pub(crate) fn read_here(&mut self, name: &Text)
+    pub fn read_here(&mut self, name: &Text)
         ensures { self.new ≡ in_block (read_in name.now) self.old }
     {
         if let Some(number) = self.names.number(name.as_bytes()) {
@@ -23,28 +21,28 @@ impl NamedScopes {
     }
 
     /// A read of all names of the innermost layer. It takes no memory.
-    pub(crate) fn read_all_here(&mut self)
+    pub fn read_all_here(&mut self)
         ensures { self.new ≡ in_block all_read self.old }
     {
         self.scopes.read_all_here();
     }
 
     /// A read of all names of all layers. It takes no memory.
-    pub(crate) fn read_all(&mut self)
+    pub fn read_all(&mut self)
         ensures { self.new ≡ chain_all_read self.old }
     {
         self.scopes.read_all();
     }
 
     /// A read of all names of the innermost layer but these. It takes no memory.
-    pub(crate) fn read_all_here_but(&mut self, except: &NameSet<'_>)
+    pub fn read_all_here_but(&mut self, except: &NameSet<'_>)
         ensures { self.new ≡ in_block (all_read_but except.now) self.old }
     {
         self.scopes.read_all_here_but(&self.names, except);
     }
 
     /// A read of these names of the innermost layer, of those that it has, but for the excepted ones. It takes no memory.
-    pub(crate) fn read_names_here(&mut self, names: &Texts, except: &NameSet<'_>)
+    pub fn read_names_here(&mut self, names: &Texts, except: &NameSet<'_>)
         ensures { self.new ≡ in_block (names_read names.now except.now) self.old }
     {
         for name in names.as_slice() {
@@ -56,14 +54,9 @@ impl NamedScopes {
 
     /// What the end of the innermost scope reports: the name that nothing read and whose last assignment stands first, and
     /// where that stands. None comes exactly where the scope isn't checked or every name was read. It takes no memory.
-    #[tactic(auto, unfolding(crate::specs::Unread::reported))]
-    pub(crate) fn unread(&self) -> Option<(&[u8], Position)>
+    pub fn unread(&self) -> Option<(&[u8], Position)>
         ensures { option_map (λ p. (p.0.now, p.1)) result ≡ reported self.now.inner }
     {
-        let layer = self.scopes.innermost();
-        if !layer.checked {
-            return None;
-        }
-        first_unread_name(&self.names, &layer.variables)
+        self.scopes.innermost().unread_name(&self.names)
     }
 }

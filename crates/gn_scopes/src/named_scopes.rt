@@ -3,16 +3,14 @@
 ghost use Rattle.std.specs.Prelude.{◌≡◌, [], OnOk, OnErr, IfErr, IfSome, Err, Ok, None, Some, option_map, is_some};
 ghost use Rattle.gn_tree.specs.declared.position.Position.{Position};
 ghost use Rattle.gn_values.specs.View.{val_of};
-ghost use Rattle.gn_scopes.specs.Assigning.{assigned, element_changed};
-ghost use Rattle.gn_scopes.specs.Chains.{variable_in, set_in, chain_value, chain_read, chain_entered, chain_left};
-ghost use Rattle.gn_scopes.specs.Errors.{refusal_of, element_refusal_of};
-ghost use Rattle.gn_scopes.specs.Layers.{empty_layer};
-ghost use Rattle.gn_scopes.specs.View.{variable_state};
+ghost use Rattle.gn_environment.specs.Assigning.{assigned, element_changed};
+ghost use Rattle.gn_environment.specs.Chains.{variable_in, set_in, chain_value, chain_read, chain_entered, chain_left};
+ghost use Rattle.gn_layers.specs.Errors.{refusal_of, element_refusal_of};
+ghost use Rattle.gn_environment.specs.Layers.{empty_layer};
+ghost use Rattle.gn_layers.specs.View.{variable_state};
 
-use crate::error::{AssignError, ElementAssignError};
-use crate::key::Key;
 use crate::scopes::Scopes;
-use crate::variable::Variable;
+use gn_layers::{AssignError, ElementAssignError, Key, Variable};
 use gn_paths::Text;
 use gn_text::Names;
 use gn_tree::{AssignOp, Position};
@@ -23,15 +21,15 @@ use std::marker::Model;
 /// The layers of the scopes that are open, with the table of the names by whose numbers their variables stand. Contracts
 /// see the layers by names. A name that the table lacks stands in none of them.
 #[derive(Drop)]
-pub(crate) struct NamedScopes {
+pub struct NamedScopes {
     pub(crate) names: Names,
     pub(crate) scopes: Scopes,
 }
 
 impl Model for NamedScopes {
-    ghost use Rattle.gn_scopes.specs.Layers.{ChainState};
-    ghost use Rattle.gn_scopes.specs.Codes.{chain_code};
-    ghost use Rattle.gn_scopes.specs.Named.{named_chain, IsNumberedChain};
+    ghost use Rattle.gn_environment.specs.Layers.{ChainState};
+    ghost use Rattle.gn_environment.specs.Codes.{chain_code};
+    ghost use Rattle.gn_layers.specs.Named.{named_chain, IsNumberedChain};
 
     ghost Value = { ChainState };
 
@@ -44,7 +42,7 @@ impl Model for NamedScopes {
 
 impl NamedScopes {
     /// One layer, in which nothing is set. It takes no memory.
-    pub(crate) fn new(alloc: Global, checked: bool) -> NamedScopes
+    pub fn new(alloc: Global, checked: bool) -> NamedScopes
         ensures { result ≡ record { inner = empty_layer checked; outer = [] } }
     {
         NamedScopes {
@@ -54,7 +52,7 @@ impl NamedScopes {
     }
 
     /// Opens a scope, in which nothing is set. After want of memory nothing is changed.
-    pub(crate) fn enter(&mut self, checked: bool) -> Result<(), AllocError>
+    pub fn enter(&mut self, checked: bool) -> Result<(), AllocError>
         ensures ok { OnOk result (self.new ≡ chain_entered checked self.old) }
         ensures err { OnErr result (self.new ≡ self.old) }
     {
@@ -63,14 +61,14 @@ impl NamedScopes {
 
     /// Ends the innermost scope, and lets go of what it has; behind the outermost one an empty one begins, which isn't
     /// checked. It takes no memory.
-    pub(crate) fn leave(&mut self)
+    pub fn leave(&mut self)
         ensures { self.new ≡ chain_left self.old }
     {
         let _layer = self.scopes.end();
     }
 
     /// Whether the innermost layer has a name. It takes no memory.
-    pub(crate) fn has_here(&self, name: &Text) -> bool
+    pub fn has_here(&self, name: &Text) -> bool
         ensures { result ≡ is_some (variable_in name.now self.now.inner) }
     {
         match self.names.number(name.as_bytes()) {
@@ -80,7 +78,7 @@ impl NamedScopes {
     }
 
     /// The value of a name of the innermost layer. None comes exactly where that has nothing at it. It takes no memory.
-    pub(crate) fn value_here(&self, name: &Text) -> Option<&Value>
+    pub fn value_here(&self, name: &Text) -> Option<&Value>
         ensures { option_map (λ v. val_of v.now) result
             ≡ option_map (λ v. v.value) (variable_in name.now self.now.inner) }
     {
@@ -89,7 +87,7 @@ impl NamedScopes {
     }
 
     /// The value of a name. None comes exactly where no layer has it. It takes no memory.
-    pub(crate) fn value(&self, name: &Text) -> Option<&Value>
+    pub fn value(&self, name: &Text) -> Option<&Value>
         ensures { option_map (λ v. val_of v.now) result ≡ chain_value name.now self.now }
     {
         let number = self.names.number(name.as_bytes())?;
@@ -97,7 +95,7 @@ impl NamedScopes {
     }
 
     /// A read of a name that the layers may have. It takes no memory.
-    pub(crate) fn mark(&mut self, name: &Text)
+    pub fn mark(&mut self, name: &Text)
         ensures { self.new ≡ chain_read name.now self.old }
     {
         if let Some(number) = self.names.number(name.as_bytes()) {
@@ -106,7 +104,7 @@ impl NamedScopes {
     }
 
     /// Takes a name out of the innermost layer, and answers what it stood for there. It takes no memory.
-    pub(crate) fn take(&mut self, name: &Text) -> Option<Variable>
+    pub fn take(&mut self, name: &Text) -> Option<Variable>
         ensures value { option_map variable_state result ≡ variable_in name.now self.old.inner }
         ensures new { self.new ≡ record self.old { inner = set_in name.now None self.old.inner } }
     {
@@ -116,7 +114,7 @@ impl NamedScopes {
 
     /// Sets what a name of the innermost layer stands for. After want of memory the layers are as before, and the variable
     /// is dropped.
-    pub(crate) fn put(&mut self, name: &Text, variable: Variable) -> Result<(), AllocError>
+    pub fn put(&mut self, name: &Text, variable: Variable) -> Result<(), AllocError>
         ensures ok { OnOk result
             (self.new
             ≡ record self.old { inner = set_in name.now (Some (variable_state variable)) self.old.inner }) }
@@ -128,7 +126,7 @@ impl NamedScopes {
 
     /// `name = value`, `name += value` or `name -= value`, whose operator stands at the position, where `beneath` is
     /// what the name has beneath all layers. After a refusal the layers are as before, and the value is dropped.
-    pub(crate) fn assign(
+    pub fn assign(
         &mut self,
         alloc: Global,
         name: &Text,
@@ -153,7 +151,7 @@ impl NamedScopes {
 
     /// `name[at] op= value` or `name.at op= value`, whose operator stands at the position, where `beneath` is what the
     /// name has beneath all layers. After a refusal the layers are as before, and the value is dropped.
-    pub(crate) fn assign_element(
+    pub fn assign_element(
         &mut self,
         alloc: Global,
         name: &Text,

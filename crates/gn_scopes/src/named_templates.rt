@@ -2,13 +2,12 @@
 
 ghost use Rattle.std.specs.Prelude.{◌≡◌, ◌++◌, [], ◌∷◌, IfOk, OnOk, OnErr, Some, None, true, map, codes};
 ghost use Rattle.gn_values.specs.Val.{vstr};
-ghost use Rattle.gn_scopes.specs.Chains.{set_in};
-ghost use Rattle.gn_scopes.specs.Layers.{empty_layer};
-ghost use Rattle.gn_scopes.specs.Templates.{in_block, with_template, with_defaults};
+ghost use Rattle.gn_environment.specs.Chains.{set_in};
+ghost use Rattle.gn_environment.specs.Layers.{empty_layer};
+ghost use Rattle.gn_environment.specs.Templates.{in_block, with_template, with_defaults};
 
-use crate::layer::Layer;
 use crate::named_scopes::NamedScopes;
-use crate::variable::Variable;
+use gn_layers::{Layer, Variable};
 use gn_paths::Text;
 use gn_values::{Bindings, Definition, DefinitionName, Definitions, Value};
 use std::alloc::{AllocError, Global};
@@ -16,7 +15,7 @@ use std::collections::VecDeque;
 
 impl NamedScopes {
     /// The innermost layer, of which the templates and the defaults stand by names.
-    pub(crate) fn innermost(&self) -> &Layer
+    pub fn innermost(&self) -> &Layer
         ensures templates { result.now.templates ≡ self.now.inner.templates }
         ensures defaults { result.now.defaults ≡ self.now.inner.defaults }
     {
@@ -24,7 +23,7 @@ impl NamedScopes {
     }
 
     /// The layers around the innermost one, outwards, of which the templates and the defaults stand by names.
-    pub(crate) fn outer(&self) -> &VecDeque<Layer>
+    pub fn outer(&self) -> &VecDeque<Layer>
         ensures templates { map (λ l. l.templates) result.now.items ≡ map (λ l. l.templates) self.now.outer }
         ensures defaults { map (λ l. l.defaults) result.now.items ≡ map (λ l. l.defaults) self.now.outer }
     {
@@ -33,7 +32,7 @@ impl NamedScopes {
 
     /// Gives a name a template in the innermost layer, whose definition goes behind those made so far. After want of
     /// memory nothing is changed, and the definition is dropped.
-    pub(crate) fn define(
+    pub fn define(
         &mut self,
         alloc: Global,
         name: &Text,
@@ -51,7 +50,7 @@ impl NamedScopes {
 
     /// Sets the defaults of a kind of call in the innermost layer. After want of memory nothing is changed, and the
     /// values are dropped.
-    pub(crate) fn put_defaults(&mut self, kind: Text, values: Bindings) -> Result<(), AllocError>
+    pub fn put_defaults(&mut self, kind: Text, values: Bindings) -> Result<(), AllocError>
         ensures ok { OnOk result (self.new ≡ with_defaults kind values self.old) }
         ensures err { OnErr result (self.new ≡ self.old) }
     {
@@ -60,7 +59,7 @@ impl NamedScopes {
 
     /// Opens a checked scope in which `target_name` is this name, and counts as read. After want of memory nothing is
     /// changed.
-    pub(crate) fn enter_named(&mut self, alloc: Global, name: &Text) -> Result<(), AllocError>
+    pub fn enter_named(&mut self, alloc: Global, name: &Text) -> Result<(), AllocError>
         ensures ok { OnOk result
             (self.new ≡ record {
               inner = set_in (codes "target_name") (Some (record { value = vstr name.now; unread = None }))
@@ -80,7 +79,7 @@ impl NamedScopes {
     }
 
     /// One checked layer in which `target_name` is this name, and counts as read.
-    pub(crate) fn named(alloc: Global, name: &Text) -> Result<NamedScopes, AllocError>
+    pub fn named(alloc: Global, name: &Text) -> Result<NamedScopes, AllocError>
         ensures { IfOk result (λ scopes. scopes ≡ record {
           inner = set_in (codes "target_name") (Some (record { value = vstr name.now; unread = None }))
               (empty_layer true);

@@ -1,25 +1,24 @@
 // The layers of the scopes that are open.
 
 ghost use types.Logic.{sem};
-ghost use Rattle.std.specs.Prelude.{◌≡◌, ◌≢◌, ℕ, List, [], OnOk, OnErr, IfOk, IfErr, IfSome, IfNone, Some, None, option_map};
+ghost use Rattle.std.specs.Prelude.{◌≡◌, ◌≢◌, ℕ, [], OnOk, OnErr, IfOk, IfErr, IfSome, IfNone, Some, None, option_map};
 ghost use Rattle.gn_values.specs.View.{val_of};
-ghost use Rattle.gn_scopes.specs.Layers.{empty_layer};
-ghost use Rattle.gn_scopes.specs.Chains.{variable_in, set_in, variable_of, further_value, marked, IsFirstAt, chain_value, chain_read, chain_entered, chain_left};
+ghost use Rattle.gn_environment.specs.Layers.{empty_layer};
+ghost use Rattle.gn_environment.specs.Chains.{variable_in, set_in, variable_of, further_value, marked, IsFirstAt, chain_value, chain_read, chain_entered, chain_left};
 ghost use Rattle.gn_values.specs.Assigning.{combined, element_assigned};
-ghost use Rattle.gn_scopes.specs.Assigning.{assigned, element_changed, changed_by, copied_inwards, put_and_read, has_no_value, operator_refuses, base_has_no_value, element_refuses};
+ghost use Rattle.gn_environment.specs.Assigning.{assigned, element_changed, changed_by, copied_inwards, put_and_read, has_no_value, operator_refuses, base_has_no_value, element_refuses};
 ghost use Rattle.gn_tree.specs.declared.position.Position.{Position};
-ghost use Rattle.gn_scopes.specs.Unread.{reported};
-ghost use Rattle.gn_scopes.specs.Errors.{refusal_of, element_refusal_of, scope_refusal_of, IsReport};
+ghost use Rattle.gn_environment.specs.Unread.{reported};
+ghost use Rattle.gn_layers.specs.Errors.{refusal_of, element_refusal_of};
+ghost use Rattle.gn_scopes.specs.Reports.{scope_refusal_of, IsReport};
 ghost use Rattle.gn_scopes.specs.Found.{IsFound};
-ghost use Rattle.gn_scopes.specs.Named.{key};
-ghost use Rattle.gn_scopes.specs.Lending.{Ends};
-ghost use Rattle.gn_scopes.specs.View.{variable_state};
+ghost use Rattle.gn_layers.specs.Named.{key};
+ghost use Rattle.gn_environment.specs.Lending.{Ends};
+ghost use Rattle.gn_layers.specs.View.{variable_state};
 ghost use Rattle.gn_scopes.specs.contracts.scopes.Scopes.{the_row};
 
-use crate::error::{AssignError, ElementAssignError, ScopeError};
-use crate::key::Key;
-use crate::layer::Layer;
-use crate::variable::Variable;
+use crate::error::ScopeError;
+use gn_layers::{AssignError, ElementAssignError, Key, Layer, Variable};
 use gn_text::Name;
 use gn_tree::{AssignOp, Position};
 use gn_values::Value;
@@ -46,8 +45,8 @@ pub struct Scopes {
 }
 
 impl Model for Scopes {
-    ghost use Rattle.gn_scopes.specs.Layers.{ChainState};
-    ghost use Rattle.gn_scopes.specs.Codes.{chain_code};
+    ghost use Rattle.gn_environment.specs.Layers.{ChainState};
+    ghost use Rattle.gn_environment.specs.Codes.{chain_code};
 
     ghost Value = { ChainState };
 
@@ -134,7 +133,7 @@ impl Scopes {
     }
 
     /// A read of a name that the layers may have, and where it is. It takes no memory.
-    #[tactic(auto, unfolding(crate::specs::Chains::chain_read))]
+    #[tactic(auto, unfolding(gn_environment::specs::Chains::chain_read))]
     pub(crate) fn mark(&mut self, name: &Key) -> Found
         ensures new { self.new ≡ chain_read name.now self.old }
         ensures found { IsFound name.now self.new result }
@@ -149,7 +148,7 @@ impl Scopes {
     }
 
     /// The value of a name that is there.
-    #[tactic(auto, unfolding(crate::specs::Chains::chain_value))]
+    #[tactic(auto, unfolding(gn_environment::specs::Chains::chain_value))]
     pub(crate) fn value_at(&self, name: &Key, found: Found) -> Option<&Value>
         requires { IsFound name.now self.now found }
         ensures { option_map (λ v. val_of v.now) result ≡ chain_value name.now self.now }
@@ -162,7 +161,7 @@ impl Scopes {
     }
 
     /// The value of a name. None comes exactly where no layer has it. It takes no memory.
-    #[tactic(auto, unfolding(crate::specs::Chains::chain_value))]
+    #[tactic(auto, unfolding(gn_environment::specs::Chains::chain_value))]
     pub(crate) fn value(&self, name: &Key) -> Option<&Value>
         ensures { option_map (λ v. val_of v.now) result ≡ chain_value name.now self.now }
     {
@@ -282,7 +281,7 @@ impl Scopes {
 
     /// `name = value`, `name += value` or `name -= value`, whose operator stands at the position, where `beneath` is
     /// what the name has beneath all layers. After a refusal nothing is changed, and the value is dropped.
-    #[tactic(auto, unfolding(crate::specs::Assigning::assigned))]
+    #[tactic(auto, unfolding(gn_environment::specs::Assigning::assigned))]
     pub(crate) fn assign(
         &mut self,
         alloc: Global,
@@ -312,7 +311,7 @@ impl Scopes {
 
     /// `name[at] op= value` or `name.at op= value`, whose operator stands at the position, where `beneath` is what the
     /// name has beneath all layers. After a refusal nothing is changed, and the value is dropped.
-    #[tactic(auto, unfolding(crate::specs::Assigning::element_changed))]
+    #[tactic(auto, unfolding(gn_environment::specs::Assigning::element_changed))]
     pub(crate) fn assign_element(
         &mut self,
         alloc: Global,

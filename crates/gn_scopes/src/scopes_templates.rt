@@ -1,11 +1,11 @@
 // The templates and the defaults of the layers that are open, and what a definition keeps of them.
 
 ghost use Rattle.std.specs.Prelude.{◌≡◌, ◌++◌, [], ◌∷◌, OnOk, OnErr, map};
-ghost use Rattle.gn_scopes.specs.Chains.{all_read, chain_all_read};
-ghost use Rattle.gn_scopes.specs.Templates.{in_block, with_template, with_defaults};
+ghost use Rattle.gn_environment.specs.Chains.{all_read, chain_all_read};
+ghost use Rattle.gn_environment.specs.Templates.{in_block, with_template, with_defaults};
 
-use crate::layer::Layer;
 use crate::scopes::Scopes;
+use gn_layers::Layer;
 use gn_paths::Text;
 use gn_values::{Bindings, Definition, DefinitionName, Definitions};
 use std::alloc::{AllocError, Global};

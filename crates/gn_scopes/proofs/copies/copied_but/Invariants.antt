@@ -1,7 +1,7 @@
 use Rattle.std.proofs.Common.{◌≡◌, ◌∷◌, ◌++◌, map, drop}
 use Rattle.gn_values.specs.View.{entry_of}
-use Rattle.gn_scopes.specs.Forwarding.{target_name}
-use Rattle.gn_scopes.specs.Giving.{entries_but}
+use Rattle.gn_environment.specs.Forwarding.{target_name}
+use Rattle.gn_environment.specs.Giving.{entries_but}
 use Rattle.gn_scopes.proofs.copies.copied_but.Given as goal
 
 abbrev pub invariant-loop-entry : goal.invariant-loop-entry

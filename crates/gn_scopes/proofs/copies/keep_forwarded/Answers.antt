@@ -2,9 +2,9 @@ use Rattle.std.proofs.Common.{◌∷◌, not, map, ap, ◌∙◌, rules}
 use Rattle.std.proofs.lemmas.Fn.{filter_same}
 use Rattle.gn_values.specs.View.{entry_of}
 use Rattle.gn_values.specs.declared.value.Entry.{Entry}
-use Rattle.gn_scopes.specs.Chains.{is_one_of}
-use Rattle.gn_scopes.specs.Forwarding.{target_name}
-use Rattle.gn_scopes.proofs.Forwarded.{but_seen}
+use Rattle.gn_environment.specs.Chains.{is_one_of}
+use Rattle.gn_environment.specs.Forwarding.{target_name}
+use Rattle.gn_scopes.proofs.ForwardedEntries.{but_seen}
 use Rattle.gn_scopes.proofs.copies.keep_forwarded.Goals as goal
 
 pub returns : goal.returns

@@ -1,5 +1,5 @@
 use Rattle.std.proofs.Common.{◌≡◌, ◌≤◌, drop, length}
-use Rattle.gn_scopes.specs.Kept.{layers_texted_over}
+use Rattle.gn_layers.specs.Kept.{layers_texted_over}
 use Rattle.gn_scopes.proofs.named_copies.lay_layers.Given as goal
 
 abbrev pub invariant-loop-i : goal.invariant-loop-i

@@ -1,12 +1,12 @@
-use Rattle.std.proofs.Common.{◌≡◌, ◌∷◌, [], ◌++◌, List, map, sym, ap, ◌∙◌}
+use Rattle.std.proofs.Common.{◌∷◌, [], ◌++◌, List, map, sym, ap, ◌∙◌}
 use Rattle.std.specs.Vec.Iter.{into_iter_items}
 use Rattle.std.proofs.lemmas.List.{append_assoc}
 use Rattle.gn_values.specs.Val.{Val}
 use Rattle.gn_values.specs.View.{entry_of}
 use Rattle.gn_values.specs.declared.value.Entry.{Entry}
 use Rattle.gn_values.specs.Tables.{Table}
-use Rattle.gn_scopes.specs.Named.{texted}
-use Rattle.gn_scopes.specs.View.{value_pairs}
+use Rattle.gn_layers.specs.Named.{texted}
+use Rattle.gn_layers.specs.View.{value_pairs}
 use Rattle.gn_scopes.proofs.NamedGiven.{IsLonger-then}
 use Rattle.gn_scopes.proofs.named_gives.numbered.Goals as goal
 

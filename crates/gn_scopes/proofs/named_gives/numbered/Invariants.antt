@@ -3,8 +3,8 @@ use Rattle.std.specs.List.{AllByRecursion}
 use Rattle.std.specs.Vec.Iter.{into_iter_items}
 use Rattle.gn_text.specs.Names.{AllDifferent}
 use Rattle.gn_values.specs.View.{entry_of}
-use Rattle.gn_scopes.specs.Named.{texted, IsNumber, IsLonger}
-use Rattle.gn_scopes.specs.View.{value_pairs}
+use Rattle.gn_layers.specs.Named.{texted, IsNumber, IsLonger}
+use Rattle.gn_layers.specs.View.{value_pairs}
 use Rattle.gn_scopes.proofs.named_gives.numbered.Given as goal
 
 abbrev pub invariant-loop-entry : goal.invariant-loop-entry

@@ -5,8 +5,8 @@ use Rattle.gn_values.specs.Val.{Val}
 use Rattle.gn_values.specs.View.{val_of}
 use Rattle.gn_values.specs.declared.value.Value.{Value}
 use Rattle.gn_values.specs.Tables.{Table}
-use Rattle.gn_scopes.specs.Named.{key, texted, IsNumber, IsLonger}
-use Rattle.gn_scopes.specs.View.{value_pairs}
+use Rattle.gn_layers.specs.Named.{key, texted, IsNumber, IsLonger}
+use Rattle.gn_layers.specs.View.{value_pairs}
 use Rattle.gn_scopes.proofs.NamedGiven.{IsLonger-with_text, one_more_number, one_more_texted}
 use Rattle.gn_scopes.proofs.named_gives.push_numbered.Goals as goal
 

@@ -1,5 +1,5 @@
 use Rattle.std.proofs.Common.{sym, ◌∙◌, arith}
-use Rattle.gn_scopes.proofs.Outwards.{found_at, lacks_more}
+use Rattle.gn_environment.proofs.Outwards.{found_at, lacks_more}
 use Rattle.gn_scopes.proofs.scopes.find.Goals as goal
 
 pub returns-then-has-clause-some : goal.returns-then-has-clause-some

@@ -1,5 +1,5 @@
 use Rattle.std.proofs.Common.{◌≡◌, take, None}
-use Rattle.gn_scopes.specs.Chains.{variable_of}
+use Rattle.gn_environment.specs.Chains.{variable_of}
 use Rattle.gn_scopes.proofs.scopes.find.Given as goal
 
 abbrev pub invariant-loop-i : goal.invariant-loop-i

@@ -1,8 +1,8 @@
 use Rattle.std.proofs.Common.{List, sym, ap, subst, ◌∙◌, arith}
 use Rattle.std.specs.Prelude.{slice_set}
-use Rattle.gn_scopes.specs.Layers.{LayerState}
-use Rattle.gn_scopes.specs.Chains.{IsFirstAt}
-use Rattle.gn_scopes.proofs.Outwards.{below_length, marked_at_first, marked_nowhere, stays_first}
+use Rattle.gn_environment.specs.Layers.{LayerState}
+use Rattle.gn_environment.specs.Chains.{IsFirstAt}
+use Rattle.gn_environment.proofs.Outwards.{below_length, marked_at_first, marked_nowhere, stays_first}
 use Rattle.gn_scopes.proofs.scopes.mark_first.Goals as goal
 
 pub index_mut-requires : goal.index_mut-requires

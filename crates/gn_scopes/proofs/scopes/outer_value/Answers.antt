@@ -1,5 +1,5 @@
 use Rattle.std.proofs.Common.{sym, ap, ◌∙◌, option_map, arith}
-use Rattle.gn_scopes.proofs.Outwards.{below_length, value_at_first}
+use Rattle.gn_environment.proofs.Outwards.{below_length, value_at_first}
 use Rattle.gn_scopes.proofs.scopes.outer_value.Goals as goal
 
 pub index-requires : goal.index-requires

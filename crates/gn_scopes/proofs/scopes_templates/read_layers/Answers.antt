@@ -1,8 +1,8 @@
 use Rattle.std.proofs.Common.{◌≡◌, length, ap, ◌∙◌, arith, ◌<◌, get_or, List}
 use Rattle.std.specs.Prelude.{slice_set}
-use Rattle.gn_scopes.specs.Layers.{LayerState}
-use Rattle.gn_scopes.specs.Chains.{all_read}
-use Rattle.gn_scopes.proofs.LaidOver.{all_first_read, length_first_read, one_more_read}
+use Rattle.gn_environment.specs.Layers.{LayerState}
+use Rattle.gn_environment.specs.Chains.{all_read}
+use Rattle.gn_scopes.proofs.ReadLayers.{all_first_read, length_first_read, one_more_read}
 use Rattle.gn_scopes.proofs.scopes_templates.read_layers.Goals as goal
 
 pub index_mut-requires : goal.index_mut-requires

@@ -1,5 +1,5 @@
 use Rattle.std.proofs.Common.{◌≡◌}
-use Rattle.gn_scopes.proofs.LaidOver.{first_read}
+use Rattle.gn_scopes.proofs.ReadLayers.{first_read}
 use Rattle.gn_scopes.proofs.scopes_templates.read_layers.Given as goal
 
 abbrev pub invariant-loop-i : goal.invariant-loop-i

@@ -1,12 +1,12 @@
 use Rattle.std.proofs.Common.{Bor, List, ℕ, Some, option_map, sym, ap, ◌∙◌, subst, IfOk}
 use Rattle.gn_values.specs.declared.value.Value.{Value}
 use Rattle.gn_values.specs.View.{val_of}
-use Rattle.gn_scopes.specs.Assigning.{assigned}
-use Rattle.gn_scopes.specs.Errors.{refusal_of}
-use Rattle.gn_scopes.specs.Named.{named_chain, IsNumberedChain}
+use Rattle.gn_environment.specs.Assigning.{assigned}
+use Rattle.gn_layers.specs.Errors.{refusal_of}
+use Rattle.gn_layers.specs.Named.{named_chain, IsNumberedChain}
 use Rattle.gn_scopes.proofs.NamedLayers.{named_answer, assigned_named, assigned_numbered}
 use Rattle.gn_scopes.proofs.Interned.{named_by_interned, numbered_by_interned, ok_by_name, refused_by_name, of_ok}
-use Rattle.gn_scopes.proofs.Outcomes.{on_ok, on_err, if_err, always}
+use Rattle.gn_environment.proofs.Outcomes.{on_ok, on_err, if_err, always}
 use Rattle.gn_scopes.proofs.named_scopes.NamedScopes.assign.Goals as goal
 
 pub invariant_of-self-2 : goal.invariant_of-self-2

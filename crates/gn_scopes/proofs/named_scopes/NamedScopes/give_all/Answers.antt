@@ -1,10 +1,10 @@
 use Rattle.std.proofs.Common.{sym, ap, ◌∙◌, subst}
-use Rattle.gn_scopes.specs.Giving.{all_given}
-use Rattle.gn_scopes.specs.Named.{named_chain, IsNumberedChain}
-use Rattle.gn_scopes.specs.Templates.{in_block}
-use Rattle.gn_scopes.specs.View.{value_pairs}
+use Rattle.gn_environment.specs.Giving.{all_given}
+use Rattle.gn_layers.specs.Named.{named_chain, IsNumberedChain}
+use Rattle.gn_environment.specs.Templates.{in_block}
+use Rattle.gn_layers.specs.View.{value_pairs}
 use Rattle.gn_scopes.proofs.NamedGiven.{seen_longer, numbered_longer, chain_given, chain_given_numbered}
-use Rattle.gn_scopes.proofs.Outcomes.{on_ok, on_err, always, on_err_too}
+use Rattle.gn_environment.proofs.Outcomes.{on_ok, on_err, always, on_err_too}
 use Rattle.gn_scopes.proofs.named_scopes.NamedScopes.give_all.Goals as goal
 
 pub invariant_of-self : goal.invariant_of-self

@@ -1,7 +1,7 @@
 use Rattle.std.proofs.Common.{List, ℕ, Some, is_some, sym, ap, ◌∙◌}
-use Rattle.gn_scopes.specs.Layers.{ChainState}
-use Rattle.gn_scopes.specs.Chains.{variable_in}
-use Rattle.gn_scopes.specs.Named.{key}
+use Rattle.gn_environment.specs.Layers.{ChainState}
+use Rattle.gn_environment.specs.Chains.{variable_in}
+use Rattle.gn_layers.specs.Named.{key}
 use Rattle.gn_scopes.proofs.NamedLayers.{variable_named, variable_lacking}
 use Rattle.gn_scopes.proofs.Interned.{lacking_as}
 use Rattle.gn_scopes.proofs.named_scopes.NamedScopes.has_here.Goals as goal

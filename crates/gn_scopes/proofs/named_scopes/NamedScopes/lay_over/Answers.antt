@@ -1,8 +1,8 @@
 use Rattle.std.proofs.Common.{◌∷◌, ap, ◌∙◌}
-use Rattle.gn_scopes.specs.Kept.{scope_over, scope_texted, layers_over, layers_texted_over}
-use Rattle.gn_scopes.specs.Layers.{ChainState}
+use Rattle.gn_layers.specs.Kept.{scope_over, scope_texted, layers_over, layers_texted_over}
+use Rattle.gn_environment.specs.Layers.{ChainState}
 use Rattle.gn_scopes.proofs.NamedLaid.{in_order, layers_texted}
-use Rattle.gn_scopes.proofs.Outcomes.{on_ok}
+use Rattle.gn_environment.proofs.Outcomes.{on_ok}
 use Rattle.gn_scopes.proofs.named_scopes.NamedScopes.lay_over.Goals as goal
 
 pub returns : goal.returns

@@ -1,8 +1,8 @@
 use Rattle.std.proofs.Common.{◌≡◌, ap, ◌∙◌, subst, IfOk}
 use Rattle.gn_values.specs.Imported.{ScopeState}
-use Rattle.gn_scopes.specs.Imports.{scope_left}
-use Rattle.gn_scopes.specs.Kept.{public_scope}
-use Rattle.gn_scopes.specs.Layers.{ChainState}
+use Rattle.gn_environment.specs.Imports.{scope_left}
+use Rattle.gn_layers.specs.Kept.{public_scope}
+use Rattle.gn_environment.specs.Layers.{ChainState}
 use Rattle.gn_scopes.proofs.NamedLaid.{layer_texted}
 use Rattle.gn_scopes.proofs.named_scopes.NamedScopes.leave_public.Goals as goal
 

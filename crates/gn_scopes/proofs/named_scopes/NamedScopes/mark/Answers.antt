@@ -1,6 +1,6 @@
 use Rattle.std.proofs.Common.{List, ℕ, Some, sym, ap, ◌∙◌, subst}
-use Rattle.gn_scopes.specs.Chains.{chain_read}
-use Rattle.gn_scopes.specs.Named.{named_chain, IsNumberedChain}
+use Rattle.gn_environment.specs.Chains.{chain_read}
+use Rattle.gn_layers.specs.Named.{named_chain, IsNumberedChain}
 use Rattle.gn_scopes.proofs.NamedLayers.{chain_read_named, chain_read_numbered, chain_read_lacking}
 use Rattle.gn_scopes.proofs.Interned.{lacking_as}
 use Rattle.gn_scopes.proofs.named_scopes.NamedScopes.mark.Goals as goal

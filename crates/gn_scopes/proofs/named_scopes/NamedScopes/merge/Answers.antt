@@ -1,12 +1,12 @@
 use Rattle.std.proofs.Common.{sym, ap, ◌∙◌, subst}
-use Rattle.gn_scopes.specs.Giving.{all_given}
-use Rattle.gn_scopes.specs.Imports.{with_imported_calls}
-use Rattle.gn_scopes.specs.Layers.{LayerState}
-use Rattle.gn_scopes.specs.Named.{named_chain, IsNumberedChain}
-use Rattle.gn_scopes.specs.Templates.{in_block}
-use Rattle.gn_scopes.specs.View.{value_pairs}
+use Rattle.gn_environment.specs.Giving.{all_given}
+use Rattle.gn_environment.specs.Imports.{with_imported_calls}
+use Rattle.gn_environment.specs.Layers.{LayerState}
+use Rattle.gn_layers.specs.Named.{named_chain, IsNumberedChain}
+use Rattle.gn_environment.specs.Templates.{in_block}
+use Rattle.gn_layers.specs.View.{value_pairs}
 use Rattle.gn_scopes.proofs.NamedGiven.{seen_longer, numbered_longer, chain_merged, chain_merged_numbered}
-use Rattle.gn_scopes.proofs.Outcomes.{on_ok, on_err, always, on_err_too}
+use Rattle.gn_environment.proofs.Outcomes.{on_ok, on_err, always, on_err_too}
 use Rattle.gn_scopes.proofs.named_scopes.NamedScopes.merge.Goals as goal
 
 pub invariant_of-self : goal.invariant_of-self

@@ -1,6 +1,6 @@
 use Rattle.std.proofs.Common.{◌≡◌, map, drop}
 use Rattle.gn_values.specs.View.{entry_of}
-use Rattle.gn_scopes.specs.Imports.{first_name, other_value}
+use Rattle.gn_environment.specs.Imports.{first_name, other_value}
 use Rattle.gn_scopes.proofs.named_scopes.NamedScopes.other_value.Given as goal
 
 abbrev pub invariant-loop-entry : goal.invariant-loop-entry

@@ -1,5 +1,5 @@
 use Rattle.std.proofs.Common.{map, sym, ap, ◌∙◌}
-use Rattle.gn_scopes.specs.Layers.{LayerState, ChainState}
+use Rattle.gn_environment.specs.Layers.{LayerState, ChainState}
 use Rattle.gn_scopes.proofs.NamedLayers.{templates_of_named, defaults_of_named}
 use Rattle.gn_scopes.proofs.named_scopes.NamedScopes.outer.Goals as goal
 

@@ -1,12 +1,12 @@
 use Rattle.std.proofs.Common.{List, ℕ, Some, sym, ap, ◌∙◌, subst}
-use Rattle.gn_scopes.specs.Layers.{LayerState}
-use Rattle.gn_scopes.specs.View.{variable_state}
-use Rattle.gn_scopes.specs.Chains.{set_in}
-use Rattle.gn_scopes.specs.Named.{named_chain, IsNumberedChain}
-use Rattle.gn_scopes.specs.Templates.{in_block}
+use Rattle.gn_environment.specs.Layers.{LayerState}
+use Rattle.gn_layers.specs.View.{variable_state}
+use Rattle.gn_environment.specs.Chains.{set_in}
+use Rattle.gn_layers.specs.Named.{named_chain, IsNumberedChain}
+use Rattle.gn_environment.specs.Templates.{in_block}
 use Rattle.gn_scopes.proofs.NamedLayers.{set_named, set_numbered}
 use Rattle.gn_scopes.proofs.Interned.{inner_numbered, named_by_interned, numbered_by_interned}
-use Rattle.gn_scopes.proofs.Outcomes.{on_ok, on_err, always}
+use Rattle.gn_environment.proofs.Outcomes.{on_ok, on_err, always}
 use Rattle.gn_scopes.proofs.named_scopes.NamedScopes.put.Goals as goal
 
 pub invariant_of-self-2 : goal.invariant_of-self-2

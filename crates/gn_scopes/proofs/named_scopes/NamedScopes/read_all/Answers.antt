@@ -1,6 +1,6 @@
 use Rattle.std.proofs.Common.{sym, ap, ◌∙◌, subst}
-use Rattle.gn_scopes.specs.Chains.{chain_all_read}
-use Rattle.gn_scopes.specs.Named.{named_chain, IsNumberedChain}
+use Rattle.gn_environment.specs.Chains.{chain_all_read}
+use Rattle.gn_layers.specs.Named.{named_chain, IsNumberedChain}
 use Rattle.gn_scopes.proofs.NamedLayers.{named_chain_all_read, chain_all_read_numbered}
 use Rattle.gn_scopes.proofs.named_scopes.NamedScopes.read_all.Goals as goal
 

@@ -1,8 +1,8 @@
 use Rattle.std.proofs.Common.{sym, ap, ◌∙◌, subst}
-use Rattle.gn_scopes.specs.Layers.{LayerState}
-use Rattle.gn_scopes.specs.Chains.{all_read}
-use Rattle.gn_scopes.specs.Named.{named_chain, IsNumberedChain}
-use Rattle.gn_scopes.specs.Templates.{in_block}
+use Rattle.gn_environment.specs.Layers.{LayerState}
+use Rattle.gn_environment.specs.Chains.{all_read}
+use Rattle.gn_layers.specs.Named.{named_chain, IsNumberedChain}
+use Rattle.gn_environment.specs.Templates.{in_block}
 use Rattle.gn_scopes.proofs.NamedLayers.{named_all_read, all_read_numbered}
 use Rattle.gn_scopes.proofs.Interned.{inner_numbered}
 use Rattle.gn_scopes.proofs.named_scopes.NamedScopes.read_all_here.Goals as goal

@@ -1,8 +1,8 @@
 use Rattle.std.proofs.Common.{List, ℕ, Some, sym, ap, ◌∙◌, subst}
-use Rattle.gn_scopes.specs.Layers.{LayerState}
-use Rattle.gn_scopes.specs.Chains.{read_in}
-use Rattle.gn_scopes.specs.Named.{named_chain, IsNumberedChain}
-use Rattle.gn_scopes.specs.Templates.{in_block}
+use Rattle.gn_environment.specs.Layers.{LayerState}
+use Rattle.gn_environment.specs.Chains.{read_in}
+use Rattle.gn_layers.specs.Named.{named_chain, IsNumberedChain}
+use Rattle.gn_environment.specs.Templates.{in_block}
 use Rattle.gn_scopes.proofs.NamedLayers.{read_named, read_numbered, read_lacking}
 use Rattle.gn_scopes.proofs.Interned.{inner_numbered, lacking_as}
 use Rattle.gn_scopes.proofs.named_scopes.NamedScopes.read_here.Goals as goal

@@ -1,6 +1,6 @@
 use Rattle.std.proofs.Common.{◌≡◌, drop}
-use Rattle.gn_scopes.specs.Chains.{names_read}
-use Rattle.gn_scopes.specs.Templates.{in_block}
+use Rattle.gn_environment.specs.Chains.{names_read}
+use Rattle.gn_environment.specs.Templates.{in_block}
 use Rattle.gn_scopes.proofs.named_scopes.NamedScopes.read_names_here.Given as goal
 
 abbrev pub invariant-loop-name : goal.invariant-loop-name

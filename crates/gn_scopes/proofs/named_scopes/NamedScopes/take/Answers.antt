@@ -1,9 +1,9 @@
 use Rattle.std.proofs.Common.{List, ℕ, None, Some, option_map, sym, ap, ◌∙◌, subst}
-use Rattle.gn_scopes.specs.Layers.{LayerState, ChainState}
-use Rattle.gn_scopes.specs.View.{variable_state}
-use Rattle.gn_scopes.specs.Chains.{variable_in, set_in}
-use Rattle.gn_scopes.specs.Named.{named_chain, IsNumberedChain}
-use Rattle.gn_scopes.specs.Templates.{in_block}
+use Rattle.gn_environment.specs.Layers.{LayerState, ChainState}
+use Rattle.gn_layers.specs.View.{variable_state}
+use Rattle.gn_environment.specs.Chains.{variable_in, set_in}
+use Rattle.gn_layers.specs.Named.{named_chain, IsNumberedChain}
+use Rattle.gn_environment.specs.Templates.{in_block}
 use Rattle.gn_scopes.proofs.NamedLayers.{variable_named, variable_lacking, set_named, set_numbered, unset_lacking}
 use Rattle.gn_scopes.proofs.Interned.{inner_numbered, lacking_as}
 use Rattle.gn_scopes.proofs.named_scopes.NamedScopes.take.Goals as goal

@@ -1,5 +1,5 @@
 use Rattle.std.proofs.Common.{List, ℕ, Some, option_map, sym, ap, ◌∙◌}
-use Rattle.gn_scopes.specs.Chains.{chain_value}
+use Rattle.gn_environment.specs.Chains.{chain_value}
 use Rattle.gn_scopes.proofs.NamedLayers.{chain_value_named, chain_value_lacking}
 use Rattle.gn_scopes.proofs.Interned.{lacking_as}
 use Rattle.gn_scopes.proofs.named_scopes.NamedScopes.value.Goals as goal

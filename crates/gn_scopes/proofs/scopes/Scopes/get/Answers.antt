@@ -1,7 +1,7 @@
 use Rattle.std.proofs.Common.{refl, ap, ◌∙◌}
-use Rattle.gn_scopes.specs.Chains.{chain_value, chain_read}
-use Rattle.gn_scopes.specs.Named.{key}
-use Rattle.gn_scopes.proofs.Outwards.{chain_value-chain_read}
+use Rattle.gn_environment.specs.Chains.{chain_value, chain_read}
+use Rattle.gn_layers.specs.Named.{key}
+use Rattle.gn_environment.proofs.Outwards.{chain_value-chain_read}
 use Rattle.gn_scopes.proofs.scopes.Scopes.get.Goals as goal
 
 pub returns : goal.returns

@@ -1,10 +1,10 @@
 use Rattle.std.proofs.Common.{◌≡◌, ℕ, List, None, sym, subst, ap, ◌∙◌, arith}
-use Rattle.gn_scopes.specs.Layers.{ChainState}
+use Rattle.gn_environment.specs.Layers.{ChainState}
 use Rattle.gn_scopes.specs.Found.{IsFound}
 use Rattle.gn_scopes.specs.declared.scopes.Found.{Found}
 use Rattle.gn_scopes.specs.declared.scopes.Found.TheVariants.{Outer}
-use Rattle.gn_scopes.specs.Chains.{variable_in, chain_value, IsFirstAt}
-use Rattle.gn_scopes.proofs.Outwards.{below_length, found_outer}
+use Rattle.gn_environment.specs.Chains.{variable_in, chain_value, IsFirstAt}
+use Rattle.gn_environment.proofs.Outwards.{below_length, found_outer}
 use Rattle.gn_scopes.proofs.scopes.Scopes.value_at.Goals as goal
 
 found_there : (name : List ℕ) (chain whole : ChainState) (found : Found) (i : ℕ) → chain ≡ whole → found ≡ Outer i → IsFound name whole found → (variable_in name chain.inner ≡ None) × IsFirstAt name chain.outer i

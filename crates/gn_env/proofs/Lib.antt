@@ -1,0 +1,4 @@
+pub mod Forwarded
+pub mod Merging
+pub mod InScope
+pub mod Searched

@@ -1,0 +1,56 @@
+// The callers of templates whose bodies run.
+
+ghost use Rattle.std.specs.Prelude.{◌≡◌, option_map};
+ghost use Rattle.gn_environment.specs.Chains.{chain_left};
+
+use gn_paths::Text;
+use gn_scopes::NamedScopes;
+use gn_values::Definition;
+use std::marker::Model;
+use std::sync::Arc;
+
+/// Who called the template whose body runs: the layers there, the definition whose body runs in them, if it is one, and
+/// the file.
+#[derive(Drop)]
+pub(crate) struct Caller {
+    pub(crate) scopes: NamedScopes,
+    pub(crate) body: Option<Arc<Definition>>,
+    pub(crate) file: Text,
+}
+
+impl Model for Caller {
+    ghost use Rattle.std.specs.Prelude.{option_map};
+    ghost use Rattle.gn_environment.specs.Environment.{Caller as CallerState};
+    ghost use Rattle.gn_environment.specs.Codes.{caller_code};
+
+    ghost Value = { CallerState };
+
+    ghost coded = { caller_code };
+
+    ghost view = { λ a. record { chain = a.scopes; body = option_map (λ d. d.value) a.body; file = a.file } };
+}
+
+impl Caller {
+    /// Lets what was open where the caller called, but for the scope of its call's block, take the place of these scopes,
+    /// of this body and of this file. It takes no memory.
+    pub(crate) fn back_in(
+        self,
+        scopes: &mut NamedScopes,
+        body: &mut Option<Arc<Definition>>,
+        file: &mut Text,
+    )
+        ensures scopes { scopes.new ≡ chain_left self.chain }
+        ensures body { option_map (λ d. d.value) body.new ≡ self.body }
+        ensures file { file.new ≡ self.file }
+    {
+        let Caller {
+            scopes: around,
+            body: running,
+            file: named,
+        } = self;
+        *scopes = around;
+        *body = running;
+        *file = named;
+        scopes.leave();
+    }
+}

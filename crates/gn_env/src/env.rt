@@ -1,0 +1,445 @@
+// The environment of an evaluation.
+
+ghost use types.Logic.{sem};
+ghost use Rattle.std.specs.Prelude.{◌≡◌, ◌≢◌, ◌++◌, OnOk, OnErr, IfOk, IfErr, IfSome, true, false, map, option_map};
+ghost use Rattle.gn_values.specs.Limits.{scope_fits};
+ghost use Rattle.gn_values.specs.View.{val_of};
+ghost use Rattle.gn_environment.specs.Environment.{new_environment, fixed_value, kept_by, value_of, after_read, after_assignment, after_assignment_over, after_element_assignment, after_element_assignment_over, entered, left, entries_here, reported_here, variable_here, restored, given, in_item};
+ghost use Rattle.gn_environment.specs.Faults.{fault_in};
+ghost use Rattle.gn_layers.specs.Errors.{refusal_of, element_refusal_of};
+ghost use Rattle.gn_environment.specs.Lending.{Ends};
+ghost use Rattle.gn_layers.specs.View.{variable_state};
+ghost use Rattle.gn_env.specs.contracts.env.Env.{the_row};
+
+use crate::caller::Caller;
+use gn_faults::{Code, Fault, FileKind, Stage};
+use gn_layers::{AssignError, ElementAssignError, Variable};
+use gn_paths::{Path, Place, Text, Texts};
+use gn_scopes::NamedScopes;
+use gn_tree::{AssignOp, Position};
+use gn_values::{Definition, Definitions, Entries, KeptScope, MadeBy, Value, ValueError};
+use std::alloc::{AllocError, Global};
+use std::collections::VecDeque;
+use std::marker::Model;
+use std::sync::Arc;
+
+/// The environment of an evaluation: the scopes that are open, what stands beneath them, and where the evaluation takes
+/// place.
+///
+/// A name is looked up in the scopes outwards, then in the layers beneath them, in order. An assignment goes to the
+/// innermost scope. Looking a name up takes a number of comparisons that is logarithmic in the names of each layer.
+#[derive(Drop)]
+pub struct Env {
+    pub(crate) stage: Stage,
+    pub(crate) toolchain: Text,
+    pub(crate) file: Text,
+    pub(crate) directory: Path,
+    pub(crate) kind: FileKind,
+    pub(crate) in_item: bool,
+    pub(crate) scopes: NamedScopes,
+    pub(crate) body: Option<Arc<Definition>>,
+    pub(crate) callers: VecDeque<Caller>,
+    pub(crate) beneath: Vec<Arc<KeptScope>>,
+    pub(crate) execution: Text,
+    pub(crate) made: Definitions,
+    pub(crate) definitions: MadeBy,
+    pub(crate) depth: usize,
+}
+
+impl Model for Env {
+    ghost use Rattle.std.specs.Prelude.{map, option_map};
+    ghost use Rattle.gn_environment.specs.Environment.{Environment};
+    ghost use Rattle.gn_environment.specs.Codes.{environment_code};
+
+    ghost Value = { Environment };
+
+    ghost coded = { environment_code };
+
+    ghost view = { λ a. record {
+      setting = record { stage = a.stage; toolchain = a.toolchain; file = a.file; directory = a.directory; kind = a.kind; in_item = a.in_item };
+      chain = a.scopes;
+      body = option_map (λ d. d.value) a.body;
+      callers = a.callers.items;
+      beneath = map (λ f. f.value) a.beneath.items;
+      execution = a.execution;
+      made = a.made;
+      definitions = a.definitions;
+      depth = a.depth;
+    } };
+}
+
+impl Env {
+    /// An environment of one scope, in which nothing is set, no block of an item is open and no template's body runs.
+    /// `file` is the file that its places name, `directory` the current directory, `kind` as what the file is evaluated,
+    /// `execution` the name of this execution, by which the definitions that it makes are named, `checked` says whether
+    /// the scope's end reports a name that nothing reads, and `beneath` is what a read searches behind the scopes. It
+    /// takes no memory.
+    #[tactic(auto, unfolding(gn_environment::specs::Environment::new_environment))]
+    pub fn new(
+        alloc: Global,
+        stage: Stage,
+        toolchain: Text,
+        file: Text,
+        directory: Path,
+        kind: FileKind,
+        execution: Text,
+        checked: bool,
+        beneath: Vec<Arc<KeptScope>>,
+    ) -> Env
+        ensures { result
+            ≡ new_environment
+            (record { stage = stage; toolchain = toolchain; file = file; directory = directory; kind = kind; in_item = false })
+            execution checked (map (λ f. f.value) beneath.items) }
+    {
+        Env {
+            stage,
+            toolchain,
+            file,
+            directory,
+            kind,
+            in_item: false,
+            scopes: NamedScopes::new(alloc, checked),
+            body: None,
+            callers: VecDeque::new(alloc),
+            beneath,
+            execution,
+            made: Definitions::new(alloc),
+            definitions: MadeBy::new(alloc),
+            depth: 0,
+        }
+    }
+
+    /// The toolchain that the faults of the evaluation have: its label, or the empty text for the default one.
+    pub fn toolchain(&self) -> &Text
+        ensures { result.now ≡ self.now.setting.toolchain }
+    {
+        &self.toolchain
+    }
+
+    /// The file that places of the evaluation name.
+    pub fn file(&self) -> &Text
+        ensures { result.now ≡ self.now.setting.file }
+    {
+        &self.file
+    }
+
+    /// The current directory.
+    pub fn directory(&self) -> &Path
+        ensures { result.now ≡ self.now.setting.directory }
+    {
+        &self.directory
+    }
+
+    /// As what the file is evaluated.
+    pub fn kind(&self) -> FileKind
+        ensures { result ≡ self.now.setting.kind }
+    {
+        self.kind
+    }
+
+    /// Whether the block of an item is open.
+    pub fn in_item(&self) -> bool
+        ensures { result ≡ self.now.setting.in_item }
+    {
+        self.in_item
+    }
+
+    /// Says whether the block of an item is open.
+    pub fn set_in_item(&mut self, inside: bool)
+        ensures new { self.new ≡ in_item inside self.old }
+    {
+        self.in_item = inside;
+    }
+
+    /// The depth of the evaluation: the sum over the template calls that are open.
+    pub fn depth(&self) -> usize
+        ensures { result ≡ self.now.depth }
+    {
+        self.depth
+    }
+
+    /// The value of a name, which counts as read from then on. None comes exactly where it has none. It takes no
+    /// memory.
+    pub fn look(&mut self, name: &Text) -> Option<&Value>
+        ensures* read { sem 𝓛 (Ends the_row self.entry
+            (λ env. env ≡ after_read name.now self.old)) }
+        ensures value { option_map (λ v. val_of v.now) result ≡ value_of name.now self.old }
+    {
+        self.mark(name);
+        self.value(name)
+    }
+
+    /// `name = value`, `name += value` or `name -= value`, whose operator stands at the position. `Overwrite` comes
+    /// exactly where `=` would put a nonempty list or scope over a nonempty one of its kind in the innermost scope,
+    /// `Undefined` where `+=` or `-=` find no value, and `Value` where the operator refuses the two values. After a
+    /// refusal nothing is changed, and the value is dropped. `+=` on a name of the innermost scope copies nothing of
+    /// what it has.
+    #[tactic(auto, unfolding(gn_environment::specs::Environment::after_assignment))]
+    pub fn assign(
+        &mut self,
+        alloc: Global,
+        name: &Text,
+        op: AssignOp,
+        value: Value,
+        position: Position,
+    ) -> Result<(), AssignError>
+        ensures ok { OnOk result
+            (after_assignment name.now op (val_of value) position self.old ≡ Ok self.new) }
+        ensures refused { IfErr result
+            (λ e. IfSome (refusal_of e)
+            (λ r. after_assignment name.now op (val_of value) position self.old ≡ Err r)) }
+        ensures err { OnErr result (self.new ≡ self.old) }
+    {
+        let behind = behind_value(&self.body, &self.beneath, name);
+        self.scopes.assign(alloc, name, op, value, position, behind)
+    }
+
+    /// What `assign` does where `old` is what the name has behind the scopes. `Undefined` doesn't come.
+    #[tactic(auto, unfolding(gn_environment::specs::Environment::after_assignment_over))]
+    pub fn assign_over(
+        &mut self,
+        alloc: Global,
+        old: &Value,
+        name: &Text,
+        op: AssignOp,
+        value: Value,
+        position: Position,
+    ) -> Result<(), AssignError>
+        ensures ok { OnOk result
+            (after_assignment_over (val_of old.now) name.now op (val_of value) position self.old
+            ≡ Ok self.new) }
+        ensures refused { IfErr result
+            (λ e. IfSome (refusal_of e)
+            (λ r. after_assignment_over (val_of old.now) name.now op (val_of value) position self.old
+            ≡ Err r)) }
+        ensures err { OnErr result (self.new ≡ self.old) }
+    {
+        self.scopes
+            .assign(alloc, name, op, value, position, Some(old))
+    }
+
+    /// `name[at] op= value` or `name.at op= value`, whose operator stands at the position: an assignment of `name`.
+    /// `Undefined` comes exactly where the name has no value, `Subscript` where its value has no such element, and
+    /// `Operator` where the operator refuses or the value would be above a limit. After a refusal nothing is changed,
+    /// and the value is dropped.
+    #[tactic(auto, unfolding(gn_environment::specs::Environment::after_element_assignment))]
+    pub fn assign_element(
+        &mut self,
+        alloc: Global,
+        name: &Text,
+        at: &Value,
+        op: AssignOp,
+        value: Value,
+        position: Position,
+    ) -> Result<(), ElementAssignError>
+        ensures ok { OnOk result
+            (after_element_assignment name.now (val_of at.now) op (val_of value) position self.old
+            ≡ Ok self.new) }
+        ensures refused { IfErr result
+            (λ e. IfSome (element_refusal_of e)
+            (λ r. after_element_assignment name.now (val_of at.now) op (val_of value) position self.old
+            ≡ Err r)) }
+        ensures err { OnErr result (self.new ≡ self.old) }
+    {
+        let behind = behind_value(&self.body, &self.beneath, name);
+        self.scopes
+            .assign_element(alloc, name, at, op, value, position, behind)
+    }
+
+    /// What `assign_element` does where `old` is what the name has behind the scopes. `Undefined` doesn't come.
+    #[tactic(auto, unfolding(gn_environment::specs::Environment::after_element_assignment_over))]
+    pub fn assign_element_over(
+        &mut self,
+        alloc: Global,
+        old: &Value,
+        name: &Text,
+        at: &Value,
+        op: AssignOp,
+        value: Value,
+        position: Position,
+    ) -> Result<(), ElementAssignError>
+        ensures ok { OnOk result
+            (after_element_assignment_over (val_of old.now) name.now (val_of at.now) op (val_of value)
+            position self.old ≡ Ok self.new) }
+        ensures refused { IfErr result
+            (λ e. IfSome (element_refusal_of e)
+            (λ r. after_element_assignment_over (val_of old.now) name.now (val_of at.now) op
+            (val_of value) position self.old ≡ Err r)) }
+        ensures err { OnErr result (self.new ≡ self.old) }
+    {
+        self.scopes
+            .assign_element(alloc, name, at, op, value, position, Some(old))
+    }
+
+    /// Opens a scope, in which nothing is set. After want of memory nothing is changed.
+    #[tactic(auto, unfolding(gn_environment::specs::Environment::entered))]
+    pub fn enter(&mut self, checked: bool) -> Result<(), AllocError>
+        ensures ok { OnOk result (self.new ≡ entered checked self.old) }
+        ensures err { OnErr result (self.new ≡ self.old) }
+    {
+        self.scopes.enter(checked)
+    }
+
+    /// Ends the innermost scope, and lets go of what it has. It takes no memory.
+    #[tactic(auto, unfolding(gn_environment::specs::Environment::left))]
+    pub fn leave(&mut self)
+        ensures new { self.new ≡ left self.old }
+    {
+        self.scopes.leave();
+    }
+
+    /// Ends the innermost scope, and answers the names that were set in it with their values, which aren't copied.
+    /// `TooLong` comes exactly where they would nest too deep for a scope's value. The scope ends whatever the answer.
+    #[tactic(auto, unfolding(gn_environment::specs::Environment::left, gn_environment::specs::Environment::entries_here))]
+    pub fn leave_with_entries(&mut self, alloc: Global) -> Result<Entries, ValueError>
+        ensures ok { IfOk result (λ entries. entries ≡ entries_here self.old) }
+        ensures fits { OnOk result (scope_fits (entries_here self.old) ≡ true) }
+        ensures refused { IfErr result
+            (λ e. e ≢ ValueError.Memory
+            → (e ≡ ValueError.TooLong) × (scope_fits (entries_here self.old) ≡ false)) }
+        ensures new { self.new ≡ left self.old }
+    {
+        let bindings = self.scopes.leave_with_bindings(alloc)?;
+        Entries::from_bindings(bindings)
+    }
+
+    /// What the end of the innermost scope reports: the name that nothing read and whose last assignment stands first,
+    /// and where that stands. None comes exactly where the scope isn't checked or every name was read. It takes no
+    /// memory.
+    #[tactic(auto, unfolding(gn_environment::specs::Environment::reported_here))]
+    pub fn unread(&self) -> Option<(&[u8], Position)>
+        ensures { option_map (λ p. (p.0.now, p.1)) result ≡ reported_here self.now }
+    {
+        self.scopes.unread()
+    }
+
+    /// Takes a name out of the innermost scope, and answers what it stood for there. It takes no memory.
+    #[tactic(auto, unfolding(gn_environment::specs::Environment::variable_here, gn_environment::specs::Environment::restored))]
+    pub fn put_aside(&mut self, name: &Text) -> Option<Variable>
+        ensures value { option_map variable_state result ≡ variable_here name.now self.old }
+        ensures new { self.new ≡ restored name.now None self.old }
+    {
+        self.scopes.take(name)
+    }
+
+    /// Lets a name of the innermost scope stand for what it stood for before, or for nothing. After want of memory
+    /// nothing is changed, and the variable is dropped.
+    #[tactic(auto, unfolding(gn_environment::specs::Environment::restored))]
+    pub fn restore(
+        &mut self,
+        alloc: Global,
+        name: &Text,
+        variable: Option<Variable>,
+    ) -> Result<(), AllocError>
+        ensures ok { OnOk result
+            (self.new ≡ restored name.now (option_map variable_state variable) self.old) }
+        ensures err { OnErr result (self.new ≡ self.old) }
+    {
+        match variable {
+            Some(variable) => self.scopes.put(name, variable),
+            None => {
+                let _gone = self.scopes.take(name);
+                Ok(())
+            }
+        }
+    }
+
+    /// Gives a name a value in the innermost scope without an assignment: it counts as read. After want of memory
+    /// nothing is changed, and the value is dropped.
+    #[tactic(auto, unfolding(gn_environment::specs::Environment::given))]
+    pub fn give(&mut self, alloc: Global, name: &Text, value: Value) -> Result<(), AllocError>
+        ensures ok { OnOk result (self.new ≡ given name.now (val_of value) self.old) }
+        ensures err { OnErr result (self.new ≡ self.old) }
+    {
+        let variable = Variable {
+            value,
+            unread: None,
+        };
+        self.restore(alloc, name, Some(variable))
+    }
+
+    /// The fault with this code and these details at a position of the file that is evaluated.
+    pub fn fault(
+        &self,
+        alloc: Global,
+        code: Code,
+        position: Position,
+        detail: Texts,
+    ) -> Result<Fault, AllocError>
+        ensures { IfOk result (λ f. f ≡ fault_in self.now.setting position code detail) }
+    {
+        let place = self.place(alloc, position)?;
+        let toolchain = self.toolchain.copy(alloc)?;
+        Ok(Fault {
+            stage: self.stage,
+            place: Some(place),
+            toolchain,
+            code,
+            detail,
+        })
+    }
+
+    /// The place of a position of the file that is evaluated.
+    pub(crate) fn place(&self, alloc: Global, position: Position) -> Result<Place, AllocError>
+        ensures { IfOk result (λ p. p
+            ≡ record { file = self.now.setting.file; line = position.line; column = position.column }) }
+    {
+        let file = self.file.copy(alloc)?;
+        Ok(Place {
+            file,
+            line: position.line,
+            column: position.column,
+        })
+    }
+
+    // A read of a name that it may have.
+    #[tactic(auto, unfolding(gn_environment::specs::Environment::after_read))]
+    fn mark(&mut self, name: &Text)
+        ensures { self.new ≡ after_read name.now self.old }
+    {
+        self.scopes.mark(name);
+    }
+
+    // The value of a name in the scopes, or else behind them.
+    #[tactic(auto, unfolding(gn_environment::specs::Environment::value_of))]
+    fn value(&self, name: &Text) -> Option<&Value>
+        ensures { option_map (λ v. val_of v.now) result ≡ value_of name.now self.now }
+    {
+        match self.scopes.value(name) {
+            Some(value) => Some(value),
+            None => behind_value(&self.body, &self.beneath, name),
+        }
+    }
+}
+
+// What a name has behind the scopes: in what the body keeps, or else in the first of the scopes beneath that has it.
+fn behind_value<'a>(
+    body: &'a Option<Arc<Definition>>,
+    beneath: &'a [Arc<KeptScope>],
+    name: &Text,
+) -> Option<&'a Value>
+    ensures { option_map (λ v. val_of v.now) result
+        ≡ fixed_value name.now
+        (kept_by (option_map (λ d. d.value) body.now) ++ map (λ f. f.value) beneath.now) }
+{
+    let Some(definition) = body else {
+        return fixed_value(beneath, name);
+    };
+    match definition.scope().variables().get(name.as_bytes()) {
+        Some(value) => Some(value),
+        None => fixed_value(beneath, name),
+    }
+}
+
+// The value that the first of the scopes that has the name has at it.
+fn fixed_value<'a>(scopes: &'a [Arc<KeptScope>], name: &Text) -> Option<&'a Value>
+    ensures { option_map (λ v. val_of v.now) result
+        ≡ fixed_value name.now (map (λ f. f.value) scopes.now) }
+{
+    for scope in scopes {
+        if let Some(value) = scope.variables().get(name.as_bytes()) {
+            return Some(value);
+        }
+    }
+    None
+}

@@ -1,0 +1,14 @@
+//! The environment of an evaluation: its scopes, what stands behind them, templates, the invoker, and what imports leave.
+#![tactic(auto)]
+
+mod caller;
+mod env;
+mod forwarding;
+mod imports;
+mod invoker;
+mod templates;
+
+pub use env::Env;
+pub use forwarding::{ForwardError, Origin};
+pub use imports::MergeError;
+pub use templates::GiveError;

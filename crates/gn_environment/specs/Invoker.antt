@@ -1,0 +1,66 @@
+-- The invoker: inside a template's body, the scope of the block of its call, by the name `invoker`.
+use Rattle.std.specs.Prelude.{ℕ, Bool, true, false, ◌&&◌, not, List, [], ◌∷◌, Option, None, option_map, is_some, codes}
+use Rattle.std.specs.Str.{bytes_eq}
+use Rattle.gn_values.specs.Val.{Val}
+use Rattle.gn_values.specs.Tables.{Table}
+use Rattle.gn_environment.specs.Layers.{values_in}
+use Rattle.gn_environment.specs.Chains.{variable_in, nearest, read_in, all_read, all_read_but, names_read, chain_value, chain_read}
+use Rattle.gn_environment.specs.Environment.{Caller, Environment, fixed_value, kept_by}
+use Rattle.gn_environment.specs.Templates.{with_caller, in_block}
+
+abbrev pub invoker_name : List ℕ
+invoker_name = codes "invoker"
+
+abbrev pub is_called : List Caller → Bool
+is_called [] = false
+is_called (c ∷ cs) = true
+
+-- whether a name is the invoker: it is so named, the body of a template runs, and no layer of it has the name
+unfoldable pub names_invoker : List ℕ → Environment → Bool
+names_invoker name env = bytes_eq name invoker_name && (is_called env.callers && not (is_some (chain_value name env.chain)))
+
+-- the names that stand directly in the block of the call, with their values
+abbrev pub entries_by : List Caller → Table Val
+entries_by [] = []
+entries_by (c ∷ cs) = values_in c.chain.inner
+
+unfoldable pub invoker_entries : Environment → Table Val
+invoker_entries env = entries_by env.callers
+
+-- what it has directly at a name
+abbrev pub entry_by : List ℕ → List Caller → Option Val
+entry_by name [] = None
+entry_by name (c ∷ cs) = option_map (λ v. v.value) (variable_in name c.chain.inner)
+
+unfoldable pub invoker_entry : List ℕ → Environment → Option Val
+invoker_entry name env = entry_by name env.callers
+
+-- the environment with the innermost caller's layers changed
+
+-- a read of one of its names
+unfoldable pub after_invoker_entry_read : List ℕ → Environment → Environment
+after_invoker_entry_read name env = record env { callers = with_caller (in_block (read_in name)) env.callers }
+
+-- a read of all its names
+unfoldable pub after_invoker_read : Environment → Environment
+after_invoker_read env = record env { callers = with_caller (in_block all_read) env.callers }
+
+-- a read of all its names but these
+unfoldable pub after_invoker_read_but : List (List ℕ) → Environment → Environment
+after_invoker_read_but except env = record env { callers = with_caller (in_block (all_read_but except)) env.callers }
+
+-- a read of these of its names, but for the excepted ones
+unfoldable pub after_invoker_names_read : List (List ℕ) → List (List ℕ) → Environment → Environment
+after_invoker_names_read names except env = record env { callers = with_caller (in_block (names_read names except)) env.callers }
+
+-- what a name is worth where the template was called: in the call's block, then outwards, then in what the body keeps in which the call stands
+abbrev pub value_by : List ℕ → List Caller → Option Val
+value_by name [] = None
+value_by name (c ∷ cs) = nearest (chain_value name c.chain) (fixed_value name (kept_by c.body))
+
+unfoldable pub caller_value : List ℕ → Environment → Option Val
+caller_value name env = value_by name env.callers
+
+-- the environment after a read of the name there
+unfoldable pub after_caller_read : List ℕ → Environment → Environment
+after_caller_read name env = record env { callers = with_caller (chain_read name) env.callers }

@@ -1,0 +1,13 @@
+pub mod Layers
+pub mod Chains
+pub mod Assigning
+pub mod Unread
+pub mod Environment
+pub mod Templates
+pub mod Invoker
+pub mod Forwarding
+pub mod Giving
+pub mod Imports
+pub mod Faults
+pub mod Codes
+pub mod Lending

@@ -1,7 +1,0 @@
-use Rattle.std.proofs.Common.{◌≡◌, map, drop}
-use Rattle.gn_scopes.specs.Environment.{fixed_value}
-use Rattle.gn_scopes.proofs.env.fixed_value.Given as goal
-
-abbrev pub invariant-loop-scope : goal.invariant-loop-scope
-invariant-loop-scope l =
-    fixed_value l.name (map (λ f. f.value) (drop l.scope-index l.scopes)) ≡ fixed_value l.name (map (λ f. f.value) l.scopes)

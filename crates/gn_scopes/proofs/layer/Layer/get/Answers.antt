@@ -1,9 +1,0 @@
-use Rattle.std.proofs.Common.{sym, ◌∙◌, ap, option_map}
-use Rattle.gn_scopes.specs.View.{variable_state}
-use Rattle.gn_scopes.specs.Chains.{variable_in}
-use Rattle.gn_scopes.proofs.Tables.{shown, variable_at}
-use Rattle.gn_scopes.proofs.layer.Layer.get.Goals as goal
-
-pub returns : goal.returns
-returns c =
-    shown variable_state c.get.result ∙ ap (option_map variable_state) c.get.ensures.value ∙ sym (variable_at c.args.name.now c.self.inside.variables.entries) ∙ ap (variable_in c.args.name.now) c.self.view_is

@@ -1,8 +1,0 @@
-use Rattle.std.proofs.Common.{◌≡◌, map, drop}
-use Rattle.gn_values.specs.Imported.{ScopeState}
-use Rattle.gn_scopes.specs.Templates.{defaults_among}
-use Rattle.gn_scopes.proofs.templates.defaults_in_scopes.Given as goal
-
-abbrev pub invariant-loop-scope : goal.invariant-loop-scope
-invariant-loop-scope l =
-    defaults_among l.kind (map (λ (s : ScopeState). s.defaults) (map (λ s. s.value) (drop l.scope-index l.scopes))) ≡ defaults_among l.kind (map (λ (s : ScopeState). s.defaults) (map (λ s. s.value) l.scopes))
