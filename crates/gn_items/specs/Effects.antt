@@ -4,15 +4,17 @@ use Rattle.std.specs.List.{list_any}
 use Rattle.std.specs.Str.{bytes_eq}
 use Rattle.std.specs.Prelude.{◌&&◌}
 use Rattle.gn_labels.specs.declared.label.Label.{Label}
+use Rattle.gn_runs.specs.Runs.{Question}
 use Rattle.gn_items.specs.declared.item.Item.{Item}
 
--- the items and the lines printed, each in order
+-- the items, the lines printed and the questions asked, each in order
 pub record Effects : Type 0 where
   pub items : List Item
   pub prints : List (List ℕ)
+  pub asked : List Question
 
 abbrev pub no_effects : Effects
-no_effects = record { items = []; prints = [] }
+no_effects = record { items = []; prints = []; asked = [] }
 
 -- whether two labels are equal
 abbrev pub same_label : Label → Label → Bool
@@ -29,3 +31,7 @@ with_item item effects = record effects { items = effects.items ++ item ∷ [] }
 -- one more line
 unfoldable pub with_print : List ℕ → Effects → Effects
 with_print line effects = record effects { prints = effects.prints ++ line ∷ [] }
+
+-- one more question
+abbrev pub with_asked : Question → Effects → Effects
+with_asked question effects = record effects { asked = effects.asked ++ question ∷ [] }

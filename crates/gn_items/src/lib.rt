@@ -4,7 +4,9 @@
 mod item;
 mod key;
 mod outcome;
+mod question;
 
 pub use item::{Item, ItemKind};
 pub use key::{Claim, Key, When};
 pub use outcome::Outcome;
+pub use question::Question;

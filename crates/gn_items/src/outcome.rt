@@ -1,17 +1,20 @@
 // What an execution leaves beside its variables.
 
-ghost use Rattle.std.specs.Prelude.{◌≡◌, OnOk, OnErr};
-ghost use Rattle.gn_items.specs.Effects.{no_effects, is_defined, with_item, with_print};
+ghost use Rattle.std.specs.Prelude.{◌≡◌, OnOk, OnErr, map};
+ghost use Rattle.gn_items.specs.Effects.{no_effects, is_defined, with_item, with_print, with_asked};
+ghost use Rattle.gn_items.specs.Questions.{question_of};
+ghost use Rattle.gn_runs.specs.Runs.{content_of, import_of};
 
 use crate::item::Item;
+use crate::question::Question;
 use gn_labels::Label;
-use gn_paths::Text;
+use gn_paths::{Path, Text};
 use std::alloc::{AllocError, Global};
 use std::collections::BTreeSet;
 use std::marker::Model;
 
-/// What an execution leaves beside its variables: the items that it defines and the lines that it prints, each in
-/// order. Items of one label may stand in it twice; `has` tells in time whether a label is new.
+/// What an execution leaves beside its variables: the items that it defines, the lines that it prints and the questions
+/// that it asks, each in order. Items of one label may stand in it twice; `has` tells in time whether a label is new.
 #[derive(Debug, Drop)]
 pub struct Outcome {
     alloc: Global,
@@ -19,6 +22,7 @@ pub struct Outcome {
     // The labels of the items.
     labels: BTreeSet<Label>,
     prints: Vec<Text>,
+    asked: Vec<Question>,
 }
 
 impl Model for Outcome {
@@ -27,15 +31,17 @@ impl Model for Outcome {
     ghost Value = { Effects };
 
     ghost use Rattle.gn_labels.specs.declared.label.Label.{Label};
+    ghost use Rattle.std.specs.Prelude.{map};
     ghost use Rattle.gn_items.specs.Labels.{HasLabels};
+    ghost use Rattle.gn_items.specs.Questions.{question_of};
 
-    ghost view = { λ o. record { items = o.items.items; prints = o.prints.items } };
+    ghost view = { λ o. record { items = o.items.items; prints = o.prints.items; asked = map question_of o.asked.items } };
 
     ghost invariant = { λ o. HasLabels ⟦<Label as Ord>⟧.cmp o.labels o.items.items };
 }
 
 impl Outcome {
-    /// No items and no lines. It takes no memory.
+    /// No items, no lines and no questions. It takes no memory.
     pub fn new(alloc: Global) -> Outcome
         ensures { result ≡ no_effects }
     {
@@ -44,6 +50,7 @@ impl Outcome {
             items: Vec::new(alloc),
             labels: BTreeSet::new(alloc),
             prints: Vec::new(alloc),
+            asked: Vec::new(alloc),
         }
     }
 
@@ -75,6 +82,40 @@ impl Outcome {
     {
         self.prints.push(line)?;
         Ok(())
+    }
+
+    /// Notes that the content of the file at the path was asked for. After want of memory nothing is changed.
+    pub fn ask_content(&mut self, path: &Path) -> Result<(), AllocError>
+        ensures ok { OnOk result (self.new ≡ with_asked (content_of path.now) self.old) }
+        ensures err { OnErr result (self.new ≡ self.old) }
+    {
+        let path = path.copy(self.alloc)?;
+        self.asked.push(Question::Content(path))?;
+        Ok(())
+    }
+
+    /// Notes that what an import of the file at the path leaves was asked for. After want of memory nothing is changed.
+    pub fn ask_import(&mut self, path: &Path) -> Result<(), AllocError>
+        ensures ok { OnOk result (self.new ≡ with_asked (import_of path.now) self.old) }
+        ensures err { OnErr result (self.new ≡ self.old) }
+    {
+        let path = path.copy(self.alloc)?;
+        self.asked.push(Question::Import(path))?;
+        Ok(())
+    }
+
+    /// The questions asked, in order.
+    pub fn asked(&self) -> &[Question]
+        ensures { map question_of result.now ≡ self.now.asked }
+    {
+        self.asked.as_slice()
+    }
+
+    /// The questions asked, in order. It takes no memory.
+    pub fn into_asked(self) -> Vec<Question>
+        ensures { map question_of result.items ≡ self.asked }
+    {
+        self.asked
     }
 
     /// The items, in the order in which they were defined.

@@ -10,7 +10,7 @@ abbrev pub asked_first : {A : Type 0} → Question → Run A → Run A
 asked_first q run = record { end = run.end; asked = q ∷ run.asked }
 
 -- one tree behind the leaves of another
-abbrev bind : {A B : Type 0} → Tree A → (A → Tree B) → Tree B
+abbrev pub bind : {A B : Type 0} → Tree A → (A → Tree B) → Tree B
 bind (leaf x) f = f x
 bind (fault_leaf fault) f = fault_leaf fault
 bind (asks_content path place next) f = asks_content path place (λ y. bind (next y) f)
@@ -34,7 +34,7 @@ import_then None path place m f n e = refl
 import_then (Some is_unusable) path place m f n e = refl
 import_then (Some (has_value y)) path place m f n e = asked_one (import_of path) (m y) f (n y) (e y)
 
-run_bind : {A B : Type 0} (t : Tree A) (f : A → Tree B) (a : Answers) → run_tree (bind t f) a ≡ followed (run_tree t a) (λ x. run_tree (f x) a)
+pub run_bind : {A B : Type 0} (t : Tree A) (f : A → Tree B) (a : Answers) → run_tree (bind t f) a ≡ followed (run_tree t a) (λ x. run_tree (f x) a)
 run_bind (leaf x) f a = refl
 run_bind (fault_leaf fault) f a = refl
 run_bind (asks_content path place next) f a =
