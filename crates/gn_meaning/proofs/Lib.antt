@@ -1,8 +1,12 @@
-mod Steps
-mod Words
-mod Calls
-mod Templates
-mod Selections
-mod Imports
-mod Evaluations
+pub mod Steps
+pub mod Words
+pub mod Calls
+pub mod PlainTrees
+pub mod Selections
+pub mod Imports
+pub mod Templates
+pub mod ChangingTrees
+pub mod OpeningTrees
+pub mod CallTrees
+pub mod Evaluations
 pub mod ImportTrees

@@ -2,16 +2,15 @@
 use Rattle.std.proofs.Common.{ℕ, List, [], Option, Some, None, Result, Ok, Err}
 use Rattle.gn_tree.specs.declared.position.Position.{Position}
 use Rattle.gn_values.specs.Val.{Val, vscope, entries_of}
-use Rattle.gn_runs.proofs.Trees.{tree_fails}
-use Rattle.gn_scopes.specs.Environment.{Environment}
-use Rattle.gn_scopes.specs.Forwarding.{Origin, from_entries, from_invoker, names_forwarded}
+use Rattle.gn_environment.specs.Environment.{Environment}
+use Rattle.gn_environment.specs.Forwarding.{Origin, from_entries, from_invoker, names_forwarded}
 use Rattle.gn_meaning.specs.Steps.{Steps}
 use Rattle.gn_meaning.specs.Selections.{Source, the_invoker, a_value, Selection, every_name, listed_names, other_text, no_names, strings_of, selection_of, excepting_runs, excepted_runs, selected_runs, forwarded_to, origin_forwarded_runs, forwarded_runs, unneeded_here_runs, unneeded_at_invoker_runs, unneeded_in_value_runs, unneeded_one_runs, unneeded_two_runs, unneeded_three_runs}
-use Rattle.gn_meaning.proofs.Steps.{AreQuiet, tree_ends}
+use Rattle.gn_meaning.proofs.Steps.{AreQuiet, tree_ends, tree_fails}
 
 excepting_tree : {A : Type 0} (names : Option (List (List ℕ))) (at : Position) (next : List (List ℕ) → Steps A) → ((except : List (List ℕ)) → AreQuiet (next except)) → AreQuiet (excepting_runs names at next)
 excepting_tree (Some names) at next t env out = t names env out
-excepting_tree None at next t env out = tree_fails _
+excepting_tree None at next t env out = tree_fails _ out
 
 excepted_tree : {A : Type 0} (last : Option (Val × Position)) (next : List (List ℕ) → Steps A) → ((except : List (List ℕ)) → AreQuiet (next except)) → AreQuiet (excepted_runs last next)
 excepted_tree None next t env out = t [] env out
@@ -20,14 +19,14 @@ excepted_tree (Some last) next t env out = excepting_tree (strings_of last.0) la
 selected_tree : {A : Type 0} (selection : Selection) (last : Option (Val × Position)) (at p : Position) (name : List ℕ) (all : List (List ℕ) → Steps A) (some : List (List ℕ) → List (List ℕ) → Steps A) → ((except : List (List ℕ)) → AreQuiet (all except)) → ((names except : List (List ℕ)) → AreQuiet (some names except)) → AreQuiet (selected_runs selection last at p name all some)
 selected_tree every_name last at p name all some t u env out = excepted_tree last all t env out
 selected_tree (listed_names names) last at p name all some t u env out = excepted_tree last (some names) (u names) env out
-selected_tree other_text last at p name all some t u env out = excepted_tree last _ (λ except env1 out1. tree_fails _) env out
-selected_tree no_names last at p name all some t u env out = tree_fails _
+selected_tree other_text last at p name all some t u env out = excepted_tree last _ (λ except env1 out1. tree_fails _ out1) env out
+selected_tree no_names last at p name all some t u env out = tree_fails _ out
 
 -- Forwarding
 
 forwarded_to_tree : (r : Result Environment (List ℕ)) (p : Position) → AreQuiet (forwarded_to r p)
 forwarded_to_tree (Ok after) p env out = tree_ends _ after out
-forwarded_to_tree (Err name) p env out = tree_fails _
+forwarded_to_tree (Err name) p env out = tree_fails _ out
 
 origin_forwarded_tree : (origin : Origin) (names : Val) (last : Option (Val × Position)) (at p : Position) (name : List ℕ) → AreQuiet (origin_forwarded_runs origin names last at p name)
 origin_forwarded_tree origin names last at p name env out =
@@ -38,7 +37,7 @@ pub forwarded_tree : (source : Source) (names : Val) (last : Option (Val × Posi
 unfolding forwarded_runs
 forwarded_tree the_invoker names last source_at at p name env out = origin_forwarded_tree from_invoker names last at p name env out
 forwarded_tree (a_value (vscope bs)) names last source_at at p name env out = origin_forwarded_tree (from_entries (entries_of bs)) names last at p name env out
-forwarded_tree (a_value v) names last source_at at p name env out = tree_fails _
+forwarded_tree (a_value v) names last source_at at p name env out = tree_fails _ out
 
 -- `not_needed`
 
@@ -56,8 +55,8 @@ in_value_tree names last at p name env out =
 
 pub unneeded_one_tree : (source : Source) (at p : Position) (name : List ℕ) → AreQuiet (unneeded_one_runs source at p name)
 unfolding unneeded_one_runs
-unneeded_one_tree the_invoker at p name env out = tree_fails _
-unneeded_one_tree (a_value (vscope bs)) at p name env out = tree_fails _
+unneeded_one_tree the_invoker at p name env out = tree_fails _ out
+unneeded_one_tree (a_value (vscope bs)) at p name env out = tree_fails _ out
 unneeded_one_tree (a_value v) at p name env out = here_tree v None at p name env out
 
 pub unneeded_two_tree : (source : Source) (second : Val) (first_at at p : Position) (name : List ℕ) → AreQuiet (unneeded_two_runs source second first_at at p name)
@@ -70,4 +69,4 @@ pub unneeded_three_tree : (source : Source) (names last : Val) (first_at at last
 unfolding unneeded_three_runs
 unneeded_three_tree the_invoker names last first_at at last_at p name env out = at_invoker_tree names (Some (last, last_at)) at p name env out
 unneeded_three_tree (a_value (vscope bs)) names last first_at at last_at p name env out = in_value_tree names (Some (last, last_at)) at p name env out
-unneeded_three_tree (a_value v) names last first_at at last_at p name env out = tree_fails _
+unneeded_three_tree (a_value v) names last first_at at last_at p name env out = tree_fails _ out

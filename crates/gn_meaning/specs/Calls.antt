@@ -1,65 +1,39 @@
--- What calls do once their arguments are evaluated.
-use Rattle.std.specs.Prelude.{ℕ, Bool, true, false, List, [], ◌∷◌, ◌++◌, if◌then◌else◌, Option, Some, None, Result, Ok, Err, is_some, codes}
-use Rattle.std.specs.List.{join_by}
+-- What single calls do once their arguments are evaluated.
+use Rattle.std.specs.Prelude.{ℕ, Bool, true, false, List, [], ◌∷◌, if◌then◌else◌, Option, Some, None, Result, Ok, Err, is_some}
 use Rattle.gn_tree.specs.declared.position.Position.{Position}
 use Rattle.gn_values.specs.Val.{Val, vbool, vstr, vlist, vscope, list_of, entries_of}
 use Rattle.gn_values.specs.Operators.{value_at}
-use Rattle.gn_values.specs.Text.{text_of}
 use Rattle.gn_faults.specs.declared.code.Code.TheVariants as code
 use Rattle.gn_faults.specs.declared.fault.Fault.{Fault}
 use Rattle.gn_items.specs.declared.item.Item.{Item}
 use Rattle.gn_items.specs.declared.item.ItemKind.{ItemKind}
 use Rattle.gn_items.specs.Effects.{is_defined, with_item}
-use Rattle.gn_runs.specs.Runs.{fails}
-use Rattle.gn_scopes.specs.Environment.{Environment, value_of, after_read, left, reported_here, variable_here, restored, given, in_item}
-use Rattle.gn_scopes.specs.Templates.{block_begins, defaults_given}
-use Rattle.gn_scopes.specs.Invoker.{names_invoker, invoker_entry, after_invoker_entry_read, after_invoker_read}
-use Rattle.gn_meaning.specs.Steps.{Steps, then_do, ends}
+use Rattle.gn_environment.specs.Environment.{Environment, value_of, after_read, left, reported_here, variable_here, restored, given, in_item}
+use Rattle.gn_environment.specs.Templates.{block_begins, defaults_given}
+use Rattle.gn_environment.specs.Invoker.{names_invoker, invoker_entry, after_invoker_entry_read}
+use Rattle.gn_meaning.specs.Steps.{Steps, then_do, ends, breaks}
 use Rattle.gn_meaning.specs.Words.{fails_at}
 use Rattle.gn_meaning.specs.Items.{defined, label_text}
-use Rattle.gn_meaning.specs.declared.function.Function.{Function}
-use Rattle.gn_meaning.specs.declared.function.Function.TheVariants.{Assert, Defined, Foreach, ForwardVariablesFrom, Import, Item as ItemOf, NotNeeded, Print, SetDefaults, Target, Template, Excluded, Unknown}
-
--- `assert`: the types from left to right, then the condition
-abbrev pub assertion_runs : Bool → List (List ℕ) → Position → Steps (Option Val)
-assertion_runs true message position env out = ends None env out
-assertion_runs false message position env out = fails_at code.AssertFailed position message env
-
-unfoldable pub asserted_runs : Val → Position → Position → Steps (Option Val)
-asserted_runs (vbool b) at position env out = assertion_runs b [] position env out
-asserted_runs _ at position env out = fails_at code.BadTypes at [] env
-
-abbrev pub message_runs : Bool → Val → Position → Position → Steps (Option Val)
-message_runs b (vstr text) at position env out = assertion_runs b (text ∷ []) position env out
-message_runs b _ at position env out = fails_at code.BadTypes at [] env
-
-unfoldable pub asserted_with_message_runs : Val → Val → Position → Position → Position → Steps (Option Val)
-asserted_with_message_runs (vbool b) message at message_at position env out = message_runs b message message_at position env out
-asserted_with_message_runs _ message at message_at position env out = fails_at code.BadTypes at [] env
-
--- `print`: the texts of the values with a blank between two, and a newline
-unfoldable pub line_of : List Val → List ℕ
-line_of vs = join_by (text_of false) (codes " ") vs ++ 10 ∷ []
 
 -- `defined(a.b)` and `defined(a[s])`: the base has to be a scope, the subscript a string
 abbrev pub has_entry_of : Option Val → List ℕ → Val → Position → Steps (Option Val)
 has_entry_of (Some (vscope bs)) base (vstr name) position env out = ends (Some (vbool (is_some (value_at name (entries_of bs))))) (after_read base env) out
-has_entry_of (Some _) base at position env out = fails_at code.BadTypes position [] env
-has_entry_of None base at position env out = fails_at code.Undefined position (base ∷ []) env
+has_entry_of (Some _) base at position env out = fails_at code.BadTypes position [] env out
+has_entry_of None base at position env out = fails_at code.Undefined position (base ∷ []) env out
 
 -- the same at the invoker: this name alone is read
 abbrev pub has_invoker_entry_runs : Val → Position → Steps (Option Val)
 has_invoker_entry_runs (vstr name) position env out = ends (Some (vbool (is_some (invoker_entry name env)))) (after_invoker_entry_read name env) out
-has_invoker_entry_runs _ position env out = fails_at code.BadTypes position [] env
+has_invoker_entry_runs _ position env out = fails_at code.BadTypes position [] env out
 
 unfoldable pub has_entry_runs : List ℕ → Val → Position → Steps (Option Val)
 has_entry_runs base at position env out =
     if names_invoker base env then has_invoker_entry_runs at position env out else has_entry_of (value_of base env) base at position env out
 
--- `defined(name)`
+-- `defined(name)`: the name is read, but the invoker is no name that is read by this
 unfoldable pub has_value_runs : List ℕ → Steps (Option Val)
 has_value_runs name env out =
-    if names_invoker name env then ends (Some (vbool true)) (after_invoker_read env) out
+    if names_invoker name env then ends (Some (vbool true)) env out
     else ends (Some (vbool (is_some (value_of name env)))) (after_read name env) out
 
 -- the rounds of a `foreach`: in each the name is given the next item
@@ -71,18 +45,18 @@ turns_run name block (v ∷ vs) env out = then_do (block (given name v env) out)
 unfoldable pub loop_runs : List ℕ → Val → Position → Steps (Unit {0}) → Steps (Option Val)
 loop_runs name (vlist vs) at block env out =
     then_do (turns_run name block (list_of vs) (restored name None env) out) (λ _ env1 out1. ends None (restored name (variable_here name env) env1) out1)
-loop_runs name _ at block env out = fails_at code.BadTypes at [] env
+loop_runs name _ at block env out = fails_at code.BadTypes at [] env out
 
 -- the end of a checked scope
 abbrev pub checked_end : {A : Type 0} → Option (List ℕ × Position) → A → Environment → Steps A
-checked_end (Some unread) x after env out = fails_at code.NoEffect unread.1 (unread.0 ∷ []) env
+checked_end (Some unread) x after env out = fails_at code.NoEffect unread.1 (unread.0 ∷ []) env out
 checked_end None x after env out = ends x after out
 
 -- the end of an item's block: the item is defined, then its label has to be new, then its names have to be read
 abbrev pub item_runs : Result (Item × Environment) Fault → Position → Steps (Option Val)
-item_runs (Err fault) position env out = fails fault
+item_runs (Err fault) position env out = breaks fault out
 item_runs (Ok d) position env out =
-    if is_defined d.0.label out then fails_at code.DuplicateItem position (label_text d.0.label ∷ []) d.1
+    if is_defined d.0.label out then fails_at code.DuplicateItem position (label_text d.0.label ∷ []) d.1 out
     else checked_end (reported_here d.1) None (in_item false (left d.1)) d.1 (with_item d.0 out)
 
 unfoldable pub item_end_runs : ItemKind → List ℕ → Position → Steps (Option Val)
@@ -91,49 +65,12 @@ item_end_runs kind name position env out = item_runs (defined kind name position
 -- the scope in which the block of a call begins: it has the name that is given, and the defaults for calls of this kind
 abbrev pub defaults_taken : Result Environment (List ℕ) → Position → Steps (Unit {0})
 defaults_taken (Ok after) position env out = ends tt after out
-defaults_taken (Err name) position env out = fails_at code.AlreadySet position (name ∷ []) env
+defaults_taken (Err name) position env out = fails_at code.AlreadySet position (name ∷ []) env out
 
 unfoldable pub scope_begun_runs : List ℕ → List ℕ → Position → Steps (Unit {0})
 scope_begun_runs kind name position env out = defaults_taken (defaults_given kind (block_begins name env)) position env out
 
--- an item's block runs in a scope of its own
-unfoldable pub item_block_runs : ItemKind → List ℕ → Val → Position → Position → Steps (Unit {0}) → Steps (Option Val)
-item_block_runs kind kind_name (vstr name) at position block env out =
-    then_do (scope_begun_runs kind_name name position (in_item true env) out)
-    (λ _ env1 out1. then_do (block env1 out1) (λ _ env2 out2. item_end_runs kind name position env2 out2))
-item_block_runs kind kind_name _ at position block env out = fails_at code.BadTypes at [] env
-
 -- the value of a call inside an expression
 unfoldable pub call_value_runs : Option Val → Position → Steps Val
 call_value_runs (Some v) position env out = ends v env out
-call_value_runs None position env out = fails_at code.BadTypes position [] env
-
--- the built-in calls, each with its arguments and its block
-pub record BuiltIns : Type 0 where
-  pub asserts : Steps (Option Val)
-  pub tests : Steps (Option Val)
-  pub loops : Steps (Option Val)
-  pub prints : Steps (Option Val)
-  pub imports : Steps (Option Val)
-  pub templates : Steps (Option Val)
-  pub targets : Steps (Option Val)
-  pub sets_defaults : Steps (Option Val)
-  pub forwards : Steps (Option Val)
-  pub marks : Steps (Option Val)
-  pub items : ItemKind → Steps (Option Val)
-
--- what a name calls, of these
-unfoldable pub function_runs : Function → BuiltIns → Position → List ℕ → Steps (Option Val)
-function_runs Assert b position name env out = b.asserts env out
-function_runs Defined b position name env out = b.tests env out
-function_runs Foreach b position name env out = b.loops env out
-function_runs Print b position name env out = b.prints env out
-function_runs Import b position name env out = b.imports env out
-function_runs Template b position name env out = b.templates env out
-function_runs Target b position name env out = b.targets env out
-function_runs SetDefaults b position name env out = b.sets_defaults env out
-function_runs ForwardVariablesFrom b position name env out = b.forwards env out
-function_runs NotNeeded b position name env out = b.marks env out
-function_runs (ItemOf kind) b position name env out = b.items kind env out
-function_runs Excluded b position name env out = fails_at code.Excluded position (name ∷ []) env
-function_runs Unknown b position name env out = fails_at code.UnknownFunction position (name ∷ []) env
+call_value_runs None position env out = fails_at code.BadTypes position [] env out

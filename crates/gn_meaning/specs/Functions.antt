@@ -5,8 +5,12 @@ use Rattle.std.specs.Str.{bytes_eq}
 use Rattle.gn_items.specs.declared.item.ItemKind.TheVariants.{Group}
 use Rattle.gn_meaning.specs.declared.function.TargetKind.{TargetKind}
 use Rattle.gn_meaning.specs.declared.function.TargetKind.TheVariants.{Built, NotBuilt, NoKind}
-use Rattle.gn_meaning.specs.declared.function.Function.{Function}
-use Rattle.gn_meaning.specs.declared.function.Function.TheVariants.{Assert, Defined, Foreach, ForwardVariablesFrom, Import, Item, NotNeeded, Print, SetDefaults, Target, Template, Excluded, Unknown}
+use Rattle.gn_meaning.specs.declared.function.Named.{Named}
+use Rattle.gn_meaning.specs.declared.function.Named.TheVariants.{Function as OfFunction, Excluded, Unknown}
+use Rattle.gn_meaning.specs.declared.function.Function.TheVariants.{Plain, Changing, Opening, Defined, Foreach}
+use Rattle.gn_meaning.specs.declared.function.Plain.TheVariants.{Assert, Print}
+use Rattle.gn_meaning.specs.declared.function.Changing.TheVariants.{Import, Template, ForwardVariablesFrom, NotNeeded}
+use Rattle.gn_meaning.specs.declared.function.Opening.TheVariants.{Item, Target, SetDefaults}
 
 -- the functions of GN that are left out: those that the profile leaves out for good, and those that aren't built yet
 unfoldable pub excluded_names : List (List ℕ)
@@ -34,18 +38,18 @@ target_kind_of name =
     else NoKind
 
 -- what a name calls
-unfoldable pub function_of : List ℕ → Function
+unfoldable pub function_of : List ℕ → Named
 function_of name =
-    if bytes_eq name (codes "assert") then Assert
-    else if bytes_eq name (codes "defined") then Defined
-    else if bytes_eq name (codes "foreach") then Foreach
-    else if bytes_eq name (codes "print") then Print
-    else if bytes_eq name (codes "group") then Item Group
-    else if bytes_eq name (codes "import") then Import
-    else if bytes_eq name (codes "template") then Template
-    else if bytes_eq name (codes "target") then Target
-    else if bytes_eq name (codes "set_defaults") then SetDefaults
-    else if bytes_eq name (codes "forward_variables_from") then ForwardVariablesFrom
-    else if bytes_eq name (codes "not_needed") then NotNeeded
+    if bytes_eq name (codes "assert") then OfFunction (Plain Assert)
+    else if bytes_eq name (codes "defined") then OfFunction Defined
+    else if bytes_eq name (codes "foreach") then OfFunction Foreach
+    else if bytes_eq name (codes "print") then OfFunction (Plain Print)
+    else if bytes_eq name (codes "group") then OfFunction (Opening (Item Group))
+    else if bytes_eq name (codes "import") then OfFunction (Changing Import)
+    else if bytes_eq name (codes "template") then OfFunction (Changing Template)
+    else if bytes_eq name (codes "target") then OfFunction (Opening Target)
+    else if bytes_eq name (codes "set_defaults") then OfFunction (Opening SetDefaults)
+    else if bytes_eq name (codes "forward_variables_from") then OfFunction (Changing ForwardVariablesFrom)
+    else if bytes_eq name (codes "not_needed") then OfFunction (Changing NotNeeded)
     else if list_any (bytes_eq name) excluded_names then Excluded
     else Unknown

@@ -11,8 +11,8 @@ use Rattle.gn_faults.specs.declared.fault.Fault.{Fault}
 use Rattle.gn_items.specs.declared.item.Item.{Item}
 use Rattle.gn_items.specs.declared.item.ItemKind.{ItemKind}
 use Rattle.gn_items.specs.declared.item.ItemKind.TheVariants.{Group}
-use Rattle.gn_scopes.specs.Environment.{Setting, Environment, value_of, after_read}
-use Rattle.gn_scopes.specs.Faults.{fault_in}
+use Rattle.gn_environment.specs.Environment.{Setting, Environment, value_of, after_read}
+use Rattle.gn_environment.specs.Faults.{fault_in}
 
 -- whether a value is a string
 abbrev pub is_string : Val → Bool

@@ -1,11 +1,17 @@
 pub mod Steps
 pub mod Functions
+pub mod Rules
 pub mod Words
 pub mod Items
+pub mod Arguments
 pub mod Calls
+pub mod PlainCalls
 pub mod Pieces
 pub mod Templates
 pub mod Selections
 pub mod Imports
+pub mod ChangingCalls
+pub mod OpeningCalls
+pub mod FunctionCalls
 pub mod Meaning
 pub mod Laws

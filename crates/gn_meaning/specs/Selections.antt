@@ -6,9 +6,9 @@ use Rattle.gn_tree.specs.declared.position.Position.{Position}
 use Rattle.gn_tree.specs.Tree.{ExprTree, name_expr}
 use Rattle.gn_values.specs.Val.{Val, vstr, vlist, vscope, list_of, entries_of}
 use Rattle.gn_faults.specs.declared.code.Code.TheVariants as code
-use Rattle.gn_scopes.specs.Environment.{Environment}
-use Rattle.gn_scopes.specs.Invoker.{names_invoker, after_invoker_read_but, after_invoker_names_read}
-use Rattle.gn_scopes.specs.Forwarding.{Origin, from_entries, from_invoker, names_forwarded, all_forwarded, after_names_read_here, after_all_read_here}
+use Rattle.gn_environment.specs.Environment.{Environment}
+use Rattle.gn_environment.specs.Invoker.{names_invoker, after_invoker_read_but, after_invoker_names_read}
+use Rattle.gn_environment.specs.Forwarding.{Origin, from_entries, from_invoker, names_forwarded, all_forwarded, after_names_read_here, after_all_read_here}
 use Rattle.gn_meaning.specs.Steps.{Steps, ends}
 use Rattle.gn_meaning.specs.Words.{fails_at}
 use Rattle.gn_meaning.specs.Items.{is_string}
@@ -51,7 +51,7 @@ selection_of v = listed (strings_of v)
 -- the excepted names, which have to be a list of strings
 abbrev pub excepting_runs : {A : Type 0} → Option (List (List ℕ)) → Position → (List (List ℕ) → Steps A) → Steps A
 excepting_runs (Some names) at next env out = next names env out
-excepting_runs None at next env out = fails_at code.BadTypes at [] env
+excepting_runs None at next env out = fails_at code.BadTypes at [] env out
 
 -- no excepted names, or those of the last argument
 abbrev pub excepted_runs : {A : Type 0} → Option (Val × Position) → (List (List ℕ) → Steps A) → Steps A
@@ -62,14 +62,14 @@ excepted_runs (Some last) next env out = excepting_runs (strings_of last.0) last
 abbrev pub selected_runs : {A : Type 0} → Selection → Option (Val × Position) → Position → Position → List ℕ → (List (List ℕ) → Steps A) → (List (List ℕ) → List (List ℕ) → Steps A) → Steps A
 selected_runs every_name last at position name all some env out = excepted_runs last all env out
 selected_runs (listed_names names) last at position name all some env out = excepted_runs last (some names) env out
-selected_runs other_text last at position name all some env out = excepted_runs last (λ except env1 out1. fails_at code.BadArguments position (name ∷ []) env1) env out
-selected_runs no_names last at position name all some env out = fails_at code.BadTypes at [] env
+selected_runs other_text last at position name all some env out = excepted_runs last (λ except env1 out1. fails_at code.BadArguments position (name ∷ []) env1 out1) env out
+selected_runs no_names last at position name all some env out = fails_at code.BadTypes at [] env out
 
 -- Forwarding
 
 abbrev pub forwarded_to : Result Environment (List ℕ) → Position → Steps (Option Val)
 forwarded_to (Ok after) position env out = ends None after out
-forwarded_to (Err name) position env out = fails_at code.AlreadySet position (name ∷ []) env
+forwarded_to (Err name) position env out = fails_at code.AlreadySet position (name ∷ []) env out
 
 abbrev pub origin_forwarded_runs : Origin → Val → Option (Val × Position) → Position → Position → List ℕ → Steps (Option Val)
 origin_forwarded_runs origin names last at position name env out =
@@ -80,7 +80,7 @@ origin_forwarded_runs origin names last at position name env out =
 unfoldable pub forwarded_runs : Source → Val → Option (Val × Position) → (source_at at position : Position) → List ℕ → Steps (Option Val)
 forwarded_runs the_invoker names last source_at at position name env out = origin_forwarded_runs from_invoker names last at position name env out
 forwarded_runs (a_value (vscope bs)) names last source_at at position name env out = origin_forwarded_runs (from_entries (entries_of bs)) names last at position name env out
-forwarded_runs (a_value _) names last source_at at position name env out = fails_at code.BadTypes source_at [] env
+forwarded_runs (a_value _) names last source_at at position name env out = fails_at code.BadTypes source_at [] env out
 
 -- `not_needed`
 
@@ -103,8 +103,8 @@ unneeded_in_value_runs names last at position name env out =
 
 -- with one argument: names; a scope alone selects none
 unfoldable pub unneeded_one_runs : Source → (at position : Position) → List ℕ → Steps (Option Val)
-unneeded_one_runs the_invoker at position name env out = fails_at code.BadArguments position (name ∷ []) env
-unneeded_one_runs (a_value (vscope bs)) at position name env out = fails_at code.BadArguments position (name ∷ []) env
+unneeded_one_runs the_invoker at position name env out = fails_at code.BadArguments position (name ∷ []) env out
+unneeded_one_runs (a_value (vscope bs)) at position name env out = fails_at code.BadArguments position (name ∷ []) env out
 unneeded_one_runs (a_value v) at position name env out = unneeded_here_runs v None at position name env out
 
 -- with two arguments the type of the first one decides the form: names of a scope, or names and excepted names
@@ -117,4 +117,4 @@ unneeded_two_runs (a_value v) second first_at at position name env out = unneede
 unfoldable pub unneeded_three_runs : Source → Val → Val → (first_at at last_at position : Position) → List ℕ → Steps (Option Val)
 unneeded_three_runs the_invoker names last first_at at last_at position name env out = unneeded_at_invoker_runs names (Some (last, last_at)) at position name env out
 unneeded_three_runs (a_value (vscope bs)) names last first_at at last_at position name env out = unneeded_in_value_runs names (Some (last, last_at)) at position name env out
-unneeded_three_runs (a_value _) names last first_at at last_at position name env out = fails_at code.BadTypes first_at [] env
+unneeded_three_runs (a_value _) names last first_at at last_at position name env out = fails_at code.BadTypes first_at [] env out

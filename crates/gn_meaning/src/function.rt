@@ -7,31 +7,59 @@ ghost use Rattle.gn_meaning.specs.Functions.{excluded_names, excluded_kinds, fun
 
 use gn_items::ItemKind;
 
-/// What a name calls.
+/// A function that needs nothing but the values of its arguments.
 #[derive(Clone, Copy, Debug, PartialEq, Eq)]
-pub enum Function {
+pub enum Plain {
     /// `assert`
     Assert,
-    /// `defined`
-    Defined,
-    /// `foreach`
-    Foreach,
-    /// `forward_variables_from`
-    ForwardVariablesFrom,
-    /// `import`
-    Import,
-    /// `not_needed`
-    NotNeeded,
     /// `print`
     Print,
-    /// `set_defaults`
-    SetDefaults,
-    /// `target`
-    Target,
-    /// `template`
+}
+
+/// A function that needs the values of its arguments and changes where it stands.
+#[derive(Clone, Copy, Debug, PartialEq, Eq)]
+pub enum Changing {
+    /// `import`
+    Import,
+    /// `template`, whose block isn't run
     Template,
+    /// `forward_variables_from`
+    ForwardVariablesFrom,
+    /// `not_needed`
+    NotNeeded,
+}
+
+/// A function that opens a scope, in which its block runs.
+#[derive(Clone, Copy, Debug, PartialEq, Eq)]
+pub enum Opening {
     /// The definition of an item of this kind.
     Item(ItemKind),
+    /// `target`
+    Target,
+    /// `set_defaults`
+    SetDefaults,
+}
+
+/// A function of the language.
+#[derive(Clone, Copy, Debug, PartialEq, Eq)]
+pub enum Function {
+    /// A function that needs nothing but the values of its arguments.
+    Plain(Plain),
+    /// A function that needs the values of its arguments and changes where it stands.
+    Changing(Changing),
+    /// A function that opens a scope, in which its block runs.
+    Opening(Opening),
+    /// `defined`, whose argument isn't evaluated
+    Defined,
+    /// `foreach`, whose block runs for each item of a list
+    Foreach,
+}
+
+/// What a name calls.
+#[derive(Clone, Copy, Debug, PartialEq, Eq)]
+pub enum Named {
+    /// A function.
+    Function(Function),
     /// A function of GN that this program leaves out.
     Excluded,
     /// No function.
@@ -104,38 +132,38 @@ const EXCLUDED_KINDS: [&[u8]; 8] = [
     b"static_library",
 ];
 
-impl Function {
+impl Named {
     /// What the name calls. It takes no memory.
     #[tactic(auto, unfolding(crate::specs::Functions::function_of))]
-    pub fn named(name: &[u8]) -> Function
+    pub fn of(name: &[u8]) -> Named
         ensures { result ≡ function_of name.now }
     {
         if name == b"assert".as_slice() {
-            Function::Assert
+            Named::Function(Function::Plain(Plain::Assert))
         } else if name == b"defined".as_slice() {
-            Function::Defined
+            Named::Function(Function::Defined)
         } else if name == b"foreach".as_slice() {
-            Function::Foreach
+            Named::Function(Function::Foreach)
         } else if name == b"print".as_slice() {
-            Function::Print
+            Named::Function(Function::Plain(Plain::Print))
         } else if name == b"group".as_slice() {
-            Function::Item(ItemKind::Group)
+            Named::Function(Function::Opening(Opening::Item(ItemKind::Group)))
         } else if name == b"import".as_slice() {
-            Function::Import
+            Named::Function(Function::Changing(Changing::Import))
         } else if name == b"template".as_slice() {
-            Function::Template
+            Named::Function(Function::Changing(Changing::Template))
         } else if name == b"target".as_slice() {
-            Function::Target
+            Named::Function(Function::Opening(Opening::Target))
         } else if name == b"set_defaults".as_slice() {
-            Function::SetDefaults
+            Named::Function(Function::Opening(Opening::SetDefaults))
         } else if name == b"forward_variables_from".as_slice() {
-            Function::ForwardVariablesFrom
+            Named::Function(Function::Changing(Changing::ForwardVariablesFrom))
         } else if name == b"not_needed".as_slice() {
-            Function::NotNeeded
+            Named::Function(Function::Changing(Changing::NotNeeded))
         } else if is_excluded(name) {
-            Function::Excluded
+            Named::Excluded
         } else {
-            Function::Unknown
+            Named::Unknown
         }
     }
 }

@@ -3,9 +3,11 @@
 
 mod function;
 mod laws;
+mod rule;
 
-pub use function::{Function, TargetKind};
+pub use function::{Changing, Function, Named, Opening, Plain, TargetKind};
 pub use laws::{
     evaluations_are_trees, evaluations_depend_on_what_they_ask, evaluations_stop_at_answers,
     more_answers_keep_evaluations,
 };
+pub use rule::{Allowed, Rule};

@@ -1,0 +1,48 @@
+-- What is judged of a call before its arguments: a row for each function.
+use Rattle.std.specs.Prelude.{ℕ, Bool, true, false, ◌&&◌, not, nat_le, Option, Some, None}
+use Rattle.gn_items.specs.declared.item.ItemKind.TheVariants.{Group}
+use Rattle.gn_meaning.specs.declared.rule.Rule.{Rule}
+use Rattle.gn_meaning.specs.declared.rule.Allowed.{Allowed}
+use Rattle.gn_meaning.specs.declared.rule.Allowed.TheVariants.{Everywhere, WhereItems}
+use Rattle.gn_meaning.specs.declared.function.Function.{Function}
+use Rattle.gn_meaning.specs.declared.function.Function.TheVariants.{Plain, Changing, Opening, Defined, Foreach}
+use Rattle.gn_meaning.specs.declared.function.Plain.TheVariants.{Assert, Print}
+use Rattle.gn_meaning.specs.declared.function.Changing.TheVariants.{Import, Template, ForwardVariablesFrom, NotNeeded}
+use Rattle.gn_meaning.specs.declared.function.Opening.TheVariants.{Item, Target, SetDefaults}
+
+-- so many arguments at least and at most, and no block, or one
+abbrev pub without_block : ℕ → Option ℕ → Rule
+without_block least most = record { least = least; most = most; block = false; imports = false; allowed = Everywhere }
+
+abbrev pub with_block : ℕ → Rule
+with_block count = record { least = count; most = Some count; block = true; imports = false; allowed = Everywhere }
+
+-- the row of each function
+unfoldable pub rule_of : Function → Rule
+rule_of (Plain Assert) = without_block 1 (Some 2)
+rule_of (Plain Print) = without_block 1 None
+rule_of (Changing Import) = record (without_block 1 (Some 1)) { imports = true }
+rule_of (Changing Template) = with_block 1
+rule_of (Changing ForwardVariablesFrom) = without_block 2 (Some 3)
+rule_of (Changing NotNeeded) = without_block 1 (Some 3)
+rule_of (Opening (Item kind)) = record (with_block 1) { allowed = WhereItems }
+rule_of (Opening Target) = with_block 2
+rule_of (Opening SetDefaults) = with_block 1
+rule_of Defined = without_block 1 (Some 1)
+rule_of Foreach = with_block 2
+
+-- the row of the calls of templates
+abbrev pub template_rule : Rule
+template_rule = with_block 1
+
+-- whether a call takes so many arguments, with a block or without
+abbrev pub at_most : ℕ → Option ℕ → Bool
+at_most count None = true
+at_most count (Some most) = nat_le count most
+
+abbrev pub as_ruled : Bool → Bool → Bool
+as_ruled true has_block = has_block
+as_ruled false has_block = not has_block
+
+unfoldable pub takes : Rule → ℕ → Bool → Bool
+takes rule count has_block = nat_le rule.least count && (at_most count rule.most && as_ruled rule.block has_block)
