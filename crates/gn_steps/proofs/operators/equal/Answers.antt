@@ -1,0 +1,5 @@
+use Rattle.gn_values.proofs.Equality.{test_from_answer}
+use Rattle.gn_steps.proofs.operators.equal.Goals as goal
+
+pub returns : goal.returns
+returns c = test_from_answer _ _ _ c.same.ensures

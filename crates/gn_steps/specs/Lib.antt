@@ -1,0 +1,7 @@
+pub mod Ends
+pub mod Definitions
+pub mod Selected
+pub mod Resolved
+pub mod Answers
+pub mod Evaluated
+pub mod Openings

@@ -1,0 +1,174 @@
+// Plain calls: those that need nothing but the values of their arguments.
+
+ghost use Rattle.std.specs.Prelude.{◌≡◌, [], ◌∷◌, None, false, IfOk, map, option_map, codes};
+ghost use Rattle.std.specs.List.{join_by};
+ghost use Rattle.gn_values.specs.Text.{text_of};
+ghost use Rattle.gn_environment.specs.Faults.{fault_in};
+ghost use Rattle.gn_values.specs.View.{val_of};
+ghost use Rattle.gn_meaning.specs.PlainCalls.{refuses, wrong_type, assert_answer, line_of, answer, refused_position, settled_runs, plain_runs};
+ghost use Rattle.gn_steps.specs.Ends.{IsFault, IsStep};
+ghost use Rattle.gn_steps.specs.Answers.{settled_view};
+
+use crate::arguments::argument_position;
+use crate::step::StepEnd;
+use gn_env::Env;
+use gn_faults::Code;
+use gn_items::Outcome;
+use gn_meaning::Plain;
+use gn_paths::{Text, Texts};
+use gn_tree::{Call, Position};
+use gn_values::{Value, print_text};
+use std::alloc::{AllocError, Global};
+
+/// What a plain call answers.
+#[derive(Drop)]
+pub(crate) enum Settled {
+    /// A value.
+    Value(Value),
+    /// Nothing.
+    Nothing,
+    /// A line that is printed.
+    Line(Text),
+    /// A refusal with its code and details, at the argument of this number, counted from 0, or at the name of the call.
+    Refused(Code, Option<usize>, Texts),
+}
+
+// An argument of a wrong type.
+fn wrong_type(alloc: Global, argument: usize) -> Settled
+    ensures { settled_view result ≡ wrong_type argument }
+{
+    Settled::Refused(Code::BadTypes, Some(argument), Texts::new(alloc))
+}
+
+// An assertion without a message that fails.
+fn failed(alloc: Global) -> Settled
+    ensures { settled_view result ≡ refuses Code.AssertFailed None [] }
+{
+    Settled::Refused(Code::AssertFailed, None, Texts::new(alloc))
+}
+
+// An assertion that fails with this message.
+fn failed_with(alloc: Global, message: &Text) -> Result<Settled, AllocError>
+    ensures { IfOk result (λ s. settled_view s ≡ refuses Code.AssertFailed None (message.now ∷ [])) }
+{
+    let mut details = Texts::new(alloc);
+    details.push(message.copy(alloc)?)?;
+    Ok(Settled::Refused(Code::AssertFailed, None, details))
+}
+
+// `assert`
+#[tactic(auto, unfolding(gn_meaning::specs::PlainCalls::assert_answer))]
+fn answer_assert(alloc: Global, values: &[Value]) -> Result<Settled, AllocError>
+    ensures { IfOk result (λ s. settled_view s ≡ assert_answer (map val_of values.now)) }
+{
+    match values {
+        [Value::Bool(true)] | [Value::Bool(true), Value::Str(_)] => Ok(Settled::Nothing),
+        [Value::Bool(false)] => Ok(failed(alloc)),
+        [Value::Bool(false), Value::Str(text)] => failed_with(alloc, text),
+        [Value::Bool(_), _, ..] => Ok(wrong_type(alloc, 1)),
+        _ => Ok(wrong_type(alloc, 0)),
+    }
+}
+
+// The line of a `print`: the texts of the values with a blank between two, and a newline.
+#[tactic(auto, unfolding(gn_meaning::specs::PlainCalls::line_of))]
+fn print_line(alloc: Global, values: &[Value]) -> Result<Text, AllocError>
+    ensures { IfOk result (λ line. line ≡ line_of (map val_of values.now)) }
+{
+    let mut line = match values {
+        [first, rest @ ..] => print_texts(alloc, first, rest)?,
+        _ => Text::new(alloc),
+    };
+    line.push(b'\n')?;
+    Ok(line)
+}
+
+// The texts of the values with a blank between two.
+fn print_texts(alloc: Global, first: &Value, rest: &[Value]) -> Result<Text, AllocError>
+    ensures { IfOk result (λ line. line ≡ join_by (text_of false) (codes " ") (val_of first.now ∷ map val_of rest.now)) }
+{
+    let mut line = print_text(alloc, first, false)?;
+    for value in rest {
+        line.push(b' ')?;
+        line.append(print_text(alloc, value, false)?.as_bytes())?;
+    }
+    Ok(line)
+}
+
+// What the call answers to these values.
+#[tactic(auto, unfolding(gn_meaning::specs::PlainCalls::answer))]
+fn answer_plain(alloc: Global, plain: Plain, values: &[Value]) -> Result<Settled, AllocError>
+    ensures { IfOk result (λ s. settled_view s ≡ answer plain (map val_of values.now)) }
+{
+    match plain {
+        Plain::Assert => answer_assert(alloc, values),
+        Plain::Print => Ok(Settled::Line(print_line(alloc, values)?)),
+    }
+}
+
+// Where a refusal stands.
+fn refused_position(argument: Option<usize>, call: &Call) -> Position
+    ensures { result ≡ refused_position argument call.now }
+{
+    match argument {
+        Some(number) => argument_position(call, number),
+        None => call.position,
+    }
+}
+
+// The end of an evaluation with a refusal.
+fn refused(
+    alloc: Global,
+    code: Code,
+    argument: Option<usize>,
+    details: Texts,
+    call: &Call,
+    env: &Env,
+) -> StepEnd
+    ensures { IsFault result (fault_in env.now.setting (refused_position argument call.now) code details) }
+{
+    match env.fault(alloc, code, refused_position(argument, call), details) {
+        Ok(fault) => StepEnd::Wrong(fault),
+        Err(_) => StepEnd::Memory,
+    }
+}
+
+// What an answer does.
+#[tactic(auto, unfolding(gn_meaning::specs::PlainCalls::settled_runs))]
+fn settle(
+    alloc: Global,
+    settled: Settled,
+    call: &Call,
+    env: &Env,
+    out: &mut Outcome,
+) -> Result<Option<Value>, StepEnd>
+    ensures { IsStep (option_map val_of) result env.now out.new (settled_runs (settled_view settled) call.now env.now out.old) }
+{
+    match settled {
+        Settled::Value(value) => Ok(Some(value)),
+        Settled::Nothing => Ok(None),
+        Settled::Line(line) => {
+            out.print(line)?;
+            Ok(None)
+        }
+        Settled::Refused(code, argument, details) => {
+            Err(refused(alloc, code, argument, details, call, env))
+        }
+    }
+}
+
+/// What a plain call does with the values of its arguments: it answers a value or none, or prints a line, which `out` has
+/// then. `Wrong` has what the call refuses, at the argument concerned or at its name. Nothing else changes.
+pub fn apply_plain(
+    alloc: Global,
+    plain: Plain,
+    values: &[Value],
+    call: &Call,
+    env: &Env,
+    out: &mut Outcome,
+) -> Result<Option<Value>, StepEnd>
+    ensures { IsStep (option_map val_of) result env.now out.new (plain_runs plain (map val_of values.now) call.now env.now out.old) }
+{
+    let settled = answer_plain(alloc, plain, values)?;
+    settle(alloc, settled, call, env, out)
+}
