@@ -1,9 +1,9 @@
 -- What a library tells, and how evaluations over it fail.
 use Rattle.std.proofs.Common.{◌≡◌, Option, Some, Result, Ok, Err, sym, ap, ◌∙◌, subst, arith}
 use Rattle.gn_items.specs.Effects.{Effects}
-use Rattle.gn_runs.specs.Runs.{Answers, End, Run, after}
+use Rattle.gn_runs.specs.Runs.{Answers, Run}
 use Rattle.gn_runs.specs.Laws.{Below}
-use Rattle.gn_scopes.specs.Environment.{Environment}
+use Rattle.gn_environment.specs.Environment.{Environment}
 use Rattle.gn_meaning.specs.Steps.{Left, then_do}
 use Rattle.gn_eval.specs.Library.{LibraryState, Need, Includes, GoesOn}
 use Rattle.gn_eval.specs.Ends.{Covers, IsFailure}
@@ -35,8 +35,8 @@ goes_on_further s t u first second = record {
 }
 
 -- what fails, fails whatever comes behind it
-pub then_failed : {A B : Type 0} (need : Need) (e : EvalEnd) (run : Run (Left A)) (g : A → Environment → Effects → Run (Left B)) → IsFailure need e run.end → IsFailure need e (then_do run g).end
-then_failed {A = A} {B = B} need (Wrong fault) run g h = ap (λ (e : End (Left A)). (after e run.asked (λ (l : Left A). g l.value l.environment l.effects)).end) h
-then_failed {A = A} {B = B} need (Spoiled path place) run g h = ap (λ (e : End (Left A)). (after e run.asked (λ (l : Left A). g l.value l.environment l.effects)).end) h
-then_failed {A = A} {B = B} need Stopped run g h = ap (λ (e : End (Left A)). (after e run.asked (λ (l : Left A). g l.value l.environment l.effects)).end) h
-then_failed need Memory run g h = tt
+pub then_failed : {A B : Type 0} (need : Need) (e : EvalEnd) (out : Effects) (run : Run (Left A)) (g : A → Environment → Effects → Run (Left B)) → IsFailure need e out run → IsFailure need e out (then_do run g)
+then_failed {A = A} need (Wrong fault) out run g h = ap (λ (r : Run (Left A)). then_do r g) h
+then_failed {A = A} need (Spoiled path place) out run g h = ap (λ (r : Run (Left A)). then_do r g) h
+then_failed {A = A} need Stopped out run g h = ap (λ (r : Run (Left A)). then_do r g) h
+then_failed need Memory out run g h = tt

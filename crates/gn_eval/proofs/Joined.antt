@@ -1,16 +1,19 @@
 -- The operators behind an operand, one after another.
-use Rattle.std.proofs.Common.{◌≡◌, ℕ, ◌+◌, ◌≤◌, suc, max, List, [], ◌∷◌, ◌++◌, refl, sym, ap, ◌∙◌, arith}
+use Rattle.std.proofs.Common.{◌≡◌, ℕ, ◌+◌, ◌≤◌, suc, max, List, [], ◌∷◌, ◌++◌, refl, sym, ap, subst, ◌∙◌, arith}
 use Rattle.gn_items.specs.Effects.{Effects}
 use Rattle.gn_tree.specs.Tree.{ExprTree, name_expr, integer_expr, string_expr, boolean_expr, call_expr, item_expr, entry_expr, scope_expr, parentheses_expr, list_expr, not_expr, binary_expr}
 use Rattle.gn_tree.specs.Depth.{expr_depth}
 use Rattle.gn_values.specs.Val.{Val}
 use Rattle.gn_runs.specs.Runs.{Run}
-use Rattle.gn_scopes.specs.Environment.{Environment}
+use Rattle.gn_environment.specs.Environment.{Environment}
 use Rattle.gn_meaning.specs.Steps.{Left, Steps, World, deeper, then_do, ends}
 use Rattle.gn_meaning.specs.Meaning.{expr_runs, operator_runs, operators_in}
 use Rattle.gn_eval.specs.declared.operations.Operation.{Operation}
 use Rattle.gn_eval.specs.Operations.{IsOperand, joined}
-use Rattle.gn_eval.proofs.Sequence.{then_same, then_assoc, then_ends}
+use Rattle.gn_eval.specs.Library.{Need}
+use Rattle.gn_eval.specs.Ends.{IsFailure}
+use Rattle.gn_eval.specs.declared.ending.EvalEnd.{EvalEnd}
+use Rattle.gn_eval.proofs.Covered.{then_failed}
 
 -- one operator more inside
 pub joined_more : (e : ExprTree) (os : List Operation) (o : Operation) → joined e (os ++ o ∷ []) ≡ joined (binary_expr o.operator o.position e o.right.now) os
@@ -53,39 +56,53 @@ operations_run w n (o ∷ os) x env out = then_do (operations_run w n os x env o
 deeper_twice : (n a b : ℕ) → deeper (deeper n a) b ≡ deeper n (b + a)
 deeper_twice n a b = omega arith
 
--- the leftmost operand comes first
-pub joined_runs : (w : World) (n : ℕ) (e : ExprTree) (os : List Operation) (env : Environment) (out : Effects) → IsOperand e → (expr_runs w n (joined e os) env out).end ≡ (then_do (expr_runs w n e env out) (λ x env1 out1. operations_run w (deeper n 1) os x env1 out1)).end
+-- the leftmost operand comes first: where it has its value, the operators go on from there
+pub joined_ended : (w : World) (n : ℕ) (e : ExprTree) (os : List Operation) (env : Environment) (out : Effects) (x : Val) (env1 : Environment) (out1 : Effects) → IsOperand e → expr_runs w n e env out ≡ ends x env1 out1 → expr_runs w n (joined e os) env out ≡ operations_run w (deeper n 1) os x env1 out1
 unfolding expr_runs
-joined_runs w n e [] env out h = sym (then_ends (expr_runs w n e env out))
-joined_runs w n e (o ∷ os) env out h =
-    let at : deeper n (operators_in (joined e os) + 1) ≡ deeper (deeper n 1) (operators_of os) = ap (λ k. deeper n (k + 1)) (operators_joined e os h) ∙ sym (deeper_twice n 1 (operators_of os)) in
-    ap (λ m. (then_do (expr_runs w n (joined e os) env out) (λ y env1 out1. operation_runs w m o y env1 out1)).end) at
-    ∙ then_same _ _ (λ y env1 out1. operation_runs w (deeper (deeper n 1) (operators_of os)) o y env1 out1) (joined_runs w n e os env out h)
-    ∙ then_assoc (expr_runs w n e env out) (λ x env1 out1. operations_run w (deeper n 1) os x env1 out1) (λ y env1 out1. operation_runs w (deeper (deeper n 1) (operators_of os)) o y env1 out1)
+joined_ended w n e [] env out x env1 out1 o h = h
+joined_ended w n e (p ∷ os) env out x env1 out1 o h =
+    let at : deeper n (operators_in (joined e os) + 1) ≡ deeper (deeper n 1) (operators_of os) = ap (λ k. deeper n (k + 1)) (operators_joined e os o) ∙ sym (deeper_twice n 1 (operators_of os)) in
+    ap (λ m. then_do (expr_runs w n (joined e os) env out) (λ y env2 out2. operation_runs w m p y env2 out2)) at
+    ∙ ap (λ (r : Run (Left Val)). then_do r (λ y env2 out2. operation_runs w (deeper (deeper n 1) (operators_of os)) p y env2 out2)) (joined_ended w n e os env out x env1 out1 o h)
+
+-- where it fails, all fails
+pub joined_failed : (w : World) (n : ℕ) (e : ExprTree) (os : List Operation) (env : Environment) (out : Effects) (need : Need) (end : EvalEnd) (out1 : Effects) → IsFailure need end out1 (expr_runs w n e env out) → IsFailure need end out1 (expr_runs w n (joined e os) env out)
+unfolding expr_runs
+joined_failed w n e [] env out need end out1 h = h
+joined_failed w n e (p ∷ os) env out need end out1 h =
+    then_failed need end out1 (expr_runs w n (joined e os) env out) (λ y env2 out2. operation_runs w (deeper n (operators_in (joined e os) + 1)) p y env2 out2) (joined_failed w n e os env out need end out1 h)
 
 operators_more : (os : List Operation) (o : Operation) → operators_of (os ++ o ∷ []) ≡ operators_of os + (1 + operators_in o.right.now)
 operators_more [] o = omega arith
 operators_more (p ∷ os) o = omega (arith, operators_more os o)
 
--- the innermost operator comes next
-pub operations_more : (w : World) (n : ℕ) (os : List Operation) (o : Operation) (x : Val) (env : Environment) (out : Effects) → n ≤ 400 → (operations_run w n (os ++ o ∷ []) x env out).end ≡ (then_do (operation_runs w n o x env out) (λ y env1 out1. operations_run w (deeper n (1 + operators_in o.right.now)) os y env1 out1)).end
-operations_more w n [] o x env out h =
+-- the innermost operator comes next: where it has its value, the others go on from there
+operations_ended : (w : World) (n : ℕ) (os : List Operation) (o : Operation) (x : Val) (env : Environment) (out : Effects) (y : Val) (env1 : Environment) (out1 : Effects) → n ≤ 400 → operation_runs w n o x env out ≡ ends y env1 out1 → operations_run w n (os ++ o ∷ []) x env out ≡ operations_run w (deeper n (1 + operators_in o.right.now)) os y env1 out1
+operations_ended w n [] o x env out y env1 out1 capped h =
     let at : deeper n 0 ≡ n = omega arith in
-    ap (λ m. (operation_runs w m o x env out).end) at ∙ sym (then_ends (operation_runs w n o x env out))
-operations_more w n (p ∷ os) o x env out h =
+    ap (λ m. operation_runs w m o x env out) at ∙ h
+operations_ended w n (p ∷ os) o x env out y env1 out1 capped h =
     let at : deeper n (operators_of (os ++ o ∷ [])) ≡ deeper (deeper n (1 + operators_in o.right.now)) (operators_of os) = ap (deeper n) (operators_more os o) ∙ sym (deeper_twice n (1 + operators_in o.right.now) (operators_of os)) in
-    ap (λ m. (then_do (operations_run w n (os ++ o ∷ []) x env out) (λ y env1 out1. operation_runs w m p y env1 out1)).end) at
-    ∙ then_same _ _ (λ y env1 out1. operation_runs w (deeper (deeper n (1 + operators_in o.right.now)) (operators_of os)) p y env1 out1) (operations_more w n os o x env out h)
-    ∙ then_assoc (operation_runs w n o x env out) (λ y env1 out1. operations_run w (deeper n (1 + operators_in o.right.now)) os y env1 out1) (λ y env1 out1. operation_runs w (deeper (deeper n (1 + operators_in o.right.now)) (operators_of os)) p y env1 out1)
+    ap (λ m. then_do (operations_run w n (os ++ o ∷ []) x env out) (λ z env2 out2. operation_runs w m p z env2 out2)) at
+    ∙ ap (λ (r : Run (Left Val)). then_do r (λ z env2 out2. operation_runs w (deeper (deeper n (1 + operators_in o.right.now)) (operators_of os)) p z env2 out2)) (operations_ended w n os o x env out y env1 out1 capped h)
 
-module _ (w : World) (n : ℕ) (whole : Run (Left Val)) (all rest : List Operation) (o : Operation) (x : Val) (env : Environment) (out : Effects) (capped : n ≤ 400) (runs : whole.end ≡ (operations_run w n all x env out).end) (last : all ≡ rest ++ o ∷ []) where
-  -- the innermost operator is taken from the others
-  pub operation_taken : whole.end ≡ (then_do (operation_runs w n o x env out) (λ y env1 out1. operations_run w (deeper n (1 + operators_in o.right.now)) rest y env1 out1)).end
-  operation_taken = runs ∙ ap (λ (os : List Operation). (operations_run w n os x env out).end) last ∙ operations_more w n rest o x env out capped
+-- where it fails, all fails
+operations_failed : (w : World) (n : ℕ) (os : List Operation) (o : Operation) (x : Val) (env : Environment) (out : Effects) (need : Need) (end : EvalEnd) (out1 : Effects) → n ≤ 400 → IsFailure need end out1 (operation_runs w n o x env out) → IsFailure need end out1 (operations_run w n (os ++ o ∷ []) x env out)
+operations_failed w n [] o x env out need end out1 capped h =
+    let at : deeper n 0 ≡ n = omega arith in
+    subst (λ m. IsFailure need end out1 (operation_runs w m o x env out)) (sym at) h
+operations_failed w n (p ∷ os) o x env out need end out1 capped h =
+    then_failed need end out1 (operations_run w n (os ++ o ∷ []) x env out) (λ z env2 out2. operation_runs w (deeper n (operators_of (os ++ o ∷ []))) p z env2 out2) (operations_failed w n os o x env out need end out1 capped h)
 
-  -- and has its value
-  pub operation_done : (y : Val) (env1 : Environment) (out1 : Effects) → (operation_runs w n o x env out).end ≡ (ends y env1 out1).end → whole.end ≡ (operations_run w (deeper n (1 + operators_in o.right.now)) rest y env1 out1).end
-  operation_done y env1 out1 h = operation_taken ∙ then_same (operation_runs w n o x env out) (ends y env1 out1) (λ z env2 out2. operations_run w (deeper n (1 + operators_in o.right.now)) rest z env2 out2) h
+module _ (w : World) (n : ℕ) (whole : Run (Left Val)) (all rest : List Operation) (o : Operation) (x : Val) (env : Environment) (out : Effects) (capped : n ≤ 400) (runs : whole ≡ operations_run w n all x env out) (last : all ≡ rest ++ o ∷ []) where
+  -- the innermost operator is taken from the others, and has its value
+  pub operation_done : (y : Val) (env1 : Environment) (out1 : Effects) → operation_runs w n o x env out ≡ ends y env1 out1 → whole ≡ operations_run w (deeper n (1 + operators_in o.right.now)) rest y env1 out1
+  operation_done y env1 out1 h = runs ∙ ap (λ (os : List Operation). operations_run w n os x env out) last ∙ operations_ended w n rest o x env out y env1 out1 capped h
+
+  -- or fails
+  pub operation_failed : (need : Need) (end : EvalEnd) (out1 : Effects) → IsFailure need end out1 (operation_runs w n o x env out) → IsFailure need end out1 whole
+  operation_failed need end out1 h =
+      subst (λ (r : Run (Left Val)). IsFailure need end out1 r) (sym (runs ∙ ap (λ (os : List Operation). operations_run w n os x env out) last)) (operations_failed w n rest o x env out need end out1 capped h)
 
 -- the operand and the right sides are less deep than the whole
 abbrev pub right_depth : List Operation → ℕ

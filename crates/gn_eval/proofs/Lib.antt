@@ -1,8 +1,4 @@
-pub mod Sequence
+pub mod CallParts
 pub mod Covered
 pub mod Joined
-pub mod Arguments
-pub mod Gathered
-pub mod CallShapes
 pub mod Passed
-pub mod Values

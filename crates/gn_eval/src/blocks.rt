@@ -1,25 +1,21 @@
 // Whole blocks and files.
 
-ghost use Rattle.std.specs.Prelude.{◌≡◌, ◌<◌};
+ghost use Rattle.std.specs.Prelude.{◌≡◌};
 ghost use Rattle.gn_tree.specs.Depth.{IsShallow};
-ghost use Rattle.gn_runs.specs.Runs.{Answers};
 ghost use Rattle.gn_meaning.specs.Meaning.{whole_block_runs, file_runs, import_file_runs};
 ghost use Rattle.gn_items.specs.Effects.{Effects};
-ghost use Rattle.gn_scopes.specs.Environment.{reported_here};
+ghost use Rattle.gn_environment.specs.Environment.{reported_here};
 ghost use Rattle.gn_meaning.specs.Calls.{checked_end};
-ghost use Rattle.gn_eval.specs.Ends.{Covers, IsStep, IsRun};
-ghost use Rattle.gn_eval.specs.Spent.{IsSpentRun};
-ghost use Rattle.gn_eval.specs.Library.{GoesOn};
+ghost use Rattle.gn_steps.specs.Ends.{IsStep};
+ghost use Rattle.gn_eval.specs.Ends.{Evaluates, EvaluatesSpent};
 
-use crate::definer::Definer;
 use crate::ending::EvalEnd;
-use crate::faults::no_effect;
 use crate::level::Level;
 use crate::library::Library;
 use crate::statements::run_statements;
-use crate::step::StepEnd;
+use gn_env::Env;
 use gn_items::Outcome;
-use gn_scopes::Env;
+use gn_steps::{Definer, StepEnd, no_effect};
 use gn_tree::Block;
 use gn_values::ImportValue;
 use std::alloc::Global;
@@ -28,7 +24,8 @@ use std::alloc::Global;
 /// `out`. `Wrong` has the first fault from left to right, and comes exactly where there is one, but for want of memory.
 /// `Spoiled` comes exactly where the first thing that goes wrong is an import that the library can't use, and has its
 /// path and where its call stands. `Stopped` comes where the library has stopped: it lacks the answer that it has noted.
-/// After an error the environment and `out` are spent.
+/// After an error the environment is spent, and of `out` only what it asked stands: whatever the end, `out` has the questions
+/// asked, in order, but for want of memory; where the library has stopped, those before the one that it lacks.
 #[tactic(auto, unfolding(gn_meaning::specs::Meaning::whole_block_runs))]
 pub fn run_block<L: Library + Definer>(
     alloc: Global,
@@ -38,9 +35,7 @@ pub fn run_block<L: Library + Definer>(
     library: &mut L,
 ) -> Result<(), EvalEnd>
     requires shallow { IsShallow block.now }
-    ensures runs { (a : Answers) → Covers (L.state library.new).told result a → IsRun (λ u. u) (L.state library.new).need result env.new out.new (whole_block_runs a block.now env.old out.old) }
-    ensures goes { GoesOn (L.state library.old) (L.state library.new) }
-    ensures rose { result ≡ Err EvalEnd.Stopped → (L.state library.old).stops < (L.state library.new).stops }
+    ensures { Evaluates (λ u. u) (L.state library.old) (L.state library.new) result env.new out.new (λ a. whole_block_runs a block.now env.old out.old) }
 {
     run_statements(alloc, Level::outermost(), block, env, out, library)
 }
@@ -67,9 +62,7 @@ pub fn run_file<L: Library + Definer>(
     library: &mut L,
 ) -> Result<(), EvalEnd>
     requires shallow { IsShallow block.now }
-    ensures runs { (a : Answers) → Covers (L.state library.new).told result a → IsRun (λ u. u) (L.state library.new).need result env.new out.new (file_runs a block.now env.old out.old) }
-    ensures goes { GoesOn (L.state library.old) (L.state library.new) }
-    ensures rose { result ≡ Err EvalEnd.Stopped → (L.state library.old).stops < (L.state library.new).stops }
+    ensures { Evaluates (λ u. u) (L.state library.old) (L.state library.new) result env.new out.new (λ a. file_runs a block.now env.old out.old) }
 {
     run_block(alloc, block, env, out, library)?;
     end_file(alloc, env)?;
@@ -87,10 +80,13 @@ pub fn run_import_file<L: Library + Definer>(
     library: &mut L,
 ) -> Result<ImportValue, EvalEnd>
     requires shallow { IsShallow block.now }
-    ensures runs { (a : Answers) → Covers (L.state library.new).told result a → IsSpentRun (λ v. v) (L.state library.new).need result out.new (import_file_runs a block.now env out.old) }
-    ensures goes { GoesOn (L.state library.old) (L.state library.new) }
-    ensures rose { result ≡ Err EvalEnd.Stopped → (L.state library.old).stops < (L.state library.new).stops }
+    ensures { EvaluatesSpent (λ v. v) (L.state library.old) (L.state library.new) result out.new (λ a. import_file_runs a block.now env out.old) }
 {
-    run_block(alloc, block, &mut env, out, library)?;
-    Ok(env.import_value(alloc)?)
+    match run_block(alloc, block, &mut env, out, library) {
+        Ok(()) => Ok(env.import_value(alloc)?),
+        Err(end) => {
+            drop(env);
+            Err(end)
+        }
+    }
 }

@@ -1,8 +1,11 @@
 // How an evaluation ends where it has no value.
 
-use crate::step::StepEnd;
+ghost use Rattle.std.specs.Prelude.{◌≡◌};
+ghost use Rattle.gn_eval.specs.Ends.{lifted};
+
 use gn_faults::Fault;
 use gn_paths::{Path, Place};
+use gn_steps::StepEnd;
 use std::alloc::AllocError;
 
 /// Why an evaluation has no value.
@@ -40,5 +43,15 @@ impl From<StepEnd> for EvalEnd {
             StepEnd::Wrong(fault) => EvalEnd::Wrong(fault),
             StepEnd::Memory => EvalEnd::Memory,
         }
+    }
+}
+
+/// The end of an evaluation with a step that asks nothing.
+pub(crate) fn lift<T: Drop>(done: Result<T, StepEnd>) -> Result<T, EvalEnd>
+    ensures { result ≡ lifted done }
+{
+    match done {
+        Ok(value) => Ok(value),
+        Err(end) => Err(end.into()),
     }
 }

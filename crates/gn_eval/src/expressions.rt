@@ -4,35 +4,30 @@ ghost use Rattle.std.specs.Prelude.{◌≡◌, ◌<◌, ◌≤◌, OnOk, [], fal
 ghost use Rattle.gn_tree.specs.Depth.{max_depth, expr_depth, exprs_depth, call_depth, block_depth};
 ghost use Rattle.gn_tree.specs.Views.{expr_of, exprs_of, call_of};
 ghost use Rattle.gn_values.specs.View.{val_of};
-ghost use Rattle.gn_scopes.specs.Environment.{entered};
-ghost use Rattle.gn_runs.specs.Runs.{Answers};
+ghost use Rattle.gn_environment.specs.Environment.{entered};
 ghost use Rattle.gn_meaning.specs.Steps.{deeper, then_do};
-ghost use Rattle.gn_meaning.specs.Words.{base_runs, element_runs, scope_runs, negation_runs};
+ghost use Rattle.gn_meaning.specs.Words.{base_runs, element_runs, list_runs, scope_runs, negation_runs};
 ghost use Rattle.gn_meaning.specs.Calls.{call_value_runs};
-ghost use Rattle.gn_meaning.specs.Meaning.{world, expr_runs, operator_runs, items_run, values_run, call_runs, block_runs};
-ghost use Rattle.gn_eval.specs.Ends.{Covers, IsRun};
-ghost use Rattle.gn_eval.specs.Library.{GoesOn};
+ghost use Rattle.gn_meaning.specs.Meaning.{world, expr_runs, operator_runs, values_run, call_runs, block_runs};
+ghost use Rattle.gn_eval.specs.Ends.{Evaluates};
 ghost use Rattle.gn_eval.specs.Operations.{IsOperand};
 
-use crate::calls::value_of_call;
-use crate::collections::{add_item, add_value, end_scope};
-use crate::definer::Definer;
+use crate::calls::run_call;
 use crate::ending::EvalEnd;
-use crate::faults::wrong;
-use crate::functions::run_call;
 use crate::level::Level;
 use crate::library::Library;
-use crate::names::{read_base, read_element, read_entry, read_name};
 use crate::operations::{Operation, left_operand, operators_in};
-use crate::operators::{boolean, negate, operate};
 use crate::statements::run_statements;
-use crate::strings::expand;
+use gn_env::Env;
 use gn_faults::Code;
 use gn_items::Outcome;
 use gn_paths::Text;
-use gn_scopes::Env;
+use gn_steps::{
+    Definer, add_value, boolean, end_scope, expand, make_list, negate, operate, read_base,
+    read_element, read_entry, read_name, value_of_call, wrong,
+};
 use gn_tree::{BinaryOp, Block, Call, Expr, Exprs, Position, SubExpr};
-use gn_values::{Items, Value};
+use gn_values::Value;
 use std::alloc::Global;
 
 /// The value of an expression.
@@ -46,9 +41,7 @@ pub(crate) fn eval_expr<L: Library + Definer>(
     library: &mut L,
 ) -> Result<Value, EvalEnd>
     requires shallow { expr_depth (expr_of expr.now) ≤ max_depth }
-    ensures runs { (a : Answers) → Covers (L.state library.new).told result a → IsRun val_of (L.state library.new).need result env.new out.new (expr_runs (world level.room a) level.nesting (expr_of expr.now) env.old out.old) }
-    ensures goes { GoesOn (L.state library.old) (L.state library.new) }
-    ensures rose { result ≡ Err EvalEnd.Stopped → (L.state library.old).stops < (L.state library.new).stops }
+    ensures { Evaluates val_of (L.state library.old) (L.state library.new) result env.new out.new (λ a. expr_runs (world level.room a) level.nesting (expr_of expr.now) env.old out.old) }
 {
     let (leftmost, mut operations) = left_operand(alloc, expr)?;
     let mut value = eval_operand(alloc, level, leftmost, env, out, library)?;
@@ -73,9 +66,7 @@ fn eval_operand<L: Library + Definer>(
 ) -> Result<Value, EvalEnd>
     requires operand { IsOperand (expr_of expr.now) }
     requires shallow { expr_depth (expr_of expr.now) ≤ max_depth }
-    ensures runs { (a : Answers) → Covers (L.state library.new).told result a → IsRun val_of (L.state library.new).need result env.new out.new (expr_runs (world level.room a) level.nesting (expr_of expr.now) env.old out.old) }
-    ensures goes { GoesOn (L.state library.old) (L.state library.new) }
-    ensures rose { result ≡ Err EvalEnd.Stopped → (L.state library.old).stops < (L.state library.new).stops }
+    ensures { Evaluates val_of (L.state library.old) (L.state library.new) result env.new out.new (λ a. expr_runs (world level.room a) level.nesting (expr_of expr.now) env.old out.old) }
 {
     match expr {
         Expr::Name { position, name } => Ok(read_name(alloc, name, *position, env)?),
@@ -116,17 +107,15 @@ fn eval_operand<L: Library + Definer>(
             out,
             library,
         ),
-        Expr::List { position, items } => {
-            Ok(Value::List(eval_items(
-                alloc,
-                level.deeper(1),
-                items,
-                *position,
-                env,
-                out,
-                library,
-            )?))
-        }
+        Expr::List { position, items } => eval_list(
+            alloc,
+            level.deeper(1),
+            items,
+            *position,
+            env,
+            out,
+            library,
+        ),
         Expr::Not { position, operand } => {
             let value = eval_expr(alloc, level.deeper(1), operand.get(), env, out, library)?;
             Ok(negate(alloc, &value, *position, env)?)
@@ -146,9 +135,7 @@ fn eval_call<L: Library + Definer>(
     library: &mut L,
 ) -> Result<Value, EvalEnd>
     requires shallow { call_depth (call_of call.now) ≤ max_depth }
-    ensures runs { (a : Answers) → Covers (L.state library.new).told result a → IsRun val_of (L.state library.new).need result env.new out.new (then_do (call_runs (world level.room a) level.nesting (call_of call.now) env.old out.old) (λ v env1 out1. call_value_runs v call.now.position env1 out1)) }
-    ensures goes { GoesOn (L.state library.old) (L.state library.new) }
-    ensures rose { result ≡ Err EvalEnd.Stopped → (L.state library.old).stops < (L.state library.new).stops }
+    ensures { Evaluates val_of (L.state library.old) (L.state library.new) result env.new out.new (λ a. then_do (call_runs (world level.room a) level.nesting (call_of call.now) env.old out.old) (λ v env1 out1. call_value_runs v call.now.position env1 out1)) }
 {
     let value = run_call(alloc, level, call, env, out, library)?;
     Ok(value_of_call(alloc, value, call.position, env)?)
@@ -168,9 +155,7 @@ fn eval_item<L: Library + Definer>(
     library: &mut L,
 ) -> Result<Value, EvalEnd>
     requires shallow { expr_depth index.now ≤ max_depth }
-    ensures runs { (a : Answers) → Covers (L.state library.new).told result a → IsRun val_of (L.state library.new).need result env.new out.new (then_do (base_runs base.now position env.old out.old) (λ _ env1 out1. then_do (expr_runs (world level.room a) (deeper level.nesting 1) index.now env1 out1) (λ at env2 out2. element_runs base.now position at bracket env2 out2))) }
-    ensures goes { GoesOn (L.state library.old) (L.state library.new) }
-    ensures rose { result ≡ Err EvalEnd.Stopped → (L.state library.old).stops < (L.state library.new).stops }
+    ensures { Evaluates val_of (L.state library.old) (L.state library.new) result env.new out.new (λ a. then_do (base_runs base.now position env.old out.old) (λ _ env1 out1. then_do (expr_runs (world level.room a) (deeper level.nesting 1) index.now env1 out1) (λ at env2 out2. element_runs base.now position at bracket env2 out2))) }
 {
     read_base(alloc, base, position, env)?;
     let at = eval_expr(alloc, level.deeper(1), index.get(), env, out, library)?;
@@ -190,9 +175,7 @@ fn apply<L: Library + Definer>(
     library: &mut L,
 ) -> Result<Value, EvalEnd>
     requires shallow { expr_depth operation.right.now ≤ max_depth }
-    ensures runs { (a : Answers) → Covers (L.state library.new).told result a → IsRun val_of (L.state library.new).need result env.new out.new (operator_runs operation.entry.operator (val_of left) (expr_runs (world level.room a) level.nesting operation.entry.right.now) operation.entry.position env.old out.old) }
-    ensures goes { GoesOn (L.state library.old) (L.state library.new) }
-    ensures rose { result ≡ Err EvalEnd.Stopped → (L.state library.old).stops < (L.state library.new).stops }
+    ensures { Evaluates val_of (L.state library.old) (L.state library.new) result env.new out.new (λ a. operator_runs operation.entry.operator (val_of left) (expr_runs (world level.room a) level.nesting operation.entry.right.now) operation.entry.position env.old out.old) }
 {
     let Operation {
         operator,
@@ -235,19 +218,17 @@ fn eval_scope<L: Library + Definer>(
     library: &mut L,
 ) -> Result<Value, EvalEnd>
     requires shallow { block_depth block.now ≤ max_depth }
-    ensures runs { (a : Answers) → Covers (L.state library.new).told result a → IsRun val_of (L.state library.new).need result env.new out.new (then_do (block_runs (world level.room a) level.nesting block.now (entered false env.old) out.old) (λ _ env1 out1. scope_runs position env1 out1)) }
-    ensures goes { GoesOn (L.state library.old) (L.state library.new) }
-    ensures rose { result ≡ Err EvalEnd.Stopped → (L.state library.old).stops < (L.state library.new).stops }
+    ensures { Evaluates val_of (L.state library.old) (L.state library.new) result env.new out.new (λ a. then_do (block_runs (world level.room a) level.nesting block.now (entered false env.old) out.old) (λ _ env1 out1. scope_runs position env1 out1)) }
 {
     env.enter(false)?;
     run_statements(alloc, level, block, env, out, library)?;
     Ok(end_scope(alloc, position, env)?)
 }
 
-// The items of a list whose bracket stands at the position.
+// The value of a list literal whose bracket stands at the position: all its items are evaluated, then they have to be
+// within the limits.
 #[cycle(eval)]
-#[tactic(auto, unfolding(gn_meaning::specs::Meaning::items_run))]
-fn eval_items<L: Library + Definer>(
+fn eval_list<L: Library + Definer>(
     alloc: Global,
     level: Level,
     items: &Exprs,
@@ -255,18 +236,12 @@ fn eval_items<L: Library + Definer>(
     env: &mut Env,
     out: &mut Outcome,
     library: &mut L,
-) -> Result<Items, EvalEnd>
+) -> Result<Value, EvalEnd>
     requires shallow { exprs_depth items.now ≤ max_depth }
-    ensures runs { (a : Answers) → Covers (L.state library.new).told result a → IsRun (λ vs. vs) (L.state library.new).need result env.new out.new (items_run (world level.room a) level.nesting items.now [] position env.old out.old) }
-    ensures goes { GoesOn (L.state library.old) (L.state library.new) }
-    ensures rose { result ≡ Err EvalEnd.Stopped → (L.state library.old).stops < (L.state library.new).stops }
+    ensures { Evaluates val_of (L.state library.old) (L.state library.new) result env.new out.new (λ a. then_do (values_run (world level.room a) level.nesting items.now [] env.old out.old) (λ vs env1 out1. list_runs vs position env1 out1)) }
 {
-    let mut values = Items::new(alloc);
-    for item in items.as_slice() {
-        let value = eval_expr(alloc, level, item, env, out, library)?;
-        add_item(alloc, &mut values, value, position, env)?;
-    }
-    Ok(values)
+    let values = eval_values(alloc, level, items.as_slice(), env, out, library)?;
+    Ok(make_list(alloc, values, position, env)?)
 }
 
 /// The values of arguments, in order.
@@ -281,9 +256,7 @@ pub(crate) fn eval_values<L: Library + Definer>(
     library: &mut L,
 ) -> Result<Vec<Value>, EvalEnd>
     requires shallow { exprs_depth (exprs_of arguments.now) ≤ max_depth }
-    ensures runs { (a : Answers) → Covers (L.state library.new).told result a → IsRun (λ vs. map val_of vs.items) (L.state library.new).need result env.new out.new (values_run (world level.room a) level.nesting (exprs_of arguments.now) env.old out.old) }
-    ensures goes { GoesOn (L.state library.old) (L.state library.new) }
-    ensures rose { result ≡ Err EvalEnd.Stopped → (L.state library.old).stops < (L.state library.new).stops }
+    ensures { Evaluates (λ vs. map val_of vs.items) (L.state library.old) (L.state library.new) result env.new out.new (λ a. values_run (world level.room a) level.nesting (exprs_of arguments.now) [] env.old out.old) }
 {
     let mut values = Vec::new(alloc);
     for argument in arguments {

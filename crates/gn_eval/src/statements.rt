@@ -4,22 +4,17 @@ ghost use Rattle.std.specs.Prelude.{◌≡◌, ◌<◌, ◌≤◌, OnOk};
 ghost use Rattle.gn_tree.specs.Depth.{max_depth, target_depth, statement_depth, condition_depth, otherwise_depth, block_depth};
 ghost use Rattle.gn_tree.specs.Views.{target_of, statement_of, condition_of, otherwise_of};
 ghost use Rattle.gn_values.specs.View.{val_of};
-ghost use Rattle.gn_runs.specs.Runs.{Answers};
 ghost use Rattle.gn_meaning.specs.Meaning.{world, assignment_runs, statement_runs, condition_runs, otherwise_runs, block_runs};
-ghost use Rattle.gn_eval.specs.Ends.{Covers, IsRun};
-ghost use Rattle.gn_eval.specs.Library.{GoesOn};
+ghost use Rattle.gn_eval.specs.Ends.{Evaluates};
 
-use crate::assignments::{assign_element, assign_name};
-use crate::definer::Definer;
+use crate::calls::run_call;
 use crate::ending::EvalEnd;
 use crate::expressions::eval_expr;
-use crate::faults::wrong;
-use crate::functions::run_call;
 use crate::level::Level;
 use crate::library::Library;
-use gn_faults::Code;
+use gn_env::Env;
 use gn_items::Outcome;
-use gn_scopes::Env;
+use gn_steps::{Definer, assign_element, assign_name, truth};
 use gn_tree::{AssignOp, Block, Condition, Otherwise, Position, Statement, Target};
 use gn_values::Value;
 use std::alloc::Global;
@@ -36,9 +31,7 @@ pub(crate) fn run_statements<L: Library + Definer>(
     library: &mut L,
 ) -> Result<(), EvalEnd>
     requires shallow { block_depth block.now ≤ max_depth }
-    ensures runs { (a : Answers) → Covers (L.state library.new).told result a → IsRun (λ u. u) (L.state library.new).need result env.new out.new (block_runs (world level.room a) level.nesting block.now env.old out.old) }
-    ensures goes { GoesOn (L.state library.old) (L.state library.new) }
-    ensures rose { result ≡ Err EvalEnd.Stopped → (L.state library.old).stops < (L.state library.new).stops }
+    ensures { Evaluates (λ u. u) (L.state library.old) (L.state library.new) result env.new out.new (λ a. block_runs (world level.room a) level.nesting block.now env.old out.old) }
 {
     for statement in block.statements() {
         run_statement(alloc, level, statement, env, out, library)?;
@@ -58,9 +51,7 @@ fn run_statement<L: Library + Definer>(
     library: &mut L,
 ) -> Result<(), EvalEnd>
     requires shallow { statement_depth (statement_of statement.now) ≤ max_depth }
-    ensures runs { (a : Answers) → Covers (L.state library.new).told result a → IsRun (λ u. u) (L.state library.new).need result env.new out.new (statement_runs (world level.room a) level.nesting (statement_of statement.now) env.old out.old) }
-    ensures goes { GoesOn (L.state library.old) (L.state library.new) }
-    ensures rose { result ≡ Err EvalEnd.Stopped → (L.state library.old).stops < (L.state library.new).stops }
+    ensures { Evaluates (λ u. u) (L.state library.old) (L.state library.new) result env.new out.new (λ a. statement_runs (world level.room a) level.nesting (statement_of statement.now) env.old out.old) }
 {
     match statement {
         Statement::Assignment {
@@ -99,9 +90,7 @@ fn assign<L: Library + Definer>(
     library: &mut L,
 ) -> Result<(), EvalEnd>
     requires shallow { target_depth (target_of target.now) ≤ max_depth }
-    ensures runs { (a : Answers) → Covers (L.state library.new).told result a → IsRun (λ u. u) (L.state library.new).need result env.new out.new (assignment_runs (world level.room a) level.nesting (target_of target.now) operator position (val_of value) env.old out.old) }
-    ensures goes { GoesOn (L.state library.old) (L.state library.new) }
-    ensures rose { result ≡ Err EvalEnd.Stopped → (L.state library.old).stops < (L.state library.new).stops }
+    ensures { Evaluates (λ u. u) (L.state library.old) (L.state library.new) result env.new out.new (λ a. assignment_runs (world level.room a) level.nesting (target_of target.now) operator position (val_of value) env.old out.old) }
 {
     match target {
         Target::Name { position: at, name } => {
@@ -147,27 +136,14 @@ fn run_condition<L: Library + Definer>(
     library: &mut L,
 ) -> Result<(), EvalEnd>
     requires shallow { condition_depth (condition_of condition.now) ≤ max_depth }
-    ensures runs { (a : Answers) → Covers (L.state library.new).told result a → IsRun (λ u. u) (L.state library.new).need result env.new out.new (condition_runs (world level.room a) level.nesting (condition_of condition.now) env.old out.old) }
-    ensures goes { GoesOn (L.state library.old) (L.state library.new) }
-    ensures rose { result ≡ Err EvalEnd.Stopped → (L.state library.old).stops < (L.state library.new).stops }
+    ensures { Evaluates (λ u. u) (L.state library.old) (L.state library.new) result env.new out.new (λ a. condition_runs (world level.room a) level.nesting (condition_of condition.now) env.old out.old) }
 {
-    match eval_expr(alloc, level.deeper(1), &condition.test, env, out, library)? {
-        Value::Bool(true) => run_statements(
-            alloc,
-            level.deeper(1),
-            &condition.block,
-            env,
-            out,
-            library,
-        ),
-        Value::Bool(false) => run_otherwise(alloc, level, &condition.otherwise, env, out, library),
-        _ => Err(wrong(
-            alloc,
-            env,
-            Code::NotBoolean,
-            condition.test.first_position(),
-        )
-        .into()),
+    let value = eval_expr(alloc, level.deeper(1), &condition.test, env, out, library)?;
+    let holds = truth(alloc, &value, condition.test.first_position(), env)?;
+    if holds {
+        run_statements(alloc, level.deeper(1), &condition.block, env, out, library)
+    } else {
+        run_otherwise(alloc, level, &condition.otherwise, env, out, library)
     }
 }
 
@@ -183,9 +159,7 @@ fn run_otherwise<L: Library + Definer>(
     library: &mut L,
 ) -> Result<(), EvalEnd>
     requires shallow { otherwise_depth (otherwise_of otherwise.now) ≤ max_depth }
-    ensures runs { (a : Answers) → Covers (L.state library.new).told result a → IsRun (λ u. u) (L.state library.new).need result env.new out.new (otherwise_runs (world level.room a) level.nesting (otherwise_of otherwise.now) env.old out.old) }
-    ensures goes { GoesOn (L.state library.old) (L.state library.new) }
-    ensures rose { result ≡ Err EvalEnd.Stopped → (L.state library.old).stops < (L.state library.new).stops }
+    ensures { Evaluates (λ u. u) (L.state library.old) (L.state library.new) result env.new out.new (λ a. otherwise_runs (world level.room a) level.nesting (otherwise_of otherwise.now) env.old out.old) }
 {
     match otherwise {
         Otherwise::Nothing => Ok(()),
