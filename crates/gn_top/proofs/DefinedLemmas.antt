@@ -7,8 +7,8 @@ use Rattle.gn_values.specs.Val.{Val, vlist, vals_of, list_of}
 use Rattle.gn_labels.specs.Names.{is_name}
 use Rattle.gn_faults.specs.declared.code.Code.TheVariants as code
 use Rattle.gn_items.specs.declared.item.ItemKind.TheVariants.{Group}
-use Rattle.gn_scopes.specs.Environment.{Environment, value_of, after_read}
-use Rattle.gn_scopes.specs.Faults.{fault_in}
+use Rattle.gn_environment.specs.Environment.{Environment, value_of, after_read}
+use Rattle.gn_environment.specs.Faults.{fault_in}
 use Rattle.gn_meaning.specs.Items.{defined, item_here, may_be_strings, is_string, deps_name}
 
 -- the items of a list of values are those values

@@ -81,11 +81,11 @@ build_ends tree store loads (unit.Load effects) ending is e =
     ∙ ap (λ (r : Run (Left (Unit {0}))). run_end tree r.end) (same_run tree store loads settled) ∙ ap (run_end tree) is.1
     ∙ (λ i. Ok (record { imports = sym (imports_built tree store loads settled loads.imports_sorted (store_imports_known store)) i; file = effects }))
     ∙ ap (has_built store) (sym e)
-build_ends tree store loads (unit.Wrong fault) ending is e =
+build_ends tree store loads (unit.Wrong fault asked) ending is e =
     let settled : IsSettled (load_execution root (answers_of (known_in store))).end = subst IsSettled (sym is) tt in
     not_too_large tree store loads settled loads.contents_sorted (store_contents_known store) (loads.few)
     ∙ ap (λ (r : Run (Left (Unit {0}))). run_end tree r.end) (same_run tree store loads settled) ∙ ap (run_end tree) is ∙ ap (has_built store) (sym e)
-build_ends tree store loads (unit.Spoiled path place) ending is e =
+build_ends tree store loads (unit.Spoiled path place asked) ending is e =
     let settled : IsSettled (load_execution root (answers_of (known_in store))).end = subst IsSettled (sym is) tt in
     let kept = loading_spoiled (project_of tree) (load_execution root) (tree_project tree) (load_execution_tree root) (known_in store) [] loads.loading path place is in
     let same : cause (project_of tree) path ≡ e.0 = some_same (cause (project_of tree) path) e.0 (sym kept ∙ e.1) in

@@ -91,13 +91,13 @@ module _ (tree : Tree) where
       (loading_ends project build (tree_project tree) (load_execution_tree root) (known_in old) l links loads.loading value
       (meaning_end (import_execution l.path (answers_of (known_in old))) (λ left. leaves left.value) _ is.1) None))
       (settled_effects (known_in old) (l ∷ links) loads.loading l.path _ is.1 tt ∙ ap effects_view (sym k))
-  settled_loads old new l links (unit.Wrong fault) kept loads contents is k known entries sorted =
+  settled_loads old new l links (unit.Wrong fault asked) kept loads contents is k known entries sorted =
       kept_loads old new l links kept loads contents known entries sorted
       (subst (λ (x : Kept). IsLoading project build (with_import (known_in old) l.path (Some (imported_view x)) (fault_view x)) links) (sym k)
       (loading_fails project build (tree_project tree) (load_execution_tree root) (known_in old) l links loads.loading fault
       (meaning_end (import_execution l.path (answers_of (known_in old))) (λ left. leaves left.value) _ is)))
       (settled_effects (known_in old) (l ∷ links) loads.loading l.path _ is tt ∙ ap effects_view (sym k))
-  settled_loads old new l links (unit.Spoiled path place) kept loads contents is k known entries sorted =
+  settled_loads old new l links (unit.Spoiled path place asked) kept loads contents is k known entries sorted =
       kept_loads old new l links kept loads contents known entries sorted
       (subst (λ (x : Kept). IsLoading project build (with_import (known_in old) l.path (Some (imported_view x)) (fault_view x)) links) (sym k.2)
       (subst (λ f. IsLoading project build (with_import (known_in old) l.path (Some is_unusable) f) links) k.1

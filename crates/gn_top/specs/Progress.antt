@@ -53,15 +53,15 @@ IsNext known links (Needs needed) = IsNeedOf (next_key links) (need_view needed)
 abbrev pub IsKept : Known → Evaluated → Kept → Type 0
 IsKept known (unit.Load effects) kept = ⊥
 IsKept known (unit.Import value effects) kept = kept ≡ Usable value effects
-IsKept known (unit.Wrong fault) kept = kept ≡ Unusable fault
-IsKept known (unit.Spoiled path place) kept = (fault : Fault) × (known.faults path ≡ Some fault) × (kept ≡ Unusable fault)
+IsKept known (unit.Wrong fault asked) kept = kept ≡ Unusable fault
+IsKept known (unit.Spoiled path place asked) kept = (fault : Fault) × (known.faults path ≡ Some fault) × (kept ≡ Unusable fault)
 
 -- how a build ends whose build file has ended
 abbrev pub IsEnding : Known → Evaluated → Ending → Type 0
 IsEnding known (unit.Load effects) ending = ending ≡ Left effects
 IsEnding known (unit.Import value effects) ending = ⊥
-IsEnding known (unit.Wrong fault) ending = ending ≡ Wrong fault
-IsEnding known (unit.Spoiled path place) ending = (fault : Fault) × (known.faults path ≡ Some fault) × (ending ≡ Wrong fault)
+IsEnding known (unit.Wrong fault asked) ending = ending ≡ Wrong fault
+IsEnding known (unit.Spoiled path place asked) ending = (fault : Fault) × (known.faults path ≡ Some fault) × (ending ≡ Wrong fault)
 
 -- what is known of a tree is right, and was asked for; each import that is kept has left what it leaves over all answers, no more paths have been
 -- read than a build may ask for, and both are kept in the order of paths

@@ -3,16 +3,16 @@
 ghost use Rattle.std.specs.Prelude.{◌≡◌, [], ◌∷◌, IfOk, IfErr, Ok, Err, option_map};
 ghost use Rattle.std.specs.List.{list_all};
 ghost use Rattle.gn_values.specs.View.{val_of};
-ghost use Rattle.gn_scopes.specs.Faults.{fault_in};
+ghost use Rattle.gn_environment.specs.Faults.{fault_in};
 ghost use Rattle.gn_meaning.specs.Items.{defined, item_here, may_be_strings, is_string, deps_name};
-ghost use Rattle.gn_eval.specs.Definitions.{IfWrong};
+ghost use Rattle.gn_steps.specs.Definitions.{IfWrong};
 
+use gn_env::Env;
 use gn_eval::DefineError;
 use gn_faults::{Code, Fault};
 use gn_items::{Item, ItemKind};
 use gn_labels::{Label, is_name};
 use gn_paths::{Place, Text, Texts};
-use gn_scopes::Env;
 use gn_tree::Position;
 use gn_values::Value;
 use std::alloc::{AllocError, Global};

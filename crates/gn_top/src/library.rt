@@ -2,10 +2,10 @@
 
 use crate::groups::group;
 use crate::store::{FileContent, Kept, Store};
+use gn_env::Env;
 use gn_eval::{DefineError, Definer, Found, Imported, LibStop, Library};
 use gn_items::{Item, ItemKind};
 use gn_paths::{Path, Place, Text};
-use gn_scopes::Env;
 use gn_tree::Position;
 use std::alloc::{AllocError, Global};
 

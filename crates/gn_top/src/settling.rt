@@ -37,8 +37,8 @@ pub(crate) fn left_by(alloc: Global, store: &Store, unit: Unit) -> Result<Kept, 
 {
     match unit {
         Unit::Import(value, outcome) => Ok(Kept::Usable(value, outcome)),
-        Unit::Wrong(fault) => Ok(Kept::Unusable(fault)),
-        Unit::Spoiled(path, _) => Ok(Kept::Unusable(kept_fault(alloc, store, &path)?)),
+        Unit::Wrong(fault, _) => Ok(Kept::Unusable(fault)),
+        Unit::Spoiled(path, ..) => Ok(Kept::Unusable(kept_fault(alloc, store, &path)?)),
         // No import is a build file.
         Unit::Load(_) => Err(AllocError),
     }
@@ -50,8 +50,8 @@ pub(crate) fn ending_of(alloc: Global, store: &Store, unit: Unit) -> Result<Endi
 {
     match unit {
         Unit::Load(outcome) => Ok(Ending::Left(outcome)),
-        Unit::Wrong(fault) => Ok(Ending::Wrong(fault)),
-        Unit::Spoiled(path, _) => Ok(Ending::Wrong(kept_fault(alloc, store, &path)?)),
+        Unit::Wrong(fault, _) => Ok(Ending::Wrong(fault)),
+        Unit::Spoiled(path, ..) => Ok(Ending::Wrong(kept_fault(alloc, store, &path)?)),
         // No build file is an import.
         Unit::Import(..) => Err(AllocError),
     }

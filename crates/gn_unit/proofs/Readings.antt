@@ -1,26 +1,19 @@
--- What bytes are read as is the tree that they spell, or their first error.
-use Rattle.std.proofs.Common.{◌≡◌, ℕ, List, Ok, Err, ap, inl, inr, ◌⊎◌}
+-- The fault of a first error is the one that the meaning has.
+use Rattle.std.proofs.Common.{◌≡◌, List, ℕ, Option, Some, None, MatchOption, Result, Err, refl}
+use Rattle.std.specs.Prelude.{⊤}
 use Rattle.gn_tree.specs.Tree.{BlockTree}
-use Rattle.gn_syntax.specs.declared.error.SyntaxError.{SyntaxError}
-use Rattle.gn_syntax.specs.Errors.{IsTree}
-use Rattle.gn_syntax.specs.Laws.{IsFirstError}
-use Rattle.gn_syntax.proofs.OneAnswer.{one_answer}
-use Rattle.gn_unit.specs.Reading.{read_as, reading}
+use Rattle.gn_grammar.specs.declared.fault.SyntaxFault.{SyntaxFault}
+use Rattle.gn_faults.specs.declared.fault.Fault.{Fault}
+use Rattle.gn_faults.specs.declared.file_kind.FileKind.{FileKind}
+use Rattle.gn_items.specs.Effects.{Effects}
+use Rattle.gn_environment.specs.Environment.{Environment}
+use Rattle.gn_meaning.specs.Steps.{breaks}
+use Rattle.gn_unit.specs.Faults.{syntax_fault}
+use Rattle.gn_unit.specs.Units.{setting_of, reading_runs}
 
-tree_read : (bytes : List ℕ) (tree : BlockTree) → IsTree bytes tree → (x : ((t : BlockTree) × IsTree bytes t) ⊎ ((e : SyntaxError) × IsFirstError e bytes)) → read_as bytes x ≡ Ok tree
-tree_read bytes tree h (inl spelled) = ap Ok ((one_answer bytes).one_tree spelled.0 tree spelled.1 h)
-tree_read bytes tree h (inr refused) = absurd ((one_answer bytes).not_both tree refused.0 h refused.1)
-
-error_read : (bytes : List ℕ) (error : SyntaxError) → IsFirstError error bytes → (x : ((t : BlockTree) × IsTree bytes t) ⊎ ((e : SyntaxError) × IsFirstError e bytes)) → read_as bytes x ≡ Err error
-error_read bytes error h (inl spelled) = absurd ((one_answer bytes).not_both spelled.0 error spelled.1 h)
-error_read bytes error h (inr refused) = ap Err ((one_answer bytes).one_error refused.0 error refused.1 h)
-
--- bytes that spell a tree are read as that tree
-pub reading_of_tree : (bytes : List ℕ) (tree : BlockTree) → IsTree bytes tree → reading bytes ≡ Ok tree
-unfolding reading
-reading_of_tree bytes tree h = tree_read bytes tree h (one_answer bytes).some_answer
-
--- bytes that have a first error are read as that error
-pub reading_of_error : (bytes : List ℕ) (error : SyntaxError) → IsFirstError error bytes → reading bytes ≡ Err error
-unfolding reading
-reading_of_error bytes error h = error_read bytes error h (one_answer bytes).some_answer
+-- where bytes are read as this error, their run breaks with its fault
+pub refused_run : (bytes path : List ℕ) (found : Option SyntaxFault) (read : Result BlockTree SyntaxFault) (fault : Fault) → MatchOption found ⊤ (λ error. read ≡ Err error) →
+    MatchOption found ⊥ (λ error. (kind : FileKind) → fault ≡ syntax_fault (setting_of kind path) bytes error) →
+    (kind : FileKind) (env : Environment) (out : Effects) → env.setting ≡ setting_of kind path → reading_runs bytes read env out ≡ breaks fault out
+refused_run bytes path (Some error) read fault h f kind env out is = rw (h, is, f kind) refl
+refused_run bytes path None read fault h f kind env out is = absurd f

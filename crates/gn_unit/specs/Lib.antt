@@ -1,5 +1,5 @@
-pub mod Reading
 pub mod Faults
 pub mod Units
 pub mod Ends
+pub mod Found
 pub mod Laws

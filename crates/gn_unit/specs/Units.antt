@@ -5,45 +5,53 @@ use Rattle.gn_paths.specs.Directory.{or_root, directory_of}
 use Rattle.gn_paths.specs.Resolve.{resolved}
 use Rattle.gn_tree.specs.Tree.{BlockTree}
 use Rattle.gn_values.specs.Imported.{ImportState}
-use Rattle.gn_syntax.specs.declared.error.SyntaxError.{SyntaxError}
+use Rattle.gn_grammar.specs.declared.fault.SyntaxFault.{SyntaxFault}
 use Rattle.gn_faults.specs.declared.code.Code.TheVariants as code
 use Rattle.gn_faults.specs.declared.file_kind.FileKind.{FileKind}
 use Rattle.gn_faults.specs.declared.file_kind.FileKind.TheVariants.{BuildFile, Import}
 use Rattle.gn_faults.specs.declared.stage.Stage.TheVariants.{Loading}
-use Rattle.gn_items.specs.Effects.{no_effects}
-use Rattle.gn_runs.specs.Runs.{Content, has_bytes, is_absent, is_too_big, Answers, Run, followed, leaves, fails, asking_content}
-use Rattle.gn_scopes.specs.Environment.{Setting, Environment, new_environment}
-use Rattle.gn_meaning.specs.Steps.{Left}
+use Rattle.gn_items.specs.Effects.{Effects, no_effects}
+use Rattle.gn_runs.specs.Runs.{Content, has_bytes, is_absent, is_too_big, Answers, Run, followed, leaves}
+use Rattle.gn_environment.specs.Environment.{Setting, Environment, new_environment}
+use Rattle.gn_meaning.specs.Steps.{Left, Steps, ends, breaks, then_do, content_asked}
 use Rattle.gn_meaning.specs.Meaning.{file_runs, import_file_runs}
-use Rattle.gn_unit.specs.Reading.{reading}
+use Rattle.gn_syntax.specs.Reading.{reading}
 use Rattle.gn_unit.specs.Faults.{whole_file_fault, syntax_fault}
 
 -- where a file is executed: in its own directory, under the default toolchain
 abbrev pub setting_of : FileKind → List ℕ → Setting
 setting_of kind path = record { stage = Loading; toolchain = []; file = path; directory = directory_of path; kind = kind; in_item = false }
 
--- the run of what bytes are read as, or the first error of their syntax
-abbrev pub reading_runs : {A : Type 0} → Setting → List ℕ → (BlockTree → Run A) → Result BlockTree SyntaxError → Run A
-reading_runs setting bytes go (Ok tree) = go tree
-reading_runs setting bytes go (Err error) = fails (syntax_fault setting bytes error)
+-- what bytes are read as: their tree, or the first error of their syntax
+abbrev pub reading_runs : List ℕ → Result BlockTree SyntaxFault → Steps BlockTree
+reading_runs bytes (Ok tree) env out = ends tree env out
+reading_runs bytes (Err error) env out = breaks (syntax_fault env.setting bytes error) out
 
--- the run of what there is at the path of a file
-abbrev pub content_runs : {A : Type 0} → Setting → (BlockTree → Run A) → Content → Run A
-content_runs setting go is_absent = fails (whole_file_fault setting code.NoFile)
-content_runs setting go is_too_big = fails (whole_file_fault setting code.FileTooBig)
-content_runs setting go (has_bytes bytes) = reading_runs setting bytes go (reading bytes)
+-- what there is at the path of a file
+abbrev pub content_runs : Content → Steps BlockTree
+content_runs is_absent env out = breaks (whole_file_fault env.setting code.NoFile) out
+content_runs is_too_big env out = breaks (whole_file_fault env.setting code.FileTooBig) out
+content_runs (has_bytes bytes) env out = reading_runs bytes (reading bytes) env out
 
 -- a file asks for its own content at its line 1, column 1
 abbrev pub own_place : List ℕ → Place
 own_place path = record { file = path; line = 1; column = 1 }
 
-abbrev pub execution : {A : Type 0} → Setting → Answers → (BlockTree → Run A) → Run A
-execution setting answers go = asking_content (answers.contents setting.file) setting.file (own_place setting.file) (content_runs setting go)
+-- the tree of the file that is evaluated
+unfoldable pub tree_runs : Answers → Steps BlockTree
+tree_runs answers env out =
+    content_asked (answers.contents env.setting.file) env.setting.file (own_place env.setting.file) out (λ content out1. content_runs content env out1)
 
--- the execution of a file that is imported: one scope, which isn't checked. It is named by the file's path
-unfoldable pub import_execution : List ℕ → Answers → Run (Left ImportState)
-import_execution path answers =
-    execution (setting_of Import path) answers (λ tree. import_file_runs answers tree (new_environment (setting_of Import path) path false []) no_effects)
+-- where the execution of a file that is imported begins: one scope, which isn't checked. It is named by the file's path
+abbrev pub import_begins : List ℕ → Environment
+import_begins path = new_environment (setting_of Import path) path false []
+
+unfoldable pub import_runs : List ℕ → Answers → Effects → Run (Left ImportState)
+import_runs path answers out = then_do (tree_runs answers (import_begins path) out) (λ tree env1 out1. import_file_runs answers tree env1 out1)
+
+-- the execution of a file that is imported
+abbrev pub import_execution : List ℕ → Answers → Run (Left ImportState)
+import_execution path answers = import_runs path answers no_effects
 
 -- what it leaves for those who import it
 abbrev pub import_meaning : List ℕ → Answers → Run ImportState
@@ -53,8 +61,14 @@ import_meaning path answers = followed (import_execution path answers) (λ l. le
 unfoldable pub build_file_of : List ℕ → List ℕ
 build_file_of directory = or_root (resolved directory (codes "BUILD.gn"))
 
--- the execution of a build file: one scope, which is checked. No other execution sees its definitions, so it has no name
-unfoldable pub load_execution : List ℕ → Answers → Run (Left (Unit {0}))
-load_execution directory answers =
-    execution (setting_of BuildFile (build_file_of directory)) answers
-    (λ tree. file_runs answers tree (new_environment (setting_of BuildFile (build_file_of directory)) [] true []) no_effects)
+-- where the execution of a build file begins: one scope, which is checked. No other execution sees its definitions, so it has no name
+abbrev pub load_begins : List ℕ → Environment
+load_begins path = new_environment (setting_of BuildFile path) [] true []
+
+unfoldable pub load_runs : List ℕ → Answers → Effects → Run (Left (Unit {0}))
+load_runs directory answers out =
+    then_do (tree_runs answers (load_begins (build_file_of directory)) out) (λ tree env1 out1. file_runs answers tree env1 out1)
+
+-- the execution of the build file of a directory
+abbrev pub load_execution : List ℕ → Answers → Run (Left (Unit {0}))
+load_execution directory answers = load_runs directory answers no_effects

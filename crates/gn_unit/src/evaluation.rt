@@ -3,13 +3,13 @@
 ghost use Rattle.std.specs.Prelude.{◌≡◌, ◌<◌, Err, IfOk, IfErr, Some};
 ghost use Rattle.gn_runs.specs.Runs.{Answers};
 ghost use Rattle.gn_eval.specs.Library.{Includes, GoesOn};
-ghost use Rattle.gn_unit.specs.Ends.{IsExecuted, IsLoadOf, IsImportOf, IsUnitOf, IsNeeded, IsNeedOf};
+ghost use Rattle.gn_unit.specs.Ends.{IsExecuted, IsLoadOf, IsImportOf, IsUnitOf, IsNeeded, IsNeedOf, asked_of, HasAskedOf};
 ghost use Rattle.gn_unit.specs.Units.{load_execution, import_execution};
 
 use crate::execution::{execute_import, execute_load};
 use crate::unit::{EvalStop, Unit};
 use gn_eval::{Definer, EvalEnd, Library};
-use gn_items::{Claim, Key};
+use gn_items::{Claim, Key, Outcome};
 use gn_paths::Path;
 use std::alloc::Global;
 
@@ -20,14 +20,16 @@ fn load_unit<L: Library + Definer>(
     library: &mut L,
 ) -> Result<Unit, EvalStop>
     ensures unit { IfOk result (λ unit. (a : Answers) → Includes (L.state library.new).told a → IsLoadOf unit (load_execution directory.now a).end) }
+    ensures asked { IfOk result (λ unit. (a : Answers) → Includes (L.state library.new).told a → (load_execution directory.now a).asked ≡ asked_of unit) }
     ensures need { result ≡ Err EvalStop.Stopped → (a : Answers) → (L.state library.new).told ≡ Some a → IsNeeded (L.state library.new).need (load_execution directory.now a).end }
     ensures goes { GoesOn (L.state library.old) (L.state library.new) }
     ensures rose { result ≡ Err EvalStop.Stopped → (L.state library.old).stops < (L.state library.new).stops }
 {
-    match execute_load(alloc, directory, library) {
-        Ok(outcome) => Ok(Unit::Load(outcome)),
-        Err(EvalEnd::Wrong(fault)) => Ok(Unit::Wrong(fault)),
-        Err(EvalEnd::Spoiled(path, place)) => Ok(Unit::Spoiled(path, place)),
+    let mut out = Outcome::new(alloc);
+    match execute_load(alloc, directory, &mut out, library) {
+        Ok(()) => Ok(Unit::Load(out)),
+        Err(EvalEnd::Wrong(fault)) => Ok(Unit::Wrong(fault, out.into_asked())),
+        Err(EvalEnd::Spoiled(path, place)) => Ok(Unit::Spoiled(path, place, out.into_asked())),
         Err(EvalEnd::Stopped) => Err(EvalStop::Stopped),
         Err(EvalEnd::Memory) => Err(EvalStop::Memory),
     }
@@ -40,14 +42,16 @@ fn import_unit<L: Library + Definer>(
     library: &mut L,
 ) -> Result<Unit, EvalStop>
     ensures unit { IfOk result (λ unit. (a : Answers) → Includes (L.state library.new).told a → IsImportOf unit (import_execution path.now a).end) }
+    ensures asked { IfOk result (λ unit. (a : Answers) → Includes (L.state library.new).told a → (import_execution path.now a).asked ≡ asked_of unit) }
     ensures need { result ≡ Err EvalStop.Stopped → (a : Answers) → (L.state library.new).told ≡ Some a → IsNeeded (L.state library.new).need (import_execution path.now a).end }
     ensures goes { GoesOn (L.state library.old) (L.state library.new) }
     ensures rose { result ≡ Err EvalStop.Stopped → (L.state library.old).stops < (L.state library.new).stops }
 {
-    match execute_import(alloc, path, library) {
-        Ok((value, outcome)) => Ok(Unit::Import(value, outcome)),
-        Err(EvalEnd::Wrong(fault)) => Ok(Unit::Wrong(fault)),
-        Err(EvalEnd::Spoiled(path, place)) => Ok(Unit::Spoiled(path, place)),
+    let mut out = Outcome::new(alloc);
+    match execute_import(alloc, path, &mut out, library) {
+        Ok(value) => Ok(Unit::Import(value, out)),
+        Err(EvalEnd::Wrong(fault)) => Ok(Unit::Wrong(fault, out.into_asked())),
+        Err(EvalEnd::Spoiled(path, place)) => Ok(Unit::Spoiled(path, place, out.into_asked())),
         Err(EvalEnd::Stopped) => Err(EvalStop::Stopped),
         Err(EvalEnd::Memory) => Err(EvalStop::Memory),
     }
@@ -61,6 +65,7 @@ fn unit_of<L: Library + Definer>(
 ) -> Result<Unit, EvalStop>
     requires { IsExecuted key.now }
     ensures unit { IfOk result (λ unit. (a : Answers) → Includes (L.state library.new).told a → IsUnitOf key.now unit a) }
+    ensures asked { IfOk result (λ unit. (a : Answers) → Includes (L.state library.new).told a → HasAskedOf key.now unit a) }
     ensures need { result ≡ Err EvalStop.Stopped → (a : Answers) → (L.state library.new).told ≡ Some a → IsNeedOf key.now (L.state library.new).need a }
     ensures goes { GoesOn (L.state library.old) (L.state library.new) }
     ensures rose { result ≡ Err EvalStop.Stopped → (L.state library.old).stops < (L.state library.new).stops }
@@ -68,12 +73,12 @@ fn unit_of<L: Library + Definer>(
     match key {
         Key::Load(directory, _) => load_unit(alloc, directory, library),
         Key::Import(_, _, path) => import_unit(alloc, path, library),
-        Key::Read(_) => Err(EvalStop::Memory),
+        Key::Read(_) => unreachable!(),
     }
 }
 
 /// Executes the file that the key of a claim names, from its start, over what the library tells. The claim comes back. What
-/// is answered is how that execution ends over all answers that include those told. `Stopped` comes where the library
+/// is answered is how that execution ends over all answers that include those told, and what it asked. `Stopped` comes where the library
 /// lacks an answer: over just what it tells, the execution needs the one that it has noted.
 pub fn evaluate<L: Library + Definer>(
     alloc: Global,
@@ -84,6 +89,7 @@ pub fn evaluate<L: Library + Definer>(
     ensures claim { IfOk result (λ r. r.0 ≡ claim) }
     ensures claim_back { IfErr result (λ r. r.0 ≡ claim) }
     ensures unit { IfOk result (λ r. (a : Answers) → Includes (L.state library.new).told a → IsUnitOf claim.key r.1 a) }
+    ensures asked { IfOk result (λ r. (a : Answers) → Includes (L.state library.new).told a → HasAskedOf claim.key r.1 a) }
     ensures need { IfErr result (λ r. r.1 ≡ EvalStop.Stopped → (a : Answers) → (L.state library.new).told ≡ Some a → IsNeedOf claim.key (L.state library.new).need a) }
     ensures goes { GoesOn (L.state library.old) (L.state library.new) }
     ensures rose { IfErr result (λ r. r.1 ≡ EvalStop.Stopped → (L.state library.old).stops < (L.state library.new).stops) }

@@ -1,23 +1,26 @@
 // The execution of a whole file.
 
-ghost use Rattle.std.specs.Prelude.{◌≡◌, ◌≢◌, ◌<◌, ◌≤◌, [], Ok, Err, IfOk, IfErr, length};
+ghost use Rattle.std.specs.Prelude.{◌≡◌, ◌≢◌, ◌≤◌, [], true, false, Err, IfOk, length};
 ghost use Rattle.gn_tree.specs.Depth.{IsShallow};
 ghost use Rattle.gn_faults.specs.declared.file_kind.FileKind.{FileKind as Kind};
-ghost use Rattle.gn_runs.specs.Runs.{Answers, leaves};
-ghost use Rattle.gn_scopes.specs.Environment.{new_environment};
-ghost use Rattle.gn_eval.specs.Library.{Need, GoesOn};
-ghost use Rattle.gn_eval.specs.Ends.{Covers};
-ghost use Rattle.gn_unit.specs.Reading.{reading};
-ghost use Rattle.gn_unit.specs.Units.{setting_of, reading_runs, execution, build_file_of, import_execution, load_execution};
-ghost use Rattle.gn_unit.specs.Ends.{IsTreeOf, IsExecution};
+ghost use Rattle.gn_items.specs.Effects.{Effects};
+ghost use Rattle.gn_environment.specs.Environment.{Environment, new_environment};
+ghost use Rattle.gn_meaning.specs.Meaning.{file_runs, import_file_runs};
+ghost use Rattle.gn_meaning.specs.Steps.{then_do};
+ghost use Rattle.gn_eval.specs.Library.{Need, IsWithinLimit};
+ghost use Rattle.gn_eval.specs.Ends.{IsRun, Claims, EvaluatesSpent};
+ghost use Rattle.gn_syntax.specs.Reading.{reading};
+ghost use Rattle.gn_unit.specs.Found.{content_view};
+ghost use Rattle.gn_unit.specs.Units.{setting_of, reading_runs, content_runs, own_place, tree_runs, build_file_of, import_begins, import_runs, load_begins, load_runs};
 
 use crate::faults::{syntax_fault, whole_file_fault};
+use gn_env::Env;
 use gn_eval::{Definer, EvalEnd, Found, LibStop, Library, run_file, run_import_file};
 use gn_faults::{Code, FileKind, Stage};
 use gn_items::Outcome;
 use gn_paths::{Path, PathError, Place, Text, directory, resolve};
-use gn_scopes::Env;
 use gn_syntax::{Parsed, parse};
+use gn_tree::Block;
 use gn_values::ImportValue;
 use std::alloc::{AllocError, Global};
 
@@ -59,7 +62,7 @@ fn environment(
 // What the bytes of the file at a path are read as: their tree, or the fault of their first error.
 fn parsed(alloc: Global, path: &Path, bytes: &[u8]) -> Result<Parsed, EvalEnd>
     requires { length bytes.now ≤ 16777216 }
-    ensures tree { (kind : Kind) (need : Need) → IsTreeOf need result (reading_runs (setting_of kind path.now) bytes.now leaves (reading bytes.now)).end }
+    ensures tree { (kind : Kind) (env : Environment) (need : Need) (out : Effects) → env.setting ≡ setting_of kind path.now → IsRun (λ t. t) need result env out (reading_runs bytes.now (reading bytes.now) env out) }
     ensures reads { result ≢ Err EvalEnd.Stopped }
     ensures shallow { IfOk result (λ tree. IsShallow tree) }
 {
@@ -69,76 +72,127 @@ fn parsed(alloc: Global, path: &Path, bytes: &[u8]) -> Result<Parsed, EvalEnd>
     }
 }
 
-// The tree of the file at a path, as far as the library has its content.
-fn tree_at<L: Library>(alloc: Global, path: &Path, library: &mut L) -> Result<Parsed, EvalEnd>
-    ensures runs { (a : Answers) (kind : Kind) → Covers (L.state library.new).told result a → IsTreeOf (L.state library.new).need result (execution (setting_of kind path.now) a leaves).end }
-    ensures shallow { IfOk result (λ tree. IsShallow tree) }
-    ensures goes { GoesOn (L.state library.old) (L.state library.new) }
-    ensures rose { result ≡ Err EvalEnd.Stopped → (L.state library.old).stops < (L.state library.new).stops }
+// Where a file asks for its own content.
+fn own_place(alloc: Global, path: &Path) -> Result<Place, AllocError>
+    ensures { IfOk result (λ place. place ≡ own_place path.now) }
 {
-    let file = path.as_text().copy(alloc)?;
-    let place = Place {
-        file,
+    Ok(Place {
+        file: path.as_text().copy(alloc)?,
         line: 1,
         column: 1,
-    };
+    })
+}
+
+// What is done with what a library tells of the content of the file at a path.
+fn tree_of(alloc: Global, path: &Path, found: Found) -> Result<Parsed, EvalEnd>
+    requires { IsWithinLimit found }
+    ensures tree { (kind : Kind) (env : Environment) (need : Need) (out : Effects) → env.setting ≡ setting_of kind path.now → IsRun (λ t. t) need result env out (content_runs (content_view found) env out) }
+    ensures reads { result ≢ Err EvalEnd.Stopped }
+    ensures shallow { IfOk result (λ tree. IsShallow tree) }
+{
+    match found {
+        Found::Bytes(bytes) => parsed(alloc, path, bytes.as_bytes()),
+        Found::Absent => Err(EvalEnd::Wrong(whole_file_fault(alloc, path, Code::NoFile)?)),
+        Found::TooBig => Err(EvalEnd::Wrong(whole_file_fault(alloc, path, Code::FileTooBig)?)),
+    }
+}
+
+// The tree of the file at a path, as far as the library has its content. What is asked is noted.
+#[tactic(auto, unfolding(crate::specs::Units::tree_runs))]
+fn tree_at<L: Library>(
+    alloc: Global,
+    path: &Path,
+    out: &mut Outcome,
+    library: &mut L,
+) -> Result<Parsed, EvalEnd>
+    ensures evaluates { Claims (L.state library.old) (L.state library.new) result (λ a. (kind : Kind) (env : Environment) → env.setting ≡ setting_of kind path.now → IsRun (λ t. t) (L.state library.new).need result env out.new (tree_runs a env out.old)) }
+    ensures shallow { IfOk result (λ tree. IsShallow tree) }
+{
+    let place = own_place(alloc, path)?;
     match library.bytes(alloc, path, &place) {
-        Ok(Found::Bytes(bytes)) => parsed(alloc, path, bytes.as_bytes()),
-        Ok(Found::Absent) => Err(EvalEnd::Wrong(whole_file_fault(alloc, path, Code::NoFile)?)),
-        Ok(Found::TooBig) => Err(EvalEnd::Wrong(whole_file_fault(alloc, path, Code::FileTooBig)?)),
+        Ok(found) => {
+            out.ask_content(path)?;
+            tree_of(alloc, path, found)
+        }
         Err(LibStop::Stopped) => Err(EvalEnd::Stopped),
         Err(LibStop::Memory) => Err(EvalEnd::Memory),
     }
 }
 
+// Runs the tree of the build file at a path, in one scope, which is checked.
+fn run_build_file<L: Library + Definer>(
+    alloc: Global,
+    path: &Path,
+    block: &Block,
+    out: &mut Outcome,
+    library: &mut L,
+) -> Result<(), EvalEnd>
+    requires shallow { IsShallow block.now }
+    ensures { EvaluatesSpent (λ u. u) (L.state library.old) (L.state library.new) result out.new (λ a. file_runs a block.now (load_begins path.now) out.old) }
+{
+    let mut env = environment(alloc, path, FileKind::BuildFile, Text::new(alloc), true)?;
+    let done = run_file(alloc, block, &mut env, out, library);
+    drop(env);
+    done
+}
+
+// Executes the build file at a path.
+fn load_file<L: Library + Definer>(
+    alloc: Global,
+    path: &Path,
+    out: &mut Outcome,
+    library: &mut L,
+) -> Result<(), EvalEnd>
+    ensures { EvaluatesSpent (λ u. u) (L.state library.old) (L.state library.new) result out.new (λ a. then_do (tree_runs a (load_begins path.now) out.old) (λ tree env1 out1. file_runs a tree env1 out1)) }
+{
+    let parsed = tree_at(alloc, path, out, library)?;
+    run_build_file(alloc, path, parsed.block(), out, library)
+}
+
 /// Executes the build file of a directory under the default toolchain: its content is asked for, parsed, and run in one
-/// scope, which is checked. `Wrong` has the first fault, and comes exactly where there is one, but for want of memory;
-/// `Spoiled` and `Stopped` come as from `run_file`.
+/// scope, which is checked. What it leaves and what it asks is added to `out`. `Wrong` has the first fault, and comes exactly
+/// where there is one, but for want of memory; `Spoiled` and `Stopped` come as from `run_file`.
+#[tactic(auto, unfolding(crate::specs::Units::load_runs))]
 pub(crate) fn execute_load<L: Library + Definer>(
     alloc: Global,
     directory: &Path,
+    out: &mut Outcome,
     library: &mut L,
-) -> Result<Outcome, EvalEnd>
-    ensures runs { (a : Answers) → Covers (L.state library.new).told result a →
-        IsExecution (λ out. tt) (λ out. out) (L.state library.new).need result (load_execution directory.now a).end }
-    ensures goes { GoesOn (L.state library.old) (L.state library.new) }
-    ensures rose { result ≡ Err EvalEnd.Stopped → (L.state library.old).stops < (L.state library.new).stops }
+) -> Result<(), EvalEnd>
+    ensures { EvaluatesSpent (λ u. u) (L.state library.old) (L.state library.new) result out.new (λ a. load_runs directory.now a out.old) }
 {
     let path = build_file(alloc, directory)?;
-    let parsed = match tree_at(alloc, &path, library) {
-        Ok(parsed) => parsed,
-        Err(end) => return Err(end),
-    };
-    let mut env = environment(alloc, &path, FileKind::BuildFile, Text::new(alloc), true)?;
-    let mut out = Outcome::new(alloc);
-    match run_file(alloc, parsed.block(), &mut env, &mut out, library) {
-        Ok(()) => Ok(out),
-        Err(end) => Err(end),
-    }
+    load_file(alloc, &path, out, library)
+}
+
+// Runs the tree of the file at a path that is imported, in one scope, which isn't checked.
+fn run_imported<L: Library + Definer>(
+    alloc: Global,
+    path: &Path,
+    block: &Block,
+    out: &mut Outcome,
+    library: &mut L,
+) -> Result<ImportValue, EvalEnd>
+    requires shallow { IsShallow block.now }
+    ensures { EvaluatesSpent (λ v. v) (L.state library.old) (L.state library.new) result out.new (λ a. import_file_runs a block.now (import_begins path.now) out.old) }
+{
+    let execution = path.as_text().copy(alloc)?;
+    let env = environment(alloc, path, FileKind::Import, execution, false)?;
+    run_import_file(alloc, block, env, out, library)
 }
 
 /// Executes a file that is imported under the default toolchain: its content is asked for, parsed, and run in one scope,
-/// which isn't checked. It has what the file leaves for those who import it, and its effects; the errors are as those of
-/// `execute_load`.
+/// which isn't checked. It has what the file leaves for those who import it; its lines and what it asks are added to `out`.
+/// The errors are as those of `execute_load`.
+#[tactic(auto, unfolding(crate::specs::Units::import_runs))]
 pub(crate) fn execute_import<L: Library + Definer>(
     alloc: Global,
     path: &Path,
+    out: &mut Outcome,
     library: &mut L,
-) -> Result<(ImportValue, Outcome), EvalEnd>
-    ensures runs { (a : Answers) → Covers (L.state library.new).told result a →
-        IsExecution (λ left. left.0) (λ left. left.1) (L.state library.new).need result (import_execution path.now a).end }
-    ensures goes { GoesOn (L.state library.old) (L.state library.new) }
-    ensures rose { result ≡ Err EvalEnd.Stopped → (L.state library.old).stops < (L.state library.new).stops }
+) -> Result<ImportValue, EvalEnd>
+    ensures { EvaluatesSpent (λ v. v) (L.state library.old) (L.state library.new) result out.new (λ a. import_runs path.now a out.old) }
 {
-    let parsed = match tree_at(alloc, path, library) {
-        Ok(parsed) => parsed,
-        Err(end) => return Err(end),
-    };
-    let execution = path.as_text().copy(alloc)?;
-    let env = environment(alloc, path, FileKind::Import, execution, false)?;
-    let mut out = Outcome::new(alloc);
-    match run_import_file(alloc, parsed.block(), env, &mut out, library) {
-        Ok(value) => Ok((value, out)),
-        Err(end) => Err(end),
-    }
+    let parsed = tree_at(alloc, path, out, library)?;
+    run_imported(alloc, path, parsed.block(), out, library)
 }

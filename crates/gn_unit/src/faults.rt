@@ -1,7 +1,8 @@
 // The faults of a file that are found before it runs.
 
-ghost use Rattle.std.specs.Prelude.{◌≡◌, ◌≢◌, ◌≤◌, [], Some, length, IfOk};
-ghost use Rattle.gn_syntax.specs.Position.{position_of};
+ghost use Rattle.std.specs.Prelude.{◌≡◌, ◌≤◌, [], Some, length, IfOk, MatchOption};
+ghost use Rattle.gn_grammar.specs.Position.{position_of};
+ghost use Rattle.gn_syntax.specs.Reading.{fault_of};
 ghost use Rattle.gn_faults.specs.declared.file_kind.FileKind.{FileKind as Kind};
 ghost use Rattle.gn_unit.specs.Faults.{whole_file_fault, syntax_fault};
 ghost use Rattle.gn_unit.specs.Units.{setting_of};
@@ -61,8 +62,8 @@ pub(crate) fn syntax_fault(
     error: SyntaxError,
 ) -> Result<Fault, AllocError>
     requires { length bytes.now ≤ 16777216 }
-    ensures { IfOk result (λ f. (error ≢ SyntaxError.Memory)
-        × ((kind : Kind) → f ≡ syntax_fault (setting_of kind path.now) bytes.now error)) }
+    ensures { IfOk result (λ f. MatchOption (fault_of error) ⊥ (λ found.
+        (kind : Kind) → f ≡ syntax_fault (setting_of kind path.now) bytes.now found)) }
 {
     let (code, offset) = match error {
         SyntaxError::Token(TokenError::BadByte(offset)) => (Code::BadByte, offset),

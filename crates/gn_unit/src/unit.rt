@@ -1,21 +1,22 @@
 // What an evaluation of a whole file leaves.
 
 use gn_faults::Fault;
-use gn_items::Outcome;
+use gn_items::{Outcome, Question};
 use gn_paths::{Path, Place};
 use gn_values::ImportValue;
 
 /// What the execution of a whole file leaves, or why it leaves nothing.
 #[derive(Drop)]
 pub enum Unit {
-    /// A build file has run, and leaves items and lines.
+    /// A build file has run, and leaves items, lines and the questions asked.
     Load(Outcome),
-    /// A file that is imported has run: what it leaves for those who import it, and its lines.
+    /// A file that is imported has run: what it leaves for those who import it, its lines and the questions asked.
     Import(ImportValue, Outcome),
-    /// The first fault.
-    Wrong(Fault),
-    /// The first import that can't be used: the path of the file, and where the call stands.
-    Spoiled(Path, Place),
+    /// The first fault, and the questions asked, in order.
+    Wrong(Fault, Vec<Question>),
+    /// The first import that can't be used: the path of the file, and where the call stands; and the questions asked, in
+    /// order.
+    Spoiled(Path, Place, Vec<Question>),
 }
 
 /// Why an evaluation has no end yet.

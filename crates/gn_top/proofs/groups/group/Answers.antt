@@ -1,6 +1,6 @@
 use Rattle.std.proofs.Common.{◌≡◌, true, false, ap, sym, ◌∙◌, Ok, Err}
 use Rattle.gn_labels.specs.Names.{is_name}
-use Rattle.gn_scopes.specs.Environment.{value_of}
+use Rattle.gn_environment.specs.Environment.{value_of}
 use Rattle.gn_meaning.specs.Items.{may_be_strings}
 use Rattle.gn_top.proofs.DefinedLemmas.{bad_name, bad_deps, good_group}
 use Rattle.gn_top.proofs.groups.group.Goals as goal

@@ -1,29 +1,36 @@
-use Rattle.std.proofs.Common.{sym, ◌∙◌, subst}
+use Rattle.std.proofs.Common.{arith}
+use Rattle.std.proofs.lemmas.Grind.{common_steps}
+use Rattle.gn_syntax.specs.declared.file.Parsed.{Parsed}
 use Rattle.gn_faults.specs.declared.file_kind.FileKind.TheVariants.{Import}
-use Rattle.gn_eval.specs.Ends.{IsFailure}
-use Rattle.gn_unit.proofs.Executions.{covers_includes, import_ends, import_unread}
+use Rattle.gn_meaning.specs.Meaning.{import_file_runs}
+use Rattle.gn_unit.specs.Units.{tree_runs, import_begins, import_runs}
+use Rattle.gn_unit.proofs.Executions.{import_set, covered, goes_on_further, then_goes, then_fails}
 use Rattle.gn_unit.proofs.execution.execute_import.Goals as goal
 
-pub returns-in-Err-clause-runs : goal.returns-in-Err-clause-runs
-returns-in-Err-clause-runs g c = λ a told.
-    import_unread c.args.path.now a (g.L.Library.state c.tree_at.new.library).need c.in-Err.end (c.in-Err.ensures.runs a Import told)
+pub returns-in_err-parsed : goal.returns-in_err-parsed
+unfolding import_runs
+returns-in_err-parsed g c =
+    let told = (g.L.Library.state c.tree_at.new.library).told in
+    let need = (g.L.Library.state c.tree_at.new.library).need in
+    let begins = import_begins c.args.path.now in
+    record {
+      runs = λ a h.
+          then_fails (λ tree env1 out1. import_file_runs a tree env1 out1) need Parsed (λ u. u) told (tree_runs a begins c.args.out.now) c.from_residual.result c.in_err-parsed.field-0.0 a c.tree_at.new.out c.from_residual.ensures.1
+          (λ k. c.in_err-parsed.ensures.evaluates.runs a k Import begins (import_set c.args.path.now)) h;
+      goes = c.in_err-parsed.ensures.evaluates.goes;
+      rose = grind (arith, common_steps);
+    }
 
-pub returns-in-Ok-run_import_file-clause-runs : goal.returns-in-Ok-run_import_file-clause-runs
-returns-in-Ok-run_import_file-clause-runs g c = λ a told.
-    let left = c.in-Ok-run_import_file.ensures.runs a told in (
-      left.0,
-      import_ends c.args.path.now a c.in-Ok.parsed c.block.result.now c.in_ok-env.env c.new-out.result c.in_ok-execution.execution
-          (c.in-Ok.ensures.runs a Import (c.run_import_file.ensures.goes.grows a told)) c.block.ensures (c.in_ok-execution.ensures ∙ c.as_text.ensures.value) c.in_ok-env.ensures c.new-out.ensures
-          ∙ left.1,
-    )
-
-pub returns-clause-runs : goal.returns-clause-runs
-returns-clause-runs g c = λ a told.
-    let end = c.in-Err-run_import_file.end in
-    let need = (g.L.Library.state c.run_import_file.new.library).need in
-    let included = covers_includes (g.L.Library.state c.run_import_file.new.library).told end a told in
-    subst (λ x. IsFailure need end x)
-    (sym
-    (import_ends c.args.path.now a c.in-Ok.parsed c.block.result.now c.in_ok-env.env c.new-out.result c.in_ok-execution.execution
-    (c.in-Ok.ensures.runs a Import (c.run_import_file.ensures.goes.grows a included)) c.block.ensures (c.in_ok-execution.ensures ∙ c.as_text.ensures.value) c.in_ok-env.ensures c.new-out.ensures))
-    (c.in-Err-run_import_file.ensures.runs a told)
+pub returns : goal.returns
+unfolding import_runs
+returns g c =
+    let told = (g.L.Library.state c.run_imported.new.library).told in
+    let need = (g.L.Library.state c.run_imported.new.library).need in
+    let begins = import_begins c.args.path.now in
+    record {
+      runs = λ a h.
+          then_goes (λ tree env1 out1. import_file_runs a tree env1 out1) need (λ u. u) (tree_runs a begins c.args.out.now) c.in_ok-parsed.parsed c.block.result.now begins c.tree_at.new.out c.run_imported.new.out c.run_imported.result
+          (c.in_ok-parsed.ensures.evaluates.runs a (c.run_imported.ensures.goes.grows a (covered told c.run_imported.result a h)) Import begins (import_set c.args.path.now)) c.block.ensures (c.run_imported.ensures.runs a h);
+      goes = goes_on_further _ _ _ c.in_ok-parsed.ensures.evaluates.goes c.run_imported.ensures.goes;
+      rose = λ e. omega (arith, c.in_ok-parsed.ensures.evaluates.goes.later, c.run_imported.ensures.rose e);
+    }
