@@ -1,54 +1,18 @@
 // Calls on texts and lists: each on its happy path and at its bounds, and the order of its faults.
 
+use crate::rows::Answer::Gives;
+use crate::rows::Argument::{Deep, Integer, Integers, Long, String, Strings};
+use crate::rows::{
+    Answer, Argument, FIRST, FOURTH, SECOND, THIRD, TOO_LONG, WRONG_NUMBER, is, values,
+};
 use gn_calls_text::TextCall::{
     FilterExclude, FilterInclude, SplitList, StringJoin, StringReplace, StringSplit,
 };
-use gn_calls_text::{CallError, TextCall, call_text};
-use gn_faults::Code;
-use gn_paths::Text;
-use gn_values::{Items, Value, print_text};
+use gn_calls_text::{TextCall, call_text};
 use std::alloc::{AllocError, Global};
 use std::test::Fail;
 
-// The value of an argument.
-#[derive(Clone, Copy)]
-enum Argument {
-    Integer(i64),
-    String(&'static [u8]),
-    // A list of strings.
-    Strings(&'static [&'static [u8]]),
-    // A list of integers.
-    Integers(&'static [i64]),
-    // A list that nests so deep.
-    Deep(usize),
-    // A string of so many bytes.
-    Long(usize),
-}
-
-use Argument::{Deep, Integer, Integers, Long, String, Strings};
-
-// The text of the value that a call gives, or its code, at an argument or at the call's name.
-#[derive(Clone, Copy)]
-enum Answer {
-    Gives(&'static [u8]),
-    Refuses(Code, Option<u32>),
-}
-
-use Answer::{Gives, Refuses};
-
 type Row = (TextCall, &'static [Argument], Answer);
-
-const WRONG_NUMBER: Answer = Refuses(Code::BadArguments, None);
-
-const TOO_LONG: Answer = Refuses(Code::TooLong, None);
-
-const FIRST: Answer = Refuses(Code::BadTypes, Some(0));
-
-const SECOND: Answer = Refuses(Code::BadTypes, Some(1));
-
-const THIRD: Answer = Refuses(Code::BadTypes, Some(2));
-
-const FOURTH: Answer = Refuses(Code::BadTypes, Some(3));
 
 const FILTERS: [Row; 24] = [
     (
@@ -375,85 +339,6 @@ const STRINGS: [Row; 46] = [
         WRONG_NUMBER,
     ),
 ];
-
-fn put(items: &mut Items, value: Value) -> Result<(), AllocError> {
-    match items.push(value) {
-        Ok(()) => Ok(()),
-        Err(_) => Err(AllocError),
-    }
-}
-
-fn put_string(alloc: Global, items: &mut Items, bytes: &[u8]) -> Result<(), AllocError> {
-    put(items, Value::Str(Text::from_bytes(alloc, bytes)?))
-}
-
-fn strings(alloc: Global, texts: &[&[u8]]) -> Result<Value, AllocError> {
-    let mut items = Items::new(alloc);
-    for text in texts {
-        put_string(alloc, &mut items, *text)?;
-    }
-    Ok(Value::List(items))
-}
-
-fn integers(alloc: Global, numbers: &[i64]) -> Result<Value, AllocError> {
-    let mut items = Items::new(alloc);
-    for number in numbers {
-        put(&mut items, Value::Int(*number))?;
-    }
-    Ok(Value::List(items))
-}
-
-fn list_of_one(alloc: Global, value: Value) -> Result<Value, AllocError> {
-    let mut items = Items::new(alloc);
-    put(&mut items, value)?;
-    Ok(Value::List(items))
-}
-
-fn deep(alloc: Global, depth: usize) -> Result<Value, AllocError> {
-    let mut value = Value::Int(1);
-    for _ in 0..depth {
-        value = list_of_one(alloc, value)?;
-    }
-    Ok(value)
-}
-
-fn value(alloc: Global, argument: &Argument) -> Result<Value, AllocError> {
-    match argument {
-        Integer(number) => Ok(Value::Int(*number)),
-        String(bytes) => Ok(Value::Str(Text::from_bytes(alloc, *bytes)?)),
-        Strings(texts) => strings(alloc, *texts),
-        Integers(numbers) => integers(alloc, *numbers),
-        Deep(depth) => deep(alloc, *depth),
-        Long(len) => Ok(Value::Str(Text::from_vec(vec![in alloc; b'a'; *len]?))),
-    }
-}
-
-fn values(alloc: Global, arguments: &[Argument]) -> Result<Vec<Value>, AllocError> {
-    let mut values = Vec::with_capacity(alloc, arguments.len())?;
-    for argument in arguments {
-        values.push(value(alloc, argument)?)?;
-    }
-    Ok(values)
-}
-
-fn gives(alloc: Global, value: &Value, text: &[u8]) -> Result<bool, AllocError> {
-    let printed = print_text(alloc, value, true)?;
-    Ok(printed.as_bytes() == text)
-}
-
-fn is(
-    alloc: Global,
-    answered: &Result<Value, CallError>,
-    answer: Answer,
-) -> Result<bool, AllocError> {
-    match (answered, answer) {
-        (Ok(value), Gives(text)) => gives(alloc, value, text),
-        (Err(CallError::Refused { code, argument }), Refuses(other, at)) => {
-            Ok(code.number() == other.number() && *argument == at)
-        }
-        _ => Ok(false),
-    }
-}
 
 fn is_answered(alloc: Global, row: &Row) -> Result<bool, AllocError> {
     let values = values(alloc, row.1)?;

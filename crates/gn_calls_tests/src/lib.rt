@@ -2,4 +2,8 @@
 #![tactic(auto)]
 
 #[cfg(test)]
+mod calls_path;
+#[cfg(test)]
 mod calls_text;
+#[cfg(test)]
+mod rows;

@@ -1,13 +1,13 @@
 // Faults: every text, the details that are missing, the places, and the order.
 
-use crate::rows::two;
+use crate::rows::{field, is_shown, table};
 use gn_faults::{Code, Fault, Stage};
 use gn_paths::{Place, Text, Texts};
 use std::alloc::{AllocError, Global};
 use std::test::Fail;
 
 // The codes in the order of their numbers, which begin at 1.
-const CODES: [Code; 48] = [
+static CODES: [Code; 48] = [
     Code::BadByte,
     Code::BadNumber,
     Code::OpenString,
@@ -58,15 +58,8 @@ const CODES: [Code; 48] = [
     Code::FileTooBig,
 ];
 
-// A table of two fields a row.
-macro_rules! rows {
-    ($($first:literal, $second:literal;)+) => {
-        concat!($($first, "\x1f", $second, "\x1e"),+)
-    };
-}
-
 // Details that are parted by `|`, and the text of a code with them, in the order of the numbers.
-const TEXTS: &str = rows! {
+const TEXTS: &str = table! {
     "", "Invalid token.";
     "", "Invalid number.";
     "", "Unterminated string literal.";
@@ -153,16 +146,10 @@ fn prints(alloc: Global, code: Code, parted: &str, line: &[u8]) -> Result<bool, 
     Ok(printed.as_bytes() == line)
 }
 
-fn has_text(alloc: Global, code: Code, parted: &str, text: &str) -> Result<bool, AllocError> {
-    let line = format!(in alloc; "ERROR: {text}\n")?;
-    prints(alloc, code, parted, line.as_bytes())
-}
-
 fn has_row(alloc: Global, code: Code, row: &str) -> Result<bool, AllocError> {
-    match two(row) {
-        Some((parted, text)) => has_text(alloc, code, parted, text),
-        None => Ok(false),
-    }
+    let text = field(row, 1);
+    let line = format!(in alloc; "ERROR: {text}\n")?;
+    prints(alloc, code, field(row, 0), line.as_bytes())
 }
 
 // Whether the row of this number says the text of its code.
@@ -183,30 +170,39 @@ fn each_code_has_its_number_and_its_text(rt: HostRuntime) -> Result<(), Fail> {
     Ok(())
 }
 
-// Details that are missing or too many.
-const LINES: [(Code, &str, &str); 8] = [
-    (Code::AssertFailed, "", "ERROR: Assertion failed.\n"),
-    (Code::AssertFailed, "a|b", "ERROR: Assertion failed. a\n"),
-    (Code::Missing, "", "ERROR: \"\" is missing.\n"),
-    (Code::Missing, "a|b", "ERROR: \"a\" is missing.\n"),
-    (Code::NoPath, "a", "ERROR: No path between a and \n"),
-    (Code::NoPath, "%|b", "ERROR: No path between % and b\n"),
-    (Code::Cycle, "", "ERROR: Dependency cycle: \n"),
-    (
-        Code::TooLarge,
-        "a",
-        "ERROR: The build is larger than a limit.\n",
-    ),
-];
+// The code of this name.
+fn code_named(alloc: Global, name: &str) -> Result<Option<Code>, AllocError> {
+    for code in &CODES {
+        if is_shown(alloc, *code, name)? {
+            return Ok(Some(*code));
+        }
+    }
+    Ok(None)
+}
 
-fn has_line(alloc: Global, row: &(Code, &str, &str)) -> Result<bool, AllocError> {
-    prints(alloc, row.0, row.1, row.2.as_bytes())
+// A code, details that are missing or too many, and the line.
+const LINES: &str = table! {
+    "AssertFailed", "", "ERROR: Assertion failed.\n";
+    "AssertFailed", "a|b", "ERROR: Assertion failed. a\n";
+    "Missing", "", "ERROR: \"\" is missing.\n";
+    "Missing", "a|b", "ERROR: \"a\" is missing.\n";
+    "NoPath", "a", "ERROR: No path between a and \n";
+    "NoPath", "%|b", "ERROR: No path between % and b\n";
+    "Cycle", "", "ERROR: Dependency cycle: \n";
+    "TooLarge", "a", "ERROR: The build is larger than a limit.\n";
+};
+
+fn has_line(alloc: Global, row: &str) -> Result<bool, AllocError> {
+    match code_named(alloc, field(row, 0))? {
+        Some(code) => prints(alloc, code, field(row, 1), field(row, 2).as_bytes()),
+        None => Ok(false),
+    }
 }
 
 #[test]
 fn details_may_be_missing_or_too_many(rt: HostRuntime) -> Result<(), Fail> {
-    for row in &LINES {
-        assert!(rt; has_line(rt.alloc(), row)?, "{}", row.2);
+    for row in LINES.split_terminator('\x1e') {
+        assert!(rt; has_line(rt.alloc(), row)?, "at {row}");
     }
     Ok(())
 }
@@ -256,7 +252,7 @@ fn standing(alloc: Global, row: &Standing) -> Result<Fault, AllocError> {
     Ok(fault)
 }
 
-const PLACED: Standing = (
+static PLACED: Standing = (
     Stage::Loading,
     Some(("//a/BUILD.gn", 12, 4294967295)),
     "",
@@ -289,7 +285,7 @@ fn a_place_is_printed_and_copied(rt: HostRuntime) -> Result<(), Fail> {
 }
 
 // Faults, each before the next. The one for a file that is missing names it.
-const IN_ORDER: [Standing; 10] = [
+static IN_ORDER: [Standing; 10] = [
     (Stage::Arguments, Some(("//z", 9, 9)), "", Code::BadByte),
     (Stage::Loading, None, "", Code::TooLarge),
     (Stage::Loading, None, "", Code::NoFile),

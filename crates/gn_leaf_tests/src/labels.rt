@@ -1,37 +1,22 @@
 // Labels and patterns, with values that the language's rules give.
 
-use crate::rows::two;
+use crate::rows::{field, table};
 use gn_labels::{Label, LabelError, Pattern, PatternError, is_name};
 use gn_paths::{Path, PathError, Text, resolve};
 use std::alloc::Global;
 use std::test::Fail;
-
-// A table of two fields a row.
-macro_rules! rows {
-    ($($first:literal, $second:literal;)+) => {
-        concat!($($first, "\x1f", $second, "\x1e"),+)
-    };
-}
-
-// The directory, the name and the toolchain of a label.
-type Parts = (&'static [u8], &'static [u8], &'static [u8]);
 
 fn at_root(alloc: Global, text: &[u8]) -> Result<Path, PathError> {
     let root = Path::root(alloc)?;
     resolve(alloc, &root, text)
 }
 
-fn label(alloc: Global, parts: &Parts) -> Result<Label, Fail> {
+fn label(alloc: Global, directory: &str, name: &str, toolchain: &str) -> Result<Label, Fail> {
     Ok(Label {
-        dir: at_root(alloc, parts.0)?,
-        name: Text::from_bytes(alloc, parts.1)?,
-        toolchain: Text::from_bytes(alloc, parts.2)?,
+        dir: at_root(alloc, directory.as_bytes())?,
+        name: Text::from_bytes(alloc, name.as_bytes())?,
+        toolchain: Text::from_bytes(alloc, toolchain.as_bytes())?,
     })
-}
-
-// A copy of the label, which is let go.
-fn copied(alloc: Global, parts: &Parts) -> Result<Label, Fail> {
-    Ok(label(alloc, parts)?.copy(alloc)?)
 }
 
 // Whether the label is printed so where `//t:t` is the default toolchain.
@@ -41,51 +26,58 @@ fn prints_as(alloc: Global, label: &Label, shown: &[u8]) -> Result<bool, Fail> {
     Ok(text.as_bytes() == shown)
 }
 
-const PRINTED: [(Parts, &[u8]); 5] = [
-    ((b"//", b"g", b"//t:t"), b"//:g"),
-    ((b"//", b"k", b"//t:t"), b"//:k"),
-    ((b"//", b"k", b"//a:a"), b"//:k(//a:a)"),
-    ((b"//", b"k", b"//t:u"), b"//:k(//t:u)"),
-    ((b"//a", b"a", b"//t:t"), b"//a:a"),
-];
+// The directory, the name and the toolchain of a label, and the label as it is printed.
+const PRINTED: &str = table! {
+    "//", "g", "//t:t", "//:g";
+    "//", "k", "//t:t", "//:k";
+    "//", "k", "//a:a", "//:k(//a:a)";
+    "//", "k", "//t:u", "//:k(//t:u)";
+    "//a", "a", "//t:t", "//a:a";
+};
 
-fn is_printed(alloc: Global, row: &(Parts, &[u8])) -> Result<bool, Fail> {
-    let label = copied(alloc, &row.0)?;
-    prints_as(alloc, &label, row.1)
+// A copy of the first label of a row.
+fn first_label(alloc: Global, row: &str) -> Result<Label, Fail> {
+    let label = label(alloc, field(row, 0), field(row, 1), field(row, 2))?;
+    Ok(label.copy(alloc)?)
+}
+
+fn is_printed(alloc: Global, row: &str) -> Result<bool, Fail> {
+    let label = first_label(alloc, row)?;
+    prints_as(alloc, &label, field(row, 3).as_bytes())
 }
 
 #[test]
 fn labels_are_printed(rt: HostRuntime) -> Result<(), Fail> {
-    for row in &PRINTED {
-        assert!(rt; is_printed(rt.alloc(), row)?, "{:?}", row.1);
+    for row in PRINTED.split_terminator('\x1e') {
+        assert!(rt; is_printed(rt.alloc(), row)?, "at {row}");
     }
     Ok(())
 }
 
-// Labels of which the first stands before the second.
-const ORDERED: [(Parts, Parts); 5] = [
-    ((b"//", b"", b"//t:t"), (b"//", b"g", b"//t:t")),
-    ((b"//", b"g", b"//t:t"), (b"//", b"k", b"//t:t")),
-    ((b"//", b"k", b"//t:t"), (b"//", b"k", b"//a:a")),
-    ((b"//", b"k", b"//a:a"), (b"//", b"k", b"//t:u")),
-    ((b"//", b"k", b"//t:u"), (b"//a", b"a", b"//t:t")),
-];
+// Two labels, of which the first stands before the second.
+const ORDERED: &str = table! {
+    "//", "", "//t:t", "//", "g", "//t:t";
+    "//", "g", "//t:t", "//", "k", "//t:t";
+    "//", "k", "//t:t", "//", "k", "//a:a";
+    "//", "k", "//a:a", "//", "k", "//t:u";
+    "//", "k", "//t:u", "//a", "a", "//t:t";
+};
 
 fn stands_before(alloc: Global, first: &Label, second: &Label) -> Result<bool, Fail> {
     let default = Text::from_bytes(alloc, b"//t:t")?;
     Ok(first.before(second, &default) && !second.before(first, &default))
 }
 
-fn is_ordered(alloc: Global, row: &(Parts, Parts)) -> Result<bool, Fail> {
-    let first = copied(alloc, &row.0)?;
-    let second = copied(alloc, &row.1)?;
+fn is_ordered(alloc: Global, row: &str) -> Result<bool, Fail> {
+    let first = first_label(alloc, row)?;
+    let second = label(alloc, field(row, 3), field(row, 4), field(row, 5))?;
     stands_before(alloc, &first, &second)
 }
 
 #[test]
 fn labels_are_ordered(rt: HostRuntime) -> Result<(), Fail> {
-    for (number, row) in ORDERED.iter().enumerate() {
-        assert!(rt; is_ordered(rt.alloc(), row)?, "row {number}");
+    for row in ORDERED.split_terminator('\x1e') {
+        assert!(rt; is_ordered(rt.alloc(), row)?, "at {row}");
     }
     Ok(())
 }
@@ -106,7 +98,7 @@ fn read_there(alloc: Global, text: &str, directory: &Path) -> Result<Label, Labe
 }
 
 // A text, and the label that is meant, as it is printed.
-const READ: &str = rows! {
+const READ: &str = table! {
     ":k(//t:t)", "//c/d:k";
     ":k", "//c/d:k(//t:u)";
     ":b(:t)", "//c/d:b(//c/d:t)";
@@ -116,16 +108,9 @@ const READ: &str = rows! {
     "//:g(//t:t)", "//:g";
 };
 
-fn reads_as(alloc: Global, text: &str, shown: &str) -> Result<bool, Fail> {
-    let label = read(alloc, text)?;
-    prints_as(alloc, &label, shown.as_bytes())
-}
-
 fn is_read(alloc: Global, row: &str) -> Result<bool, Fail> {
-    match two(row) {
-        Some((text, shown)) => reads_as(alloc, text, shown),
-        None => Ok(false),
-    }
+    let label = read(alloc, field(row, 0))?;
+    prints_as(alloc, &label, field(row, 1).as_bytes())
 }
 
 #[test]
@@ -137,7 +122,7 @@ fn labels_are_read(rt: HostRuntime) -> Result<(), Fail> {
 }
 
 // A text, and why it is no label.
-const REFUSED: &str = rows! {
+const REFUSED: &str = table! {
     "x", "BadLabel";
     "../x", "BadLabel";
     "//", "BadLabel";
@@ -175,17 +160,10 @@ fn error_name(error: &LabelError) -> &'static [u8] {
     }
 }
 
-fn fails_with(alloc: Global, text: &str, wanted: &str) -> bool {
-    match &read(alloc, text) {
-        Ok(_) => false,
-        Err(error) => error_name(error) == wanted.as_bytes(),
-    }
-}
-
 fn is_refused(alloc: Global, row: &str) -> bool {
-    match two(row) {
-        Some((text, wanted)) => fails_with(alloc, text, wanted),
-        None => false,
+    match &read(alloc, field(row, 0)) {
+        Ok(_) => false,
+        Err(error) => error_name(error) == field(row, 1).as_bytes(),
     }
 }
 
@@ -211,7 +189,7 @@ fn pattern(alloc: Global, text: &str) -> Result<Pattern, PatternError> {
 }
 
 // Patterns, each with a label that it matches.
-const MATCHED: &str = rows! {
+const MATCHED: &str = table! {
     "//a:*", "//a:a";
     "//a", "//a:a";
     "//a/*", "//a:a";
@@ -224,7 +202,7 @@ const MATCHED: &str = rows! {
 };
 
 // Patterns, each with a label that it doesn't match.
-const PASSED_BY: &str = rows! {
+const PASSED_BY: &str = table! {
     "//a:*", "//a/b:a";
     "//a", "//a:b";
     "//a/*", "//ab:a";
@@ -240,22 +218,15 @@ fn matches(alloc: Global, pattern: &Pattern, text: &str) -> Result<bool, Fail> {
     Ok(pattern.matches(&label))
 }
 
-fn match_each_other(alloc: Global, text: &str, label: &str) -> Result<bool, Fail> {
-    let pattern = pattern(alloc, text)?;
-    matches(alloc, &pattern, label)
-}
-
-fn is_matched(alloc: Global, row: &str, wanted: bool) -> Result<bool, Fail> {
-    match two(row) {
-        Some((text, label)) => Ok(match_each_other(alloc, text, label)? == wanted),
-        None => Ok(false),
-    }
+fn is_matched(alloc: Global, row: &str) -> Result<bool, Fail> {
+    let pattern = pattern(alloc, field(row, 0))?;
+    matches(alloc, &pattern, field(row, 1))
 }
 
 #[test]
 fn patterns_match_labels(rt: HostRuntime) -> Result<(), Fail> {
     for row in MATCHED.split_terminator('\x1e') {
-        assert!(rt; is_matched(rt.alloc(), row, true)?, "at {row}");
+        assert!(rt; is_matched(rt.alloc(), row)?, "at {row}");
     }
     Ok(())
 }
@@ -263,13 +234,13 @@ fn patterns_match_labels(rt: HostRuntime) -> Result<(), Fail> {
 #[test]
 fn patterns_pass_labels_by(rt: HostRuntime) -> Result<(), Fail> {
     for row in PASSED_BY.split_terminator('\x1e') {
-        assert!(rt; is_matched(rt.alloc(), row, false)?, "at {row}");
+        assert!(rt; !is_matched(rt.alloc(), row)?, "at {row}");
     }
     Ok(())
 }
 
 // A text, and why it is no pattern.
-const BAD_PATTERNS: &str = rows! {
+const BAD_PATTERNS: &str = table! {
     "//a*", "BadPattern";
     "//a*:b", "BadPattern";
     "a", "BadPattern";
@@ -291,17 +262,10 @@ fn pattern_error_name(error: &PatternError) -> &'static [u8] {
     }
 }
 
-fn is_no_pattern(alloc: Global, text: &str, wanted: &str) -> bool {
-    match &pattern(alloc, text) {
-        Ok(_) => false,
-        Err(error) => pattern_error_name(error) == wanted.as_bytes(),
-    }
-}
-
 fn is_bad_pattern(alloc: Global, row: &str) -> bool {
-    match two(row) {
-        Some((text, wanted)) => is_no_pattern(alloc, text, wanted),
-        None => false,
+    match &pattern(alloc, field(row, 0)) {
+        Ok(_) => false,
+        Err(error) => pattern_error_name(error) == field(row, 1).as_bytes(),
     }
 }
 

@@ -1,8 +1,8 @@
 // What an execution leaves.
 
-use gn_items::{Item, ItemKind, Outcome};
+use gn_items::{Item, ItemKind, Outcome, Question};
 use gn_labels::Label;
-use gn_paths::{Path, Place, Text};
+use gn_paths::{Path, Place, Text, resolve};
 use std::alloc::{AllocError, Global};
 use std::test::Fail;
 
@@ -16,6 +16,9 @@ const KNOWN: [(&[u8], &[u8], bool); 4] = [
     (b"k", b"//t:t", false),
     (b"h", b"", false),
 ];
+
+// A path, and whether what its import leaves is asked for, or else its content.
+const ASKED: [(&[u8], bool); 3] = [(b"//a", false), (b"//b", false), (b"//b", true)];
 
 fn label(alloc: Global, name: &[u8], toolchain: &[u8]) -> Result<Label, AllocError> {
     Ok(Label {
@@ -75,7 +78,7 @@ fn labels_are_known(rt: HostRuntime) -> Result<(), Fail> {
 
 fn begins_empty(alloc: Global) -> bool {
     let outcome = Outcome::new(alloc);
-    outcome.items().is_empty() && outcome.prints().is_empty()
+    outcome.items().is_empty() && outcome.prints().is_empty() && outcome.asked().is_empty()
 }
 
 fn are_items(items: &[Item]) -> bool {
@@ -110,5 +113,49 @@ fn are_left_in_order(alloc: Global) -> Result<bool, AllocError> {
 #[test]
 fn items_and_lines_come_in_order(rt: HostRuntime) -> Result<(), Fail> {
     assert!(rt; begins_empty(rt.alloc()) && are_left_in_order(rt.alloc())?);
+    Ok(())
+}
+
+fn ask(alloc: Global, outcome: &mut Outcome, row: &(&[u8], bool)) -> Result<(), Fail> {
+    let root = Path::root(alloc)?;
+    let path = resolve(alloc, &root, row.0)?;
+    if row.1 {
+        outcome.ask_import(&path)?;
+    } else {
+        outcome.ask_content(&path)?;
+    }
+    Ok(())
+}
+
+fn is_question(question: &Question, row: &(&[u8], bool)) -> bool {
+    match question {
+        Question::Content(path) => !row.1 && path.as_text().as_bytes() == row.0,
+        Question::Import(path) => row.1 && path.as_text().as_bytes() == row.0,
+    }
+}
+
+fn are_asked(asked: &[Question]) -> bool {
+    match asked {
+        [first, second, third] => {
+            is_question(first, &ASKED[0])
+                && is_question(second, &ASKED[1])
+                && is_question(third, &ASKED[2])
+        }
+        _ => false,
+    }
+}
+
+fn are_asked_in_order(alloc: Global) -> Result<bool, Fail> {
+    let mut outcome = outcome(alloc)?;
+    for row in &ASKED {
+        ask(alloc, &mut outcome, row)?;
+    }
+    let kept = are_items(outcome.items()) && are_asked(outcome.asked());
+    Ok(kept && are_asked(&outcome.into_asked()))
+}
+
+#[test]
+fn questions_come_in_order(rt: HostRuntime) -> Result<(), Fail> {
+    assert!(rt; are_asked_in_order(rt.alloc())?);
     Ok(())
 }

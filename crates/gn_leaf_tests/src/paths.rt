@@ -1,22 +1,12 @@
 // Each call on paths, with values that the language's rules give.
 
-use crate::rows::{three, two};
+use crate::rows::{field, is_shown, table};
 use gn_paths::{
     Path, PathError, PathFault, PathPart, Text, directory, gen_directory, is_system, obj_directory,
     part, path_meant, rebase, resolve,
 };
 use std::alloc::{AllocError, Global};
 use std::test::Fail;
-
-// A table of two or three fields a row.
-macro_rules! rows {
-    ($($first:literal, $second:literal;)+) => {
-        concat!($($first, "\x1f", $second, "\x1e"),+)
-    };
-    ($($first:literal, $second:literal, $third:literal;)+) => {
-        concat!($($first, "\x1f", $second, "\x1f", $third, "\x1e"),+)
-    };
-}
 
 // What a text means at the root.
 fn at_root(alloc: Global, text: &[u8]) -> Result<Path, PathError> {
@@ -46,7 +36,7 @@ fn is_answer(found: &Result<Path, PathError>, wanted: &str) -> bool {
 }
 
 // A directory, a text, and what it is there.
-const RESOLVED: &str = rows! {
+const RESOLVED: &str = table! {
     "//", "a/b/", "//a/b/";
     "//", "//.", "//";
     "//", "\u{E9}/b", "//\u{E9}/b";
@@ -65,10 +55,10 @@ const RESOLVED: &str = rows! {
 };
 
 fn is_resolved(alloc: Global, row: &str) -> bool {
-    match three(row) {
-        Some((current, text, wanted)) => is_answer(&resolved(alloc, current, text), wanted),
-        None => false,
-    }
+    is_answer(
+        &resolved(alloc, field(row, 0), field(row, 1)),
+        field(row, 2),
+    )
 }
 
 #[test]
@@ -95,7 +85,7 @@ fn texts_are_utf_8(rt: HostRuntime) -> Result<(), Fail> {
 }
 
 // A directory, a text, and the path that is meant, or why none is.
-const MEANT: &str = rows! {
+const MEANT: &str = table! {
     "//c/d", "../x", "//c/x";
     "//", "..", "AboveRoot";
     "//", "../\n", "BadPath";
@@ -109,17 +99,10 @@ fn is_meaning(meant: &Result<Path, PathFault>, wanted: &str) -> bool {
     }
 }
 
-fn means(alloc: Global, current: &str, text: &str, wanted: &str) -> Result<bool, PathError> {
-    let directory = at_root(alloc, current.as_bytes())?;
-    let meant = path_meant(alloc, &directory, text.as_bytes())?;
-    Ok(is_meaning(&meant, wanted))
-}
-
 fn is_meant(alloc: Global, row: &str) -> Result<bool, PathError> {
-    match three(row) {
-        Some((current, text, wanted)) => means(alloc, current, text, wanted),
-        None => Ok(false),
-    }
+    let directory = at_root(alloc, field(row, 0).as_bytes())?;
+    let meant = path_meant(alloc, &directory, field(row, 1).as_bytes())?;
+    Ok(is_meaning(&meant, field(row, 2)))
 }
 
 #[test]
@@ -131,7 +114,7 @@ fn texts_mean_paths(rt: HostRuntime) -> Result<(), Fail> {
 }
 
 // A path, the directory from which it is shown, if any, and how it is shown.
-const REBASED: &str = rows! {
+const REBASED: &str = table! {
     "a/b/", "//c", "../a/b/";
     "//c", "//c", ".";
     "//c/", "//c", "./";
@@ -159,17 +142,10 @@ fn shown(alloc: Global, path: &Path, base: &str) -> Result<Text, PathError> {
     rebase(alloc, path, directory.as_bytes(), b"/src")
 }
 
-fn is_shown(alloc: Global, path: &str, base: &str, wanted: &str) -> Result<bool, PathError> {
-    let path = at_root(alloc, path.as_bytes())?;
-    let shown = shown(alloc, &path, base)?;
-    Ok(shown.as_bytes() == wanted.as_bytes())
-}
-
 fn is_rebased(alloc: Global, row: &str) -> Result<bool, PathError> {
-    match three(row) {
-        Some((path, base, wanted)) => is_shown(alloc, path, base, wanted),
-        None => Ok(false),
-    }
+    let path = at_root(alloc, field(row, 0).as_bytes())?;
+    let shown = shown(alloc, &path, field(row, 1))?;
+    Ok(shown.as_bytes() == field(row, 2).as_bytes())
 }
 
 #[test]
@@ -181,7 +157,7 @@ fn paths_are_rebased(rt: HostRuntime) -> Result<(), Fail> {
 }
 
 // A path, a build directory, and how the path is seen from there.
-const SEEN: &str = rows! {
+const SEEN: &str = table! {
     "//a.cc", "//out", "../a.cc";
     "//out", "//out", ".";
     "//out/", "//out", "./";
@@ -191,18 +167,11 @@ const SEEN: &str = rows! {
     "/usr/x/", "//out", "/usr/x/";
 };
 
-fn sees(alloc: Global, path: &str, build: &str, wanted: &str) -> Result<bool, PathError> {
-    let path = at_root(alloc, path.as_bytes())?;
-    let build = at_root(alloc, build.as_bytes())?;
-    let seen = path.seen_from(alloc, &build)?;
-    Ok(seen.as_bytes() == wanted.as_bytes())
-}
-
 fn is_seen(alloc: Global, row: &str) -> Result<bool, PathError> {
-    match three(row) {
-        Some((path, build, wanted)) => sees(alloc, path, build, wanted),
-        None => Ok(false),
-    }
+    let path = at_root(alloc, field(row, 0).as_bytes())?;
+    let build = at_root(alloc, field(row, 1).as_bytes())?;
+    let seen = path.seen_from(alloc, &build)?;
+    Ok(seen.as_bytes() == field(row, 2).as_bytes())
 }
 
 #[test]
@@ -214,7 +183,7 @@ fn paths_are_seen_from_a_directory(rt: HostRuntime) -> Result<(), Fail> {
 }
 
 // A path, and its directory.
-const DIRECTORIES: &str = rows! {
+const DIRECTORIES: &str = table! {
     "/", "/";
     "/a", "/";
     "/s//a", "/s";
@@ -225,17 +194,10 @@ const DIRECTORIES: &str = rows! {
     "//", "//";
 };
 
-fn stands_in(alloc: Global, path: &str, wanted: &str) -> Result<bool, PathError> {
-    let path = at_root(alloc, path.as_bytes())?;
-    let found = directory(alloc, &path)?;
-    Ok(found.as_bytes() == wanted.as_bytes())
-}
-
 fn is_directory_of(alloc: Global, row: &str) -> Result<bool, PathError> {
-    match two(row) {
-        Some((path, wanted)) => stands_in(alloc, path, wanted),
-        None => Ok(false),
-    }
+    let path = at_root(alloc, field(row, 0).as_bytes())?;
+    let found = directory(alloc, &path)?;
+    Ok(found.as_bytes() == field(row, 1).as_bytes())
 }
 
 #[test]
@@ -247,24 +209,17 @@ fn paths_have_directories(rt: HostRuntime) -> Result<(), Fail> {
 }
 
 // A path, and itself as a directory.
-const AS_DIRECTORIES: &str = rows! {
+const AS_DIRECTORIES: &str = table! {
     "/src//", "/src";
     "/", "/";
     "//", "//";
     "//a/", "//a";
 };
 
-fn becomes(alloc: Global, path: &str, wanted: &str) -> Result<bool, PathError> {
-    let path = at_root(alloc, path.as_bytes())?;
-    let found = path.to_directory(alloc)?;
-    Ok(found.as_bytes() == wanted.as_bytes())
-}
-
 fn is_as_directory(alloc: Global, row: &str) -> Result<bool, PathError> {
-    match two(row) {
-        Some((path, wanted)) => becomes(alloc, path, wanted),
-        None => Ok(false),
-    }
+    let path = at_root(alloc, field(row, 0).as_bytes())?;
+    let found = path.to_directory(alloc)?;
+    Ok(found.as_bytes() == field(row, 1).as_bytes())
 }
 
 #[test]
@@ -276,7 +231,7 @@ fn directories_have_no_final_slash(rt: HostRuntime) -> Result<(), Fail> {
 }
 
 // Paths, each with a directory below which it stands.
-const BELOW: &str = rows! {
+const BELOW: &str = table! {
     "//out/x", "//out";
     "//out/x/", "//out/";
     "//x", "//";
@@ -284,7 +239,7 @@ const BELOW: &str = rows! {
 };
 
 // Paths, each with a directory below which it doesn't stand.
-const NOT_BELOW: &str = rows! {
+const NOT_BELOW: &str = table! {
     "//out", "//out";
     "//out/", "//out";
     "//output", "//out";
@@ -293,32 +248,25 @@ const NOT_BELOW: &str = rows! {
     "/s//", "/s";
 };
 
-fn stands_below(alloc: Global, path: &str, directory: &str) -> Result<bool, PathError> {
-    let path = at_root(alloc, path.as_bytes())?;
-    let directory = at_root(alloc, directory.as_bytes())?;
+fn is_below(alloc: Global, row: &str) -> Result<bool, PathError> {
+    let path = at_root(alloc, field(row, 0).as_bytes())?;
+    let directory = at_root(alloc, field(row, 1).as_bytes())?;
     Ok(path.is_below(&directory))
-}
-
-fn is_below(alloc: Global, row: &str, wanted: bool) -> Result<bool, PathError> {
-    match two(row) {
-        Some((path, directory)) => Ok(stands_below(alloc, path, directory)? == wanted),
-        None => Ok(false),
-    }
 }
 
 #[test]
 fn paths_stand_below_directories(rt: HostRuntime) -> Result<(), Fail> {
     for row in BELOW.split_terminator('\x1e') {
-        assert!(rt; is_below(rt.alloc(), row, true)?, "at {row}");
+        assert!(rt; is_below(rt.alloc(), row)?, "at {row}");
     }
     for row in NOT_BELOW.split_terminator('\x1e') {
-        assert!(rt; is_below(rt.alloc(), row, false)?, "at {row}");
+        assert!(rt; !is_below(rt.alloc(), row)?, "at {row}");
     }
     Ok(())
 }
 
 // An output directory, a directory, and the directory of its objects.
-const OBJECTS: &str = rows! {
+const OBJECTS: &str = table! {
     "//out", "//a/b", "//out/obj/a/b";
     "//out", "//", "//out/obj";
     "//out", "/usr", "//out/obj/usr";
@@ -326,18 +274,11 @@ const OBJECTS: &str = rows! {
     "//out", "/s//a/../b/.", "//out/obj/s/a/b";
 };
 
-fn has_objects(alloc: Global, out: &str, path: &str, wanted: &str) -> Result<bool, PathError> {
-    let out = at_root(alloc, out.as_bytes())?;
-    let path = at_root(alloc, path.as_bytes())?;
-    let found = obj_directory(alloc, &out, &path)?;
-    Ok(found.as_bytes() == wanted.as_bytes())
-}
-
 fn are_objects(alloc: Global, row: &str) -> Result<bool, PathError> {
-    match three(row) {
-        Some((out, path, wanted)) => has_objects(alloc, out, path, wanted),
-        None => Ok(false),
-    }
+    let out = at_root(alloc, field(row, 0).as_bytes())?;
+    let path = at_root(alloc, field(row, 1).as_bytes())?;
+    let found = obj_directory(alloc, &out, &path)?;
+    Ok(found.as_bytes() == field(row, 2).as_bytes())
 }
 
 #[test]
@@ -349,23 +290,16 @@ fn objects_have_directories(rt: HostRuntime) -> Result<(), Fail> {
 }
 
 // An output directory, a directory, and the directory of its generated files.
-const GENERATED: &str = rows! {
+const GENERATED: &str = table! {
     "//out/t", "//a", "//out/t/gen/a";
     "//out", "//", "//out/gen";
 };
 
-fn has_generated(alloc: Global, out: &str, path: &str, wanted: &str) -> Result<bool, PathError> {
-    let out = at_root(alloc, out.as_bytes())?;
-    let path = at_root(alloc, path.as_bytes())?;
-    let found = gen_directory(alloc, &out, &path)?;
-    Ok(found.as_bytes() == wanted.as_bytes())
-}
-
 fn are_generated(alloc: Global, row: &str) -> Result<bool, PathError> {
-    match three(row) {
-        Some((out, path, wanted)) => has_generated(alloc, out, path, wanted),
-        None => Ok(false),
-    }
+    let out = at_root(alloc, field(row, 0).as_bytes())?;
+    let path = at_root(alloc, field(row, 1).as_bytes())?;
+    let found = gen_directory(alloc, &out, &path)?;
+    Ok(found.as_bytes() == field(row, 2).as_bytes())
 }
 
 #[test]
@@ -386,31 +320,49 @@ fn system_paths_begin_with_one_slash(rt: HostRuntime) -> Result<(), Fail> {
     Ok(())
 }
 
-const PARTS: [(&[u8], PathPart, &[u8]); 13] = [
-    (b"a/b.c.d", PathPart::File, b"b.c.d"),
-    (b"dir/", PathPart::File, b""),
-    (b"//f", PathPart::File, b"f"),
-    (b"a/b.c.d", PathPart::Name, b"b.c"),
-    (b"x", PathPart::Name, b"x"),
-    (b".h", PathPart::Name, b""),
-    (b"a/b.c.d", PathPart::Extension, b"d"),
-    (b"a.b/x", PathPart::Extension, b""),
-    (b"bar.txt", PathPart::Dir, b"."),
-    (b"a/b", PathPart::Dir, b"a"),
-    (b"a/", PathPart::Dir, b"a"),
-    (b"/a", PathPart::Dir, b"/."),
-    (b"//a", PathPart::Dir, b"//."),
+// A text, which part of it, and that part.
+const PARTS: &str = table! {
+    "a/b.c.d", "File", "b.c.d";
+    "dir/", "File", "";
+    "//f", "File", "f";
+    "a/b.c.d", "Name", "b.c";
+    "x", "Name", "x";
+    ".h", "Name", "";
+    "a/b.c.d", "Extension", "d";
+    "a.b/x", "Extension", "";
+    "bar.txt", "Dir", ".";
+    "a/b", "Dir", "a";
+    "a/", "Dir", "a";
+    "/a", "Dir", "/.";
+    "//a", "Dir", "//.";
+};
+
+fn is_part(alloc: Global, row: &str, which: PathPart) -> Result<bool, AllocError> {
+    let found = part(alloc, field(row, 0).as_bytes(), which)?;
+    Ok(found.as_bytes() == field(row, 2).as_bytes())
+}
+
+static WHICH: [PathPart; 4] = [
+    PathPart::File,
+    PathPart::Name,
+    PathPart::Extension,
+    PathPart::Dir,
 ];
 
-fn is_part(alloc: Global, row: &(&[u8], PathPart, &[u8])) -> Result<bool, AllocError> {
-    let found = part(alloc, row.0, row.1)?;
-    Ok(found.as_bytes() == row.2)
+// Whether the part that is meant is taken.
+fn is_part_named(alloc: Global, row: &str) -> Result<bool, AllocError> {
+    for which in &WHICH {
+        if is_shown(alloc, *which, field(row, 1))? {
+            return is_part(alloc, row, *which);
+        }
+    }
+    Ok(false)
 }
 
 #[test]
 fn parts_are_taken(rt: HostRuntime) -> Result<(), Fail> {
-    for (number, row) in PARTS.iter().enumerate() {
-        assert!(rt; is_part(rt.alloc(), row)?, "row {number}");
+    for row in PARTS.split_terminator('\x1e') {
+        assert!(rt; is_part_named(rt.alloc(), row)?, "at {row}");
     }
     Ok(())
 }

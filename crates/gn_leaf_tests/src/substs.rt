@@ -1,9 +1,35 @@
 // Each call once, with ample memory.
 
-use gn_paths::{Text, Texts};
-use gn_substs::{Given, Position, Subst, SubstError};
+use crate::rows::{field, is_shown, number, table};
+use gn_paths::{Path, PathError, Text, Texts, resolve};
+use gn_substs::{Around, Given, Position, Subst, SubstError};
 use std::alloc::{AllocError, Global};
 use std::test::Fail;
+
+static POSITIONS: [Position; 12] = [
+    Position::NoNames,
+    Position::ForeachOutputs,
+    Position::ForeachDepfile,
+    Position::ForeachArgs,
+    Position::CopyOutputs,
+    Position::FileTemplate,
+    Position::ActionArgs,
+    Position::ToolOutputs,
+    Position::ToolLinkOutput,
+    Position::ToolDependOutput,
+    Position::ToolDefaultOutputDir,
+    Position::ToolText,
+];
+
+// The position of this name.
+fn position_named(alloc: Global, name: &str) -> Result<Option<Position>, AllocError> {
+    for position in &POSITIONS {
+        if is_shown(alloc, *position, name)? {
+            return Ok(Some(*position));
+        }
+    }
+    Ok(None)
+}
 
 // The texts between the bars.
 fn texts(alloc: Global, parted: &str) -> Result<Texts, AllocError> {
@@ -27,111 +53,169 @@ fn given(position: Position, texts: Texts) -> Option<Given> {
     }
 }
 
-// The texts of the outputs of a tool: two of the sixteen names have one.
-const OUTPUTS: &str = "||main||||||.|||||||";
-
-// A position, the texts of its names, parted by bars, a text, and what it becomes.
-type Expanded = (Position, &'static str, &'static str, &'static str);
-
-const EXPANDED: [Expanded; 4] = [
-    (
-        Position::ToolOutputs,
-        OUTPUTS,
-        "{{output_dir}}/{{source_name_part}}.o",
-        "./main.o",
-    ),
-    (Position::ToolOutputs, OUTPUTS, "}}a{b}", "}}a{b}"),
-    (
-        Position::ToolOutputs,
-        OUTPUTS,
-        "{{source_name_part}}}{{source_dir}}",
-        "main}",
-    ),
-    (Position::CopyOutputs, "s|||||||", "{{source}}}}", "s}}"),
-];
-
 fn copied(alloc: Global, text: &str, position: Position) -> Result<Subst, Fail> {
     let subst = Subst::read(alloc, text.as_bytes(), position)?;
     Ok(subst.copy(alloc)?)
 }
 
-fn becomes(
-    alloc: Global,
-    subst: &Subst,
-    given: &Option<Given>,
-    wanted: &str,
-) -> Result<bool, AllocError> {
-    let Some(given) = given else {
-        return Ok(false);
-    };
+fn becomes(alloc: Global, subst: &Subst, given: &Given, wanted: &str) -> Result<bool, AllocError> {
     let text = subst.expand(alloc, given)?;
     Ok(text.as_bytes() == wanted.as_bytes())
 }
 
-fn is_expanded(alloc: Global, row: &Expanded) -> Result<bool, Fail> {
-    let given = given(row.0, texts(alloc, row.1)?);
-    let subst = copied(alloc, row.2, row.0)?;
-    Ok(becomes(alloc, &subst, &given, row.3)?)
+// A position, the texts of its names, parted by bars, a text, and what it becomes.
+const EXPANDED: &str = table! {
+    "ToolOutputs", "||main||||||.|||||||", "{{output_dir}}/{{source_name_part}}.o", "./main.o";
+    "ToolOutputs", "||main||||||.|||||||", "}}a{b}", "}}a{b}";
+    "ToolOutputs", "||main||||||.|||||||", "{{source_name_part}}}{{source_dir}}", "main}";
+    "CopyOutputs", "s|||||||", "{{source}}}}", "s}}";
+};
+
+fn expands(alloc: Global, row: &str, position: Position) -> Result<bool, Fail> {
+    let Some(given) = given(position, texts(alloc, field(row, 1))?) else {
+        return Ok(false);
+    };
+    let subst = copied(alloc, field(row, 2), position)?;
+    Ok(becomes(alloc, &subst, &given, field(row, 3))?)
+}
+
+fn is_expanded(alloc: Global, row: &str) -> Result<bool, Fail> {
+    match position_named(alloc, field(row, 0))? {
+        Some(position) => expands(alloc, row, position),
+        None => Ok(false),
+    }
 }
 
 #[test]
 fn texts_become_what_is_given(rt: HostRuntime) -> Result<(), Fail> {
-    for row in &EXPANDED {
-        assert!(rt; is_expanded(rt.alloc(), row)?, "{}", row.2);
+    for row in EXPANDED.split_terminator('\x1e') {
+        assert!(rt; is_expanded(rt.alloc(), row)?, "at {row}");
     }
     Ok(())
 }
 
-// Texts of a tool, and what a Ninja file has for them.
-const TOOL_TEXTS: [(&str, &str); 4] = [
-    (
-        " gcc $x {{defines}} {{source}} -o {{output}}",
-        "$ gcc $$x ${defines} ${in} -o ${out}",
-    ),
-    ("{{cflags}} a$", "${cflags} a$$"),
-    (" a", "$ a"),
-    (
-        "{{inputs}}{{inputs_newline}}{{label}}",
-        "${in}${in_newline}${label}",
-    ),
-];
+// A position, a source, the directory of its target, a text, and what it becomes where the build directory is `//out`
+// and the toolchain's output directory `//out/t`.
+const OF_SOURCES: &str = table! {
+    "ForeachOutputs", "//a/b.c.d", "//a", "{{source}}|{{source_file_part}}|{{source_name_part}}", "//a/b.c.d|b.c.d|b.c";
+    "ForeachOutputs", "//a/b.c.d", "//a", "{{source_dir}}|{{source_root_relative_dir}}|{{source_target_relative}}", "//a|a|b.c.d";
+    "ForeachOutputs", "//a/b.c.d", "//a", "{{source_gen_dir}}|{{source_out_dir}}", "//out/t/gen/a|//out/t/obj/a";
+    "ForeachArgs", "//a/b.c.d", "//a", "{{source}}|{{source_file_part}}|{{source_name_part}}", "../a/b.c.d|b.c.d|b.c";
+    "ForeachArgs", "//a/b.c.d", "//a", "{{source_dir}}|{{source_root_relative_dir}}|{{source_target_relative}}", "../a|a|b.c.d";
+    "ForeachArgs", "//a/b.c.d", "//a", "{{source_gen_dir}}|{{source_out_dir}}", "t/gen/a|t/obj/a";
+    "ToolOutputs", "//r.x", "//a/b", "{{source}}|{{source_dir}}|{{source_root_relative_dir}}", "../r.x|..|.";
+    "ToolOutputs", "//r.x", "//a/b", "{{source_target_relative}}|{{source_gen_dir}}|{{source_out_dir}}", "../../r.x|t/gen|t/obj";
+    "ToolOutputs", "//r.x", "//a/b", "{{output_dir}}|{{target_output_name}}|{{label_name}}", "||";
+    "ForeachDepfile", "//out/x", "//", "{{source}}|{{source_dir}}|{{source_target_relative}}", "//out/x|//out|out/x";
+    "ForeachArgs", "//out/x", "//", "{{source}}|{{source_dir}}|{{source_target_relative}}", "x|.|out/x";
+    "CopyOutputs", "/s//a", "//a", "{{source}}|{{source_dir}}|{{source_root_relative_dir}}", "/s//a|/s|/s";
+    "CopyOutputs", "/s//a", "//a", "{{source_target_relative}}|{{source_gen_dir}}|{{source_out_dir}}", "/s//a|//out/t/gen/s|//out/t/obj/s";
+    "ForeachArgs", "/usr/x", "//a", "{{source}}|{{source_dir}}|{{source_gen_dir}}", "/usr/x|/usr|t/gen/usr";
+    "ForeachArgs", "/x", "//a", "{{source_dir}}|{{source_root_relative_dir}}|{{source_out_dir}}", "/|/|t/obj";
+    "FileTemplate", "//r.x", "//", "{{source}}|{{source_name_part}}|{{source_dir}}|{{source_root_relative_dir}}", "//r.x|r|//|.";
+    "FileTemplate", "//d/a.b.c", "//", "{{source_name_part}}+{{source_file_part}}+{{source_dir}}+{{source_root_relative_dir}}", "a.b+a.b.c+//d+d";
+};
 
-fn has_variables(alloc: Global, row: &(&str, &str)) -> Result<bool, Fail> {
-    let subst = copied(alloc, row.0, Position::ToolText)?;
+fn at_root(alloc: Global, text: &str) -> Result<Path, PathError> {
+    let root = Path::root(alloc)?;
+    resolve(alloc, &root, text.as_bytes())
+}
+
+// What stands for a source at a position.
+fn of_source(
+    alloc: Global,
+    position: Position,
+    source: &Path,
+    target: &Path,
+) -> Result<Given, PathError> {
+    let build = at_root(alloc, "//out")?;
+    let out = at_root(alloc, "//out/t")?;
+    let around = Around {
+        target,
+        build: &build,
+        out: &out,
+    };
+    Ok(Given::of_source(alloc, position, source, &around)?)
+}
+
+fn given_of_row(alloc: Global, row: &str, position: Position) -> Result<Given, PathError> {
+    let source = at_root(alloc, field(row, 1))?;
+    let target = at_root(alloc, field(row, 2))?;
+    of_source(alloc, position, &source, &target)
+}
+
+fn stands_for(alloc: Global, row: &str, position: Position) -> Result<bool, Fail> {
+    let given = given_of_row(alloc, row, position)?;
+    let subst = copied(alloc, field(row, 3), position)?;
+    Ok(becomes(alloc, &subst, &given, field(row, 4))?)
+}
+
+fn is_of_source(alloc: Global, row: &str) -> Result<bool, Fail> {
+    match position_named(alloc, field(row, 0))? {
+        Some(position) => stands_for(alloc, row, position),
+        None => Ok(false),
+    }
+}
+
+#[test]
+fn sources_have_their_texts(rt: HostRuntime) -> Result<(), Fail> {
+    for row in OF_SOURCES.split_terminator('\x1e') {
+        assert!(rt; is_of_source(rt.alloc(), row)?, "at {row}");
+    }
+    Ok(())
+}
+
+// A text of a tool, and what a Ninja file has for it.
+const TOOL_TEXTS: &str = table! {
+    " gcc $x {{defines}} {{source}} -o {{output}}", "$ gcc $$x ${defines} ${in} -o ${out}";
+    "{{cflags}} a$", "${cflags} a$$";
+    " a", "$ a";
+    "{{inputs}}{{inputs_newline}}{{label}}", "${in}${in_newline}${label}";
+};
+
+fn has_variables(alloc: Global, row: &str) -> Result<bool, Fail> {
+    let subst = copied(alloc, field(row, 0), Position::ToolText)?;
     let text = subst.tool_text(alloc)?;
-    Ok(text.as_bytes() == row.1.as_bytes())
+    Ok(text.as_bytes() == field(row, 1).as_bytes())
 }
 
 #[test]
 fn tools_have_variables(rt: HostRuntime) -> Result<(), Fail> {
-    for row in &TOOL_TEXTS {
-        assert!(rt; has_variables(rt.alloc(), row)?, "{}", row.0);
+    for row in TOOL_TEXTS.split_terminator('\x1e') {
+        assert!(rt; has_variables(rt.alloc(), row)?, "at {row}");
     }
     Ok(())
 }
 
 // A text, where it stands, and the offset of what is unknown there.
-const REFUSED: [(&str, Position, usize); 7] = [
-    ("a{{x}}", Position::ToolText, 1),
-    ("{{{{source}}", Position::ToolText, 0),
-    ("{{source}}{{ source }}{{x}}", Position::CopyOutputs, 10),
-    ("{{source", Position::CopyOutputs, 0),
-    ("{{source_target_relative}}", Position::FileTemplate, 0),
-    ("{{output_dir}}", Position::ToolDefaultOutputDir, 0),
-    ("x {{source}}", Position::NoNames, 2),
-];
+const REFUSED: &str = table! {
+    "a{{x}}", "ToolText", 1;
+    "{{{{source}}", "ToolText", 0;
+    "{{source}}{{ source }}{{x}}", "CopyOutputs", 10;
+    "{{source", "CopyOutputs", 0;
+    "{{source_target_relative}}", "FileTemplate", 0;
+    "{{output_dir}}", "ToolDefaultOutputDir", 0;
+    "x {{source}}", "NoNames", 2;
+};
 
-fn is_refused(alloc: Global, row: &(&str, Position, usize)) -> bool {
-    match Subst::read(alloc, row.0.as_bytes(), row.1) {
-        Err(SubstError::UnknownSubstitution(offset)) => offset == row.2,
+fn refuses(alloc: Global, text: &str, position: Position, wanted: usize) -> bool {
+    match Subst::read(alloc, text.as_bytes(), position) {
+        Err(SubstError::UnknownSubstitution(offset)) => offset == wanted,
         _ => false,
+    }
+}
+
+fn is_refused(alloc: Global, row: &str) -> Result<bool, AllocError> {
+    match position_named(alloc, field(row, 1))? {
+        Some(position) => Ok(refuses(alloc, field(row, 0), position, number(row, 2))),
+        None => Ok(false),
     }
 }
 
 #[test]
 fn bad_texts_are_refused(rt: HostRuntime) -> Result<(), Fail> {
-    for row in &REFUSED {
-        assert!(rt; is_refused(rt.alloc(), row), "{}", row.0);
+    for row in REFUSED.split_terminator('\x1e') {
+        assert!(rt; is_refused(rt.alloc(), row)?, "at {row}");
     }
     Ok(())
 }

@@ -1,12 +1,14 @@
 // What no clause says: that the definitions mean what the language says, and that the stack is large enough. Offsets,
 // places and counts are counted by hand.
 
+mod expressions;
 mod files;
 mod nesting;
 mod places;
 mod sizes;
 mod trees;
 
+use crate::rows::is_shown;
 use gn_syntax::{SyntaxError, parse};
 use std::alloc::{AllocError, Global};
 
@@ -15,6 +17,14 @@ fn error_of(alloc: Global, bytes: &[u8]) -> Option<SyntaxError> {
     match parse(alloc, bytes) {
         Ok(_) => None,
         Err(error) => Some(error),
+    }
+}
+
+/// Whether this is the first error of a file; the empty text is for a file that parses.
+fn has_error(alloc: Global, bytes: &[u8], wanted: &str) -> Result<bool, AllocError> {
+    match error_of(alloc, bytes) {
+        Some(error) => is_shown(alloc, error, wanted),
+        None => Ok(wanted.is_empty()),
     }
 }
 

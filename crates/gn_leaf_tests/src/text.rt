@@ -1,26 +1,27 @@
 // Names with their numbers, quoted texts and numbers in decimal: each call once, with ample memory.
 
+use crate::rows::{field, number, table};
 use gn_text::{Names, decimal, quote};
 use std::alloc::{AllocError, Global};
 use std::test::Fail;
 
 // A name, and the number that it has once the names before it have theirs.
-const INTERNED: [(&[u8], usize); 6] = [
-    (b"x", 0),
-    (b"deps", 1),
-    (b"", 2),
-    (b"x", 0),
-    (b"", 2),
-    (b"deps2", 3),
-];
+const INTERNED: &str = table! {
+    "x", 0;
+    "deps", 1;
+    "", 2;
+    "x", 0;
+    "", 2;
+    "deps2", 3;
+};
 
-fn is_interned(names: &mut Names, row: &(&[u8], usize)) -> Result<bool, AllocError> {
-    let number = names.intern(row.0)?;
-    Ok(number == row.1)
+fn is_interned(names: &mut Names, row: &str) -> Result<bool, AllocError> {
+    let interned = names.intern(field(row, 0).as_bytes())?;
+    Ok(interned == number(row, 1))
 }
 
 fn are_interned(names: &mut Names) -> Result<bool, AllocError> {
-    for row in &INTERNED {
+    for row in INTERNED.split_terminator('\x1e') {
         if !is_interned(names, row)? {
             return Ok(false);
         }
@@ -50,21 +51,21 @@ fn names_have_numbers(rt: HostRuntime) -> Result<(), Fail> {
     Ok(())
 }
 
-const QUOTED: [(&[u8], &[u8]); 3] = [
-    (b"q\"", b"\"q\\\"\""),
-    (b"", b"\"\""),
-    (b"a$b\\c", b"\"a\\$b\\\\c\""),
-];
+const QUOTED: &str = table! {
+    "q\"", "\"q\\\"\"";
+    "", "\"\"";
+    "a$b\\c", "\"a\\$b\\\\c\"";
+};
 
-fn is_quoted(alloc: Global, row: &(&[u8], &[u8])) -> Result<bool, AllocError> {
-    let quoted = quote(alloc, row.0)?;
-    Ok(quoted.as_slice() == row.1)
+fn is_quoted(alloc: Global, row: &str) -> Result<bool, AllocError> {
+    let quoted = quote(alloc, field(row, 0).as_bytes())?;
+    Ok(quoted.as_slice() == field(row, 1).as_bytes())
 }
 
 #[test]
 fn texts_are_quoted(rt: HostRuntime) -> Result<(), Fail> {
-    for row in &QUOTED {
-        assert!(rt; is_quoted(rt.alloc(), row)?, "{:?}", row.0);
+    for row in QUOTED.split_terminator('\x1e') {
+        assert!(rt; is_quoted(rt.alloc(), row)?, "at {row}");
     }
     Ok(())
 }

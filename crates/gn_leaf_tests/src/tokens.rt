@@ -1,193 +1,109 @@
 // Bytes and their tokens.
 
+use crate::rows::{bytes_of, field, is_shown, table};
 use gn_tokens::{Token, TokenError, TokenKind, Tokens, integer_value};
+use std::alloc::{AllocError, Global};
 use std::test::Fail;
 
-// A file, its tokens with their places, and the error that ends them.
-type Row = (
-    &'static [u8],
-    &'static [(TokenKind, usize, usize)],
-    Option<TokenError>,
-);
+// A file, its tokens with their places, and the error that ends them. Each character stands for the byte of its number.
+const FILES: &str = table! {
+    "", "", "";
+    "y = a -1", "Identifier 0 1|Assign 2 3|Identifier 4 5|Integer 6 8|", "";
+    "a--1", "Identifier 0 1|Minus 1 2|Integer 2 4|", "";
+    "if else true false iff _1#if\n\r\tif # if", "If 0 2|Else 3 7|True 8 12|False 13 18|Identifier 19 22|Identifier 23 25|If 31 33|", "";
+    "= += -= + - == != < <= > >=", "Assign 0 1|AddAssign 2 4|SubAssign 5 7|Plus 8 9|Minus 10 11|Equal 12 14|NotEqual 15 17|Less 18 19|LessEqual 20 22|Greater 23 24|GreaterEqual 25 27|", "";
+    "&&||!.,()[]{}", "And 0 2|Or 2 4|Not 4 5|Dot 5 6|Comma 6 7|OpenParen 7 8|CloseParen 8 9|OpenBracket 9 10|CloseBracket 10 11|OpenBrace 11 12|CloseBrace 12 13|", "";
+    "0 9223372036854775807 -9223372036854775808", "Integer 0 1|Integer 2 21|Integer 22 42|", "";
+    " 9223372036854775808", "", "BadNumber(1)";
+    "-9223372036854775809", "", "BadNumber(0)";
+    "12a", "", "BadNumber(0)";
+    "1_", "", "BadNumber(0)";
+    "007", "", "BadNumber(0)";
+    "-0", "", "BadNumber(0)";
+    "x & y", "Identifier 0 1|", "BadByte(2)";
+    "\u{EF}\u{BB}\u{BF}x", "", "BadByte(0)";
+    "\x0c", "", "BadByte(0)";
+    "\"a\\n\" \"a\\\"b\" \"\\\\\" \"\\$x\" \"\x00\u{FF}\"", "Str 0 5|Str 6 12|Str 13 17|Str 18 23|Str 24 28|", "";
+    "\"a$0x0Ab$0xfF\" \"$a ${a}.${a[i]}\" \"${a[-1]}${a.b}\"", "Str 0 14|Str 15 32|Str 33 49|", "";
+    "\"$0X41\"", "", "BadDollar(1)";
+    "\"a$\"", "", "BadDollar(2)";
+    "x = \"a$ \n\"", "Identifier 0 1|Assign 2 3|", "OpenString(4)";
+    "\"\\\"", "", "OpenString(0)";
+    "\"$\" \"", "", "BadDollar(1)";
+    "#\"\n", "", "";
+};
 
-const ROWS: [Row; 24] = [
-    (b"", &[], None),
-    (
-        b"y = a -1",
-        &[
-            (TokenKind::Identifier, 0, 1),
-            (TokenKind::Assign, 2, 3),
-            (TokenKind::Identifier, 4, 5),
-            (TokenKind::Integer, 6, 8),
-        ],
-        None,
-    ),
-    (
-        b"a--1",
-        &[
-            (TokenKind::Identifier, 0, 1),
-            (TokenKind::Minus, 1, 2),
-            (TokenKind::Integer, 2, 4),
-        ],
-        None,
-    ),
-    (
-        b"if else true false iff _1#if\n\r\tif # if",
-        &[
-            (TokenKind::If, 0, 2),
-            (TokenKind::Else, 3, 7),
-            (TokenKind::True, 8, 12),
-            (TokenKind::False, 13, 18),
-            (TokenKind::Identifier, 19, 22),
-            (TokenKind::Identifier, 23, 25),
-            (TokenKind::If, 31, 33),
-        ],
-        None,
-    ),
-    (
-        b"= += -= + - == != < <= > >=",
-        &[
-            (TokenKind::Assign, 0, 1),
-            (TokenKind::AddAssign, 2, 4),
-            (TokenKind::SubAssign, 5, 7),
-            (TokenKind::Plus, 8, 9),
-            (TokenKind::Minus, 10, 11),
-            (TokenKind::Equal, 12, 14),
-            (TokenKind::NotEqual, 15, 17),
-            (TokenKind::Less, 18, 19),
-            (TokenKind::LessEqual, 20, 22),
-            (TokenKind::Greater, 23, 24),
-            (TokenKind::GreaterEqual, 25, 27),
-        ],
-        None,
-    ),
-    (
-        b"&&||!.,()[]{}",
-        &[
-            (TokenKind::And, 0, 2),
-            (TokenKind::Or, 2, 4),
-            (TokenKind::Not, 4, 5),
-            (TokenKind::Dot, 5, 6),
-            (TokenKind::Comma, 6, 7),
-            (TokenKind::OpenParen, 7, 8),
-            (TokenKind::CloseParen, 8, 9),
-            (TokenKind::OpenBracket, 9, 10),
-            (TokenKind::CloseBracket, 10, 11),
-            (TokenKind::OpenBrace, 11, 12),
-            (TokenKind::CloseBrace, 12, 13),
-        ],
-        None,
-    ),
-    (
-        b"0 9223372036854775807 -9223372036854775808",
-        &[
-            (TokenKind::Integer, 0, 1),
-            (TokenKind::Integer, 2, 21),
-            (TokenKind::Integer, 22, 42),
-        ],
-        None,
-    ),
-    (b" 9223372036854775808", &[], Some(TokenError::BadNumber(1))),
-    (b"-9223372036854775809", &[], Some(TokenError::BadNumber(0))),
-    (b"12a", &[], Some(TokenError::BadNumber(0))),
-    (b"1_", &[], Some(TokenError::BadNumber(0))),
-    (b"007", &[], Some(TokenError::BadNumber(0))),
-    (b"-0", &[], Some(TokenError::BadNumber(0))),
-    (
-        b"x & y",
-        &[(TokenKind::Identifier, 0, 1)],
-        Some(TokenError::BadByte(2)),
-    ),
-    (b"\xef\xbb\xbfx", &[], Some(TokenError::BadByte(0))),
-    (b"\x0c", &[], Some(TokenError::BadByte(0))),
-    (
-        b"\"a\\n\" \"a\\\"b\" \"\\\\\" \"\\$x\" \"\x00\xff\"",
-        &[
-            (TokenKind::Str, 0, 5),
-            (TokenKind::Str, 6, 12),
-            (TokenKind::Str, 13, 17),
-            (TokenKind::Str, 18, 23),
-            (TokenKind::Str, 24, 28),
-        ],
-        None,
-    ),
-    (
-        b"\"a$0x0Ab$0xfF\" \"$a ${a}.${a[i]}\" \"${a[-1]}${a.b}\"",
-        &[
-            (TokenKind::Str, 0, 14),
-            (TokenKind::Str, 15, 32),
-            (TokenKind::Str, 33, 49),
-        ],
-        None,
-    ),
-    (b"\"$0X41\"", &[], Some(TokenError::BadDollar(1))),
-    (b"\"a$\"", &[], Some(TokenError::BadDollar(2))),
-    (
-        b"x = \"a$ \n\"",
-        &[(TokenKind::Identifier, 0, 1), (TokenKind::Assign, 2, 3)],
-        Some(TokenError::OpenString(4)),
-    ),
-    (b"\"\\\"", &[], Some(TokenError::OpenString(0))),
-    (b"\"$\" \"", &[], Some(TokenError::BadDollar(1))),
-    (b"#\"\n", &[], None),
-];
-
-fn gives(tokens: &mut Tokens<'_>, found: &(TokenKind, usize, usize)) -> bool {
-    let token = Token {
-        kind: found.0,
-        start: found.1,
-        end: found.2,
-    };
-    tokens.next() == Ok(Some(token))
+fn is_token(alloc: Global, token: Token, wanted: &str) -> Result<bool, AllocError> {
+    let Token { kind, start, end } = token;
+    let text = format!(in alloc; "{kind:?} {start} {end}")?;
+    Ok(text.as_str() == wanted)
 }
 
-fn give(tokens: &mut Tokens<'_>, found: &[(TokenKind, usize, usize)]) -> bool {
-    for token in found {
-        if !gives(tokens, token) {
-            return false;
+fn gives(alloc: Global, tokens: &mut Tokens<'_>, wanted: &str) -> Result<bool, AllocError> {
+    match tokens.next() {
+        Ok(Some(token)) => is_token(alloc, token, wanted),
+        _ => Ok(false),
+    }
+}
+
+// Whether these come next.
+fn give(alloc: Global, tokens: &mut Tokens<'_>, wanted: &str) -> Result<bool, AllocError> {
+    for token in wanted.split_terminator('|') {
+        if !gives(alloc, tokens, token)? {
+            return Ok(false);
         }
     }
-    true
+    Ok(true)
 }
 
-fn end_with(tokens: &mut Tokens<'_>, error: Option<TokenError>) -> bool {
-    match error {
-        Some(error) => tokens.next() == Err(error),
-        None => tokens.next() == Ok(None),
+fn ends_with(alloc: Global, tokens: &mut Tokens<'_>, wanted: &str) -> Result<bool, AllocError> {
+    match tokens.next() {
+        Ok(None) => Ok(wanted.is_empty()),
+        Ok(Some(_)) => Ok(false),
+        Err(error) => is_shown(alloc, error, wanted),
     }
 }
 
 // Whether these are the tokens, and the end is told again and again.
-fn is_cut(row: &Row) -> bool {
-    let mut tokens = Tokens::new(row.0);
-    give(&mut tokens, row.1) && end_with(&mut tokens, row.2) && end_with(&mut tokens, row.2)
+fn has_tokens(alloc: Global, bytes: &[u8], row: &str) -> Result<bool, AllocError> {
+    let mut tokens = Tokens::new(bytes);
+    Ok(
+        give(alloc, &mut tokens, field(row, 1))?
+            && ends_with(alloc, &mut tokens, field(row, 2))?
+            && ends_with(alloc, &mut tokens, field(row, 2))?,
+    )
+}
+
+fn is_cut(alloc: Global, row: &str) -> Result<bool, AllocError> {
+    let bytes = bytes_of(alloc, field(row, 0))?;
+    has_tokens(alloc, &bytes, row)
 }
 
 #[test]
 fn files_are_cut_into_tokens(rt: HostRuntime) -> Result<(), Fail> {
-    for (number, row) in ROWS.iter().enumerate() {
-        assert!(rt; is_cut(row), "row {number}");
+    for row in FILES.split_terminator('\x1e') {
+        assert!(rt; is_cut(rt.alloc(), row)?, "at {row}");
     }
     Ok(())
 }
 
-// Strings with one `$` at the front that is no expansion.
-const BAD_DOLLARS: [&[u8]; 14] = [
-    b"\"$if\"",
-    b"\"${true}\"",
-    b"\"${a.if}\"",
-    b"\"${a[if]}\"",
-    b"\"${ a }\"",
-    b"\"${a[0 ]}\"",
-    b"\"${a.b.c}\"",
-    b"\"${}\"",
-    b"\"${a[01]}\"",
-    b"\"${a[-0]}\"",
-    b"\"${a[9223372036854775808]}\"",
-    b"\"$0x4\"",
-    b"\"$1\"",
-    b"\"${a\"",
-];
+// Strings with one `$` at the front that is no expansion, one a line.
+const BAD_DOLLARS: &str = concat!(
+    "\"$if\"\n",
+    "\"${true}\"\n",
+    "\"${a.if}\"\n",
+    "\"${a[if]}\"\n",
+    "\"${ a }\"\n",
+    "\"${a[0 ]}\"\n",
+    "\"${a.b.c}\"\n",
+    "\"${}\"\n",
+    "\"${a[01]}\"\n",
+    "\"${a[-0]}\"\n",
+    "\"${a[9223372036854775808]}\"\n",
+    "\"$0x4\"\n",
+    "\"$1\"\n",
+    "\"${a\"\n",
+);
 
 fn is_bad_dollar(text: &[u8]) -> bool {
     let mut tokens = Tokens::new(text);
@@ -196,8 +112,8 @@ fn is_bad_dollar(text: &[u8]) -> bool {
 
 #[test]
 fn what_is_no_expansion_is_refused(rt: HostRuntime) -> Result<(), Fail> {
-    for (number, text) in BAD_DOLLARS.iter().enumerate() {
-        assert!(rt; is_bad_dollar(text), "row {number}");
+    for text in BAD_DOLLARS.split_terminator('\n') {
+        assert!(rt; is_bad_dollar(text.as_bytes()), "at {text}");
     }
     Ok(())
 }

@@ -162,6 +162,7 @@ const SCOPE_FAULTS: &str = faults! {
     "template(\"w\") {\n  y = 1\n}\nw(\"x\") {\n}" => "2:5", "Assignment had no effect: \"y\".";
     "template(\"w\") {\n  not_needed(invoker, [ \"a\" ])\n}\nw(\"x\") {\n  a = 1\n  b = 1\n}"
         => "6:5", "Assignment had no effect: \"b\".";
+    "template(\"w\") {\n  print(defined(invoker))\n}\nw(\"x\") {\n  a = 1\n}" => "5:5", "Assignment had no effect: \"a\".";
     "template(\"w\") {\n  group(target_name) {\n    x = []\n    forward_variables_from(invoker, [ \"x\" ])\n  }\n}\nw(\"x\") {\n  x = []\n}"
         => "4:5", "\"x\" is already set.";
     "target(\"nope\", \"a\") {\n}" => "1:1", "Wrong arguments to \"target\".";

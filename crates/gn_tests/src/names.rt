@@ -1,30 +1,51 @@
 // Names of functions and of kinds of targets.
 
 use gn_items::ItemKind;
-use gn_meaning::{Function, TargetKind};
+use gn_meaning::{Changing, Function, Named, Opening, Plain, TargetKind};
 use std::test::Fail;
 
-static FUNCTIONS: [(&[u8], Function); 20] = [
-    (b"assert", Function::Assert),
-    (b"defined", Function::Defined),
-    (b"foreach", Function::Foreach),
-    (b"forward_variables_from", Function::ForwardVariablesFrom),
-    (b"import", Function::Import),
-    (b"not_needed", Function::NotNeeded),
-    (b"print", Function::Print),
-    (b"set_defaults", Function::SetDefaults),
-    (b"target", Function::Target),
-    (b"template", Function::Template),
-    (b"group", Function::Item(ItemKind::Group)),
-    (b"action", Function::Excluded),
-    (b"executable", Function::Excluded),
-    (b"getenv", Function::Excluded),
-    (b"write_file", Function::Excluded),
-    (b"groups", Function::Unknown),
-    (b"Print", Function::Unknown),
-    (b"templat", Function::Unknown),
-    (b"invoker", Function::Unknown),
-    (b"", Function::Unknown),
+static FUNCTIONS: [(&[u8], Named); 20] = [
+    (b"assert", Named::Function(Function::Plain(Plain::Assert))),
+    (b"defined", Named::Function(Function::Defined)),
+    (b"foreach", Named::Function(Function::Foreach)),
+    (
+        b"forward_variables_from",
+        Named::Function(Function::Changing(Changing::ForwardVariablesFrom)),
+    ),
+    (
+        b"import",
+        Named::Function(Function::Changing(Changing::Import)),
+    ),
+    (
+        b"not_needed",
+        Named::Function(Function::Changing(Changing::NotNeeded)),
+    ),
+    (b"print", Named::Function(Function::Plain(Plain::Print))),
+    (
+        b"set_defaults",
+        Named::Function(Function::Opening(Opening::SetDefaults)),
+    ),
+    (
+        b"target",
+        Named::Function(Function::Opening(Opening::Target)),
+    ),
+    (
+        b"template",
+        Named::Function(Function::Changing(Changing::Template)),
+    ),
+    (
+        b"group",
+        Named::Function(Function::Opening(Opening::Item(ItemKind::Group))),
+    ),
+    (b"action", Named::Excluded),
+    (b"executable", Named::Excluded),
+    (b"getenv", Named::Excluded),
+    (b"write_file", Named::Excluded),
+    (b"groups", Named::Unknown),
+    (b"Print", Named::Unknown),
+    (b"templat", Named::Unknown),
+    (b"invoker", Named::Unknown),
+    (b"", Named::Unknown),
 ];
 
 static KINDS: [(&[u8], TargetKind); 8] = [
@@ -38,8 +59,8 @@ static KINDS: [(&[u8], TargetKind); 8] = [
     (b"", TargetKind::NoKind),
 ];
 
-fn calls(row: &(&[u8], Function)) -> bool {
-    Function::named(row.0) == row.1
+fn calls(row: &(&[u8], Named)) -> bool {
+    Named::of(row.0) == row.1
 }
 
 fn is_kind(row: &(&[u8], TargetKind)) -> bool {

@@ -102,13 +102,20 @@ fn brackets_nest_up_to_the_limit(rt: HostRuntime) -> Result<(), Fail> {
     Ok(())
 }
 
-// What nests too deep only as a value: a list that is written out, an item that is added to, and one that is replaced. A scope of the greatest
-// depth is none of these.
+// A template that assigns an entry of its invoker, and a call of it with the variable `x`.
+const INVOKER: &str = "\ntemplate(\"t\") {\n  invoker.y = 1\n}\nt(\"n\") {\n  z = x\n}\n";
+
+// What nests too deep only as a value: a list that is written out, once all its items have their values, an item that is added to, one that is
+// replaced, and the invoker where an entry is assigned to it. A scope of the greatest depth is none of these.
 #[test]
 fn values_nest_up_to_the_limit(rt: HostRuntime) -> Result<(), Fail> {
     let printed = "1ERROR at //BUILD.gn:2:7: Value is too long.\n";
+    let missing = "1ERROR at //BUILD.gn:2:12: Undefined identifier \"q\".\n";
+    let invoker = "1ERROR at //BUILD.gn:3:13: Value is too long.\n";
     let added = "1ERROR at //BUILD.gn:3:6: Value is too long.\n";
     assert!(rt; lists_say(&rt, rt.alloc(), "x = ", "\nprint([ x ])\n", printed)?);
+    assert!(rt; lists_say(&rt, rt.alloc(), "x = ", "\nprint([ x, q ])\n", missing)?);
+    assert!(rt; lists_say(&rt, rt.alloc(), "x = ", INVOKER, invoker)?);
     assert!(rt; lists_say(&rt, rt.alloc(), "x = ", "\ny = [ [] ]\ny[0] += x\n", added)?);
     assert!(rt; lists_say(&rt, rt.alloc(), "x = ", "\ny = [ [] ]\ny[0] = x\n", added)?);
     assert!(rt; scopes_say(&rt, rt.alloc(), "print(defined(x199.a))\n", "0true\n")?);

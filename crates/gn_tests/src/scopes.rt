@@ -1,8 +1,9 @@
 // Scopes and environments by themselves: the calls that the program doesn't make, or never to their good end.
 
+use gn_env::Env;
 use gn_faults::{FileKind, Stage};
 use gn_paths::{Path, Text};
-use gn_scopes::{Env, ScopeError, Scopes};
+use gn_scopes::{ScopeError, Scopes};
 use gn_text::Names;
 use gn_tree::{AssignOp, Position};
 use gn_values::Value;

@@ -1,10 +1,10 @@
 // Executions over a library that has one file.
 
+use gn_env::Env;
 use gn_eval::{DefineError, Definer, Found, Imported, LibStop, Library};
 use gn_faults::{Code, Fault};
-use gn_items::{Claim, Item, ItemKind, Key, When};
+use gn_items::{Claim, Item, ItemKind, Key, Outcome, Question, When};
 use gn_paths::{Path, Place, Text, resolve};
-use gn_scopes::Env;
 use gn_tree::Position;
 use gn_unit::{EvalStop, Unit, evaluate};
 use std::alloc::Global;
@@ -117,15 +117,26 @@ fn is_fault(fault: &Fault, code: Code, file: &[u8], line: u32) -> bool {
     }
 }
 
+// Whether just the content of this file was asked for.
+fn is_own(asked: &[Question], file: &[u8]) -> bool {
+    match asked {
+        [Question::Content(path)] => path.as_text().as_bytes() == file,
+        _ => false,
+    }
+}
+
+// Whether so many lines are left, and one question was asked.
+fn has_lines(outcome: &Outcome, lines: usize) -> bool {
+    outcome.prints().len() == lines && outcome.asked().len() == 1
+}
+
 // Whether an execution has ended so.
 fn is_so(done: &Done, expected: Expected<'_>) -> bool {
     match (done, expected) {
-        (Ok((_, Unit::Load(outcome))), Expected::Built(lines)) => outcome.prints().len() == lines,
-        (Ok((_, Unit::Import(_, outcome))), Expected::Imported(lines)) => {
-            outcome.prints().len() == lines
-        }
-        (Ok((_, Unit::Wrong(fault))), Expected::Wrong(code, file, line)) => {
-            is_fault(fault, code, file, line)
+        (Ok((_, Unit::Load(outcome))), Expected::Built(lines)) => has_lines(outcome, lines),
+        (Ok((_, Unit::Import(_, outcome))), Expected::Imported(lines)) => has_lines(outcome, lines),
+        (Ok((_, Unit::Wrong(fault, asked))), Expected::Wrong(code, file, line)) => {
+            is_fault(fault, code, file, line) && is_own(asked.as_slice(), file)
         }
         (Err((_, EvalStop::Stopped)), Expected::Stopped) => true,
         _ => false,

@@ -1,68 +1,64 @@
 // The limit of 200 on the nesting.
 
 use super::{error_of, push_times};
+use crate::rows::{field, number, table};
 use gn_syntax::SyntaxError;
 use std::alloc::{AllocError, Global};
 use std::test::Fail;
 
 // What stands in front, what nests, what stands inside, what closes each one, and what stands behind. Then how often it
 // may nest, and the offset of the token that is too deep where it nests once more.
-type Nest = ([&'static str; 5], u8, usize);
-
-const NESTS: [Nest; 17] = [
+const NESTS: &str = table! {
     // A bracket counts for all that stands inside.
-    (["x=", "(", "a", ")", ""], 200, 202),
-    (["x=", "[", "", "]", ""], 200, 202),
-    (["", "x={", "", "}", ""], 200, 602),
-    (["", "f(", "", ")", ""], 200, 401),
-    (["", "f(){", "", "}", ""], 200, 801),
-    (["x=", "a[", "0", "]", ""], 200, 403),
-    (["", "a[", "0", "]", "=1"], 200, 401),
-    (["", "if(a){", "", "}", ""], 200, 1202),
-    (["", "if(a){}else{", "", "}", ""], 200, 2402),
+    "x=", "(", "a", ")", "", 200, 202;
+    "x=", "[", "", "]", "", 200, 202;
+    "", "x={", "", "}", "", 200, 602;
+    "", "f(", "", ")", "", 200, 401;
+    "", "f(){", "", "}", "", 200, 801;
+    "x=", "a[", "0", "]", "", 200, 403;
+    "", "a[", "0", "]", "=1", 200, 401;
+    "", "if(a){", "", "}", "", 200, 1202;
+    "", "if(a){}else{", "", "}", "", 200, 2402;
     // A `!` counts until its operand is complete.
-    (["x=", "!", "a", "", ""], 200, 202),
-    (["x=", "!(", "a", ")", ""], 100, 202),
-    (["x=!a", "+!a", "", "", ""], 199, 602),
+    "x=", "!", "a", "", "", 200, 202;
+    "x=", "!(", "a", ")", "", 100, 202;
+    "x=!a", "+!a", "", "", "", 199, 602;
     // An operator counts for what comes behind it in its expression.
-    (["x=a", "+a", "", "", ""], 200, 403),
-    (["x=a", "+a<a==a&&a||a", "", "", ""], 40, 523),
-    (["x=a", "+(a", "", ")", ""], 100, 303),
-    (["x=", "(", "a", ")+a", ""], 200, 202),
+    "x=a", "+a", "", "", "", 200, 403;
+    "x=a", "+a<a==a&&a||a", "", "", "", 40, 523;
+    "x=a", "+(a", "", ")", "", 100, 303;
+    "x=", "(", "a", ")+a", "", 200, 202;
     // The `else if` of a chain counts for its own brackets: those behind the 200th are at 201.
-    (["if(a){}", "else if(a){}", "", "", ""], 199, 2402),
-];
+    "if(a){}", "else if(a){}", "", "", "", 199, 2402;
+};
 
-// The parts of a row, the middle ones so many times.
-fn nested(alloc: Global, parts: &[&'static str; 5], count: usize) -> Result<Vec<u8>, AllocError> {
-    let mut bytes = parts[0].as_bytes().to_vec(alloc)?;
-    push_times(&mut bytes, parts[1], count)?;
-    push_times(&mut bytes, parts[2], 1)?;
-    push_times(&mut bytes, parts[3], count)?;
-    push_times(&mut bytes, parts[4], 1)?;
-    Ok(bytes)
+/// Puts the parts of a row at the end, the middle ones so many times.
+pub(super) fn push_parts(bytes: &mut Vec<u8>, row: &str, count: usize) -> Result<(), AllocError> {
+    push_times(bytes, field(row, 0), 1)?;
+    push_times(bytes, field(row, 1), count)?;
+    push_times(bytes, field(row, 2), 1)?;
+    push_times(bytes, field(row, 3), count)?;
+    push_times(bytes, field(row, 4), 1)
 }
 
-fn error_at(
-    alloc: Global,
-    parts: &[&'static str; 5],
-    count: usize,
-) -> Result<Option<SyntaxError>, AllocError> {
-    let bytes = nested(alloc, parts, count)?;
+// The first error of a file that nests so many times.
+fn error_at(alloc: Global, row: &str, count: usize) -> Result<Option<SyntaxError>, AllocError> {
+    let mut bytes = Vec::new(alloc);
+    push_parts(&mut bytes, row, count)?;
     Ok(error_of(alloc, &bytes))
 }
 
-fn is_limited(alloc: Global, row: &Nest) -> Result<bool, AllocError> {
-    let count = usize::from(row.1);
-    let deepest = error_at(alloc, &row.0, count)?;
-    let deeper = error_at(alloc, &row.0, count + 1)?;
-    Ok(deepest == None && deeper == Some(SyntaxError::TooDeep(row.2)))
+fn is_limited(alloc: Global, row: &str) -> Result<bool, AllocError> {
+    let count = number(row, 5);
+    let deepest = error_at(alloc, row, count)?;
+    let deeper = error_at(alloc, row, count.saturating_add(1))?;
+    Ok(deepest == None && deeper == Some(SyntaxError::TooDeep(number(row, 6))))
 }
 
 #[test]
 fn nests_200_deep_and_no_deeper(rt: HostRuntime) -> Result<(), Fail> {
-    for (number, row) in NESTS.iter().enumerate() {
-        assert!(rt; is_limited(rt.alloc(), row)?, "row {number}");
+    for row in NESTS.split_terminator('\x1e') {
+        assert!(rt; is_limited(rt.alloc(), row)?, "at {row}");
     }
     Ok(())
 }

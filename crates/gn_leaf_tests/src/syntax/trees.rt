@@ -1,29 +1,29 @@
 // Which trees: how operators group, and the pieces of strings.
 
-use gn_syntax::{SyntaxError, parse};
-use gn_tree::{BinaryOp, Block, Expr, Piece, Position, Statement, Subscript};
-use std::alloc::Global;
+use crate::rows::{bytes_of, field, is_shown, table};
+use gn_paths::Text;
+use gn_syntax::parse;
+use gn_tree::{Block, Expr, Piece, Position, Statement, Subscript};
+use std::alloc::{AllocError, Global};
 use std::test::Fail;
 
 // A file, the operator at the top of the value, and whether its left and its right operand are operators with operands.
-type Grouped = (&'static str, BinaryOp, bool, bool);
-
-const GROUPED: [Grouped; 14] = [
-    ("x = a || b && c", BinaryOp::Or, false, true),
-    ("x = a && b || c", BinaryOp::Or, true, false),
-    ("x = a && b == c", BinaryOp::And, false, true),
-    ("x = a != b && c", BinaryOp::And, true, false),
-    ("x = a == b < c", BinaryOp::Equal, false, true),
-    ("x = a > b != c", BinaryOp::NotEqual, true, false),
-    ("x = a >= b + c", BinaryOp::GreaterEqual, false, true),
-    ("x = a - b <= c", BinaryOp::LessEqual, true, false),
-    ("x = a - b + c", BinaryOp::Add, true, false),
-    ("x = a < b > c", BinaryOp::Greater, true, false),
-    ("x = a == b == c", BinaryOp::Equal, true, false),
-    ("x = a || b || c", BinaryOp::Or, true, false),
-    ("x = a - (b - c)", BinaryOp::Subtract, false, false),
-    ("x = !a && b", BinaryOp::And, false, false),
-];
+const GROUPED: &str = table! {
+    "x = a || b && c", "(Or, false, true)";
+    "x = a && b || c", "(Or, true, false)";
+    "x = a && b == c", "(And, false, true)";
+    "x = a != b && c", "(And, true, false)";
+    "x = a == b < c", "(Equal, false, true)";
+    "x = a > b != c", "(NotEqual, true, false)";
+    "x = a >= b + c", "(GreaterEqual, false, true)";
+    "x = a - b <= c", "(LessEqual, true, false)";
+    "x = a - b + c", "(Add, true, false)";
+    "x = a < b > c", "(Greater, true, false)";
+    "x = a == b == c", "(Equal, true, false)";
+    "x = a || b || c", "(Or, true, false)";
+    "x = a - (b - c)", "(Subtract, false, false)";
+    "x = !a && b", "(And, false, false)";
+};
 
 fn value_of(block: &Block) -> Option<&Expr> {
     match block.statements() {
@@ -36,142 +36,148 @@ fn is_binary(expr: &Expr) -> bool {
     matches!(expr, Expr::Binary { .. })
 }
 
-fn grouping(block: &Block) -> Option<(BinaryOp, bool, bool)> {
-    match value_of(block)? {
-        Expr::Binary {
-            operator,
-            left,
-            right,
-            ..
-        } => Some((*operator, is_binary(left.get()), is_binary(right.get()))),
-        _ => None,
+fn has_grouping(alloc: Global, block: &Block, wanted: &str) -> Result<bool, AllocError> {
+    match value_of(block) {
+        Some(
+            Expr::Binary {
+                operator,
+                left,
+                right,
+                ..
+            },
+        ) => is_shown(
+            alloc,
+            (*operator, is_binary(left.get()), is_binary(right.get())),
+            wanted,
+        ),
+        _ => Ok(false),
     }
 }
 
-fn is_grouped(alloc: Global, row: &Grouped) -> Result<bool, SyntaxError> {
-    let parsed = parse(alloc, row.0.as_bytes())?;
-    Ok(grouping(parsed.block()) == Some((row.1, row.2, row.3)))
+fn is_grouped(alloc: Global, row: &str) -> Result<bool, AllocError> {
+    match parse(alloc, field(row, 0).as_bytes()) {
+        Ok(parsed) => has_grouping(alloc, parsed.block(), field(row, 1)),
+        Err(_) => Ok(false),
+    }
 }
 
 #[test]
 fn operators_group_by_priority_and_to_the_left(rt: HostRuntime) -> Result<(), Fail> {
-    for row in &GROUPED {
-        assert!(rt; is_grouped(rt.alloc(), row)?, "at {}", row.0);
+    for row in GROUPED.split_terminator('\x1e') {
+        assert!(rt; is_grouped(rt.alloc(), row)?, "at {row}");
     }
     Ok(())
 }
 
-// A piece, with the line and column of its `$`.
-enum Want {
-    Bytes(&'static [u8]),
-    Name(u32, u32, &'static [u8]),
-    Item(u32, u32, &'static [u8], &'static [u8]),
-    Element(u32, u32, &'static [u8], i64),
-    Entry(u32, u32, &'static [u8], &'static [u8]),
-}
-
-const STRINGS: [(&[u8], &[Want]); 9] = [
-    (b"x = \"\"", &[]),
-    (b"x = \"a#b\"", &[Want::Bytes(b"a#b")]),
+// A file, and the pieces of its string with a bar behind each: bytes as they are, and an expansion with the line and the
+// column of its `$`. Each character stands for the byte of its number.
+const STRINGS: &str = table! {
+    "x = \"\"", "";
+    "x = \"a#b\"", "a#b|";
     // An escape is its second byte, any other backslash is itself.
-    (b"x = \"\\\"\\\\\\$a\\n\"", &[Want::Bytes(b"\"\\$a\\n")]),
-    (
-        b"x = \"\\\\$a\"",
-        &[Want::Bytes(b"\\"), Want::Name(1, 8, b"a")],
-    ),
-    (b"x = \"a$0x0Ab$0xfF\"", &[Want::Bytes(b"a\nb\xff")]),
-    (
-        b"x = \"$iff-$a_1\"",
-        &[
-            Want::Name(1, 6, b"iff"),
-            Want::Bytes(b"-"),
-            Want::Name(1, 11, b"a_1"),
-        ],
-    ),
-    (
-        b"x = \"$a ${b}.${c.d}\"",
-        &[
-            Want::Name(1, 6, b"a"),
-            Want::Bytes(b" "),
-            Want::Name(1, 9, b"b"),
-            Want::Bytes(b"."),
-            Want::Entry(1, 14, b"c", b"d"),
-        ],
-    ),
-    (
-        b"x = \"${a[i]}${b[-1]}${c[0]}\"",
-        &[
-            Want::Item(1, 6, b"a", b"i"),
-            Want::Element(1, 13, b"b", -1),
-            Want::Element(1, 21, b"c", 0),
-        ],
-    ),
-    (b"\n  x = \"$a\"", &[Want::Name(2, 8, b"a")]),
-];
+    "x = \"\\\"\\\\\\$a\\n\"", "\"\\$a\\n|";
+    "x = \"\\\\$a\"", "\\|<1 8 a>|";
+    "x = \"a$0x0Ab$0xfF\"", "a\nb\u{FF}|";
+    "x = \"$iff-$a_1\"", "<1 6 iff>|-|<1 11 a_1>|";
+    "x = \"$a ${b}.${c.d}\"", "<1 6 a>| |<1 9 b>|.|<1 14 c.d>|";
+    "x = \"${a[i]}${b[-1]}${c[0]}\"", "<1 6 a[i]>|<1 13 b[-1]>|<1 21 c[0]>|";
+    "\n  x = \"$a\"", "<2 8 a>|";
+};
 
-fn stands_at(position: Position, line: u32, column: u32) -> bool {
-    position == Position { line, column }
+// Puts the beginning of an expansion at the end.
+fn push_name(
+    alloc: Global,
+    shown: &mut Vec<u8>,
+    position: Position,
+    name: &Text,
+) -> Result<(), AllocError> {
+    let Position { line, column } = position;
+    let place = format!(in alloc; "<{line} {column} ")?;
+    shown.extend_from_slice(place.as_bytes())?;
+    shown.extend_from_slice(name.as_bytes())
 }
 
-fn is_as_wanted(piece: &Piece, want: &Want) -> bool {
-    match (piece, want) {
-        (Piece::Bytes(bytes), Want::Bytes(wanted)) => bytes.as_bytes() == *wanted,
-        (Piece::Name { position, name }, Want::Name(line, column, wanted)) => stands_at(
-            *position, *line, *column,
-        ) && name.as_bytes() == *wanted,
-        (
-            Piece::Item {
-                position,
-                base,
-                subscript: Subscript::Name(index),
-            },
-            Want::Item(line, column, wanted, name),
-        ) => stands_at(*position, *line, *column)
-            && base.as_bytes() == *wanted
-            && index.as_bytes() == *name,
-        (
-            Piece::Item {
-                position,
-                base,
-                subscript: Subscript::Integer(index),
-            },
-            Want::Element(line, column, wanted, value),
-        ) => stands_at(*position, *line, *column) && base.as_bytes() == *wanted && *index == *value,
-        (
-            Piece::Entry {
-                position,
-                base,
-                entry,
-            },
-            Want::Entry(line, column, wanted, name),
-        ) => stands_at(*position, *line, *column)
-            && base.as_bytes() == *wanted
-            && entry.as_bytes() == *name,
-        _ => false,
+fn push_integer(alloc: Global, shown: &mut Vec<u8>, value: i64) -> Result<(), AllocError> {
+    let text = format!(in alloc; "{value}")?;
+    shown.extend_from_slice(text.as_bytes())
+}
+
+fn push_subscript(
+    alloc: Global,
+    shown: &mut Vec<u8>,
+    subscript: &Subscript,
+) -> Result<(), AllocError> {
+    match subscript {
+        Subscript::Name(name) => shown.extend_from_slice(name.as_bytes()),
+        Subscript::Integer(value) => push_integer(alloc, shown, *value),
     }
 }
 
-fn are_as_wanted(block: &Block, wants: &[Want]) -> bool {
-    let Some(Expr::String { pieces, .. }) = value_of(block) else {
-        return false;
-    };
-    let pieces = pieces.as_slice();
-    pieces.len() == wants.len()
-        && pieces
-            .iter()
-            .zip(wants)
-            .all(|(piece, want)| is_as_wanted(piece, want))
+// Puts what stands behind the name of an expansion at the end.
+fn push_rest(alloc: Global, shown: &mut Vec<u8>, piece: &Piece) -> Result<(), AllocError> {
+    match piece {
+        Piece::Item { subscript, .. } => {
+            shown.extend_from_slice(b"[")?;
+            push_subscript(alloc, shown, subscript)?;
+            shown.extend_from_slice(b"]>|")
+        }
+        Piece::Entry { entry, .. } => {
+            shown.extend_from_slice(b".")?;
+            shown.extend_from_slice(entry.as_bytes())?;
+            shown.extend_from_slice(b">|")
+        }
+        Piece::Name { .. } => shown.extend_from_slice(b">|"),
+        Piece::Bytes(_) => shown.extend_from_slice(b"|"),
+    }
 }
 
-fn is_cut(alloc: Global, row: &(&[u8], &[Want])) -> Result<bool, SyntaxError> {
-    let parsed = parse(alloc, row.0)?;
-    Ok(are_as_wanted(parsed.block(), row.1))
+fn push_front(alloc: Global, shown: &mut Vec<u8>, piece: &Piece) -> Result<(), AllocError> {
+    match piece {
+        Piece::Bytes(bytes) => shown.extend_from_slice(bytes.as_bytes()),
+        Piece::Name { position, name } => push_name(alloc, shown, *position, name),
+        Piece::Item { position, base, .. } => push_name(alloc, shown, *position, base),
+        Piece::Entry { position, base, .. } => push_name(alloc, shown, *position, base),
+    }
+}
+
+fn push_piece(alloc: Global, shown: &mut Vec<u8>, piece: &Piece) -> Result<(), AllocError> {
+    push_front(alloc, shown, piece)?;
+    push_rest(alloc, shown, piece)
+}
+
+fn push_pieces(alloc: Global, shown: &mut Vec<u8>, block: &Block) -> Result<(), AllocError> {
+    let Some(Expr::String { pieces, .. }) = value_of(block) else {
+        return shown.extend_from_slice(b"no string");
+    };
+    for piece in pieces.as_slice() {
+        push_piece(alloc, shown, piece)?;
+    }
+    Ok(())
+}
+
+fn push_pieces_of(alloc: Global, shown: &mut Vec<u8>, file: &[u8]) -> Result<(), AllocError> {
+    match parse(alloc, file) {
+        Ok(parsed) => push_pieces(alloc, shown, parsed.block()),
+        Err(_) => shown.extend_from_slice(b"no file"),
+    }
+}
+
+fn has_pieces(alloc: Global, file: &[u8], wanted: &[u8]) -> Result<bool, AllocError> {
+    let mut shown = Vec::new(alloc);
+    push_pieces_of(alloc, &mut shown, file)?;
+    Ok(shown.as_slice() == wanted)
+}
+
+fn is_cut(alloc: Global, row: &str) -> Result<bool, AllocError> {
+    let file = bytes_of(alloc, field(row, 0))?;
+    let wanted = bytes_of(alloc, field(row, 1))?;
+    has_pieces(alloc, &file, &wanted)
 }
 
 #[test]
 fn strings_are_cut_into_pieces(rt: HostRuntime) -> Result<(), Fail> {
-    for (number, row) in STRINGS.iter().enumerate() {
-        assert!(rt; is_cut(rt.alloc(), row)?, "row {number}");
+    for row in STRINGS.split_terminator('\x1e') {
+        assert!(rt; is_cut(rt.alloc(), row)?, "at {row}");
     }
     Ok(())
 }
