@@ -14,15 +14,15 @@ import ast, os, re, shutil, subprocess, sys, tempfile
 
 with open(sys.argv[1], encoding="utf-8") as handle:
     tests = handle.read()
-row = re.compile(r'\((b"(?:[^"\\]|\\.)*"), (b"(?:[^"\\]|\\.)*")\)')
+row = re.compile(r'^    ("(?:[^"\\]|\\.)*"), ("(?:[^"\\]|\\.)*");$', re.M)
 
 
 def rows(name):
     """The rows of the table with this name: what goes in, and what is expected."""
     start = tests.index("const " + name + ":")
-    table = tests[start : tests.index("];\n", start)]
-    found = [tuple(ast.literal_eval(it) for it in pair) for pair in row.findall(table)]
-    if str(len(found)) != re.match(r".*?; (\d+)\] = \[", table).group(1):
+    table = tests[start : tests.index("\n};\n", start)]
+    found = [tuple(ast.literal_eval(it).encode() for it in pair) for pair in row.findall(table)]
+    if not found or len(found) != table.count("\n"):
         sys.exit("escapes: not every row of %s is read" % name)
     return found
 
