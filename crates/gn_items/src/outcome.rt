@@ -131,12 +131,4 @@ impl Outcome {
     {
         self.prints.as_slice()
     }
-
-    /// The items and the lines printed, each in order. It takes no memory.
-    pub fn into_parts(self) -> (Vec<Item>, Vec<Text>)
-        ensures items { result.0.items ≡ self.items }
-        ensures prints { result.1.items ≡ self.prints }
-    {
-        (self.items, self.prints)
-    }
 }

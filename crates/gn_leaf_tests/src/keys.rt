@@ -63,20 +63,20 @@ fn look_up(map: &BTreeMap<Path, u32>, path: &Path) -> Option<u32>
 
 const UNSORTED: [&[u8]; 5] = [b"b", b"a/b", b"", b"a", b"\xFF"];
 
-fn push(alloc: Global, texts: &mut Texts, bytes: &[u8]) -> Result<(), AllocError> {
-    texts.push(Text::from_bytes(alloc, bytes)?)
+fn push(alloc: Global, list: &mut Vec<Text>, bytes: &[u8]) -> Result<(), AllocError> {
+    list.push(Text::from_bytes(alloc, bytes)?)?;
+    Ok(())
 }
 
-fn unsorted(alloc: Global) -> Result<Texts, AllocError> {
-    let mut texts = Texts::new(alloc);
+fn unsorted(alloc: Global) -> Result<Vec<Text>, AllocError> {
+    let mut list = Vec::new(alloc);
     for bytes in UNSORTED {
-        push(alloc, &mut texts, bytes)?;
+        push(alloc, &mut list, bytes)?;
     }
-    Ok(texts)
+    Ok(list)
 }
 
-fn sorted(texts: Texts) -> Result<Vec<Text>, AllocError> {
-    let mut list = texts.into_vec();
+fn sorted(mut list: Vec<Text>) -> Result<Vec<Text>, AllocError> {
     sort(&mut list)?;
     Ok(list)
 }
@@ -98,8 +98,8 @@ fn are_sorted(alloc: Global) -> Result<bool, AllocError> {
 }
 
 fn are_copied(alloc: Global) -> Result<bool, AllocError> {
-    let copy = unsorted(alloc)?.copy(alloc)?;
-    Ok(copy.len() == 5)
+    let copy = Texts::from_vec(unsorted(alloc)?).copy(alloc)?;
+    Ok(copy.as_slice().len() == 5)
 }
 
 #[test]

@@ -106,8 +106,7 @@ fn are_prints(alloc: Global, prints: &[Text]) -> Result<bool, AllocError> {
 fn are_left_in_order(alloc: Global) -> Result<bool, AllocError> {
     let outcome = outcome(alloc)?;
     let count = outcome.items().len();
-    let (items, prints) = outcome.into_parts();
-    Ok(count == 3 && are_items(&items) && are_prints(alloc, &prints)?)
+    Ok(count == 3 && are_items(outcome.items()) && are_prints(alloc, outcome.prints())?)
 }
 
 #[test]

@@ -46,7 +46,7 @@ fn push(alloc: Global, list: &mut Texts, text: &str) -> Result<(), AllocError> {
 
 // The texts as those of a position, where it has as many names.
 fn given(position: Position, texts: Texts) -> Option<Given> {
-    if texts.len() == position.names().len() {
+    if texts.as_slice().len() == position.names().len() {
         Some(Given::new(position, texts))
     } else {
         None

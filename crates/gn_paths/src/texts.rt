@@ -40,32 +40,11 @@ impl Texts {
         Texts { list }
     }
 
-    /// The texts of the list, which takes no memory.
-    pub fn into_vec(self) -> Vec<Text>
-        ensures { result.items ≡ self }
-    {
-        self.list
-    }
-
     /// The texts of the list, in order.
     pub fn as_slice(&self) -> &[Text]
         ensures { result.now ≡ self.now }
     {
         self.list.as_slice()
-    }
-
-    /// The number of texts.
-    pub fn len(&self) -> usize
-        ensures { result ≡ length self.now }
-    {
-        self.list.len()
-    }
-
-    /// Whether the list has no texts.
-    pub fn is_empty(&self) -> bool
-        ensures { IsTrue result ↔ (self.now ≡ []) }
-    {
-        self.list.is_empty()
     }
 
     /// Puts a text at the end. After want of memory the list is as before.

@@ -53,6 +53,37 @@ fn push_scope(alloc: Global, file: &mut String, number: u32) -> Result<(), Alloc
     file.push_str(line.as_str())
 }
 
+// So many templates, each of which but the first calls the one before it in its body.
+fn called_templates(alloc: Global, count: u32) -> Result<String, AllocError> {
+    let first = "template(\"t0\") {\n  print(target_name)\n}\n";
+    let mut file = String::from_str(alloc, first)?;
+    for number in 1..count {
+        push_template(alloc, &mut file, number)?;
+    }
+    Ok(file)
+}
+
+fn push_template(alloc: Global, file: &mut String, number: u32) -> Result<(), AllocError>
+    requires { 1 ≤ number }
+{
+    let before = number - 1;
+    let text = format!(in alloc; "template(\"t{number}\") {{\n  t{before}(\"x\") {{\n  }}\n}}\n")?;
+    file.push_str(text.as_str())
+}
+
+// Whether a file with so many templates that call one another ends so.
+fn templates_say<R: Threads + Sync>(
+    rt: &R,
+    alloc: Global,
+    count: u32,
+    behind: &str,
+    end: &str,
+) -> Result<bool, AllocError> {
+    let mut file = called_templates(alloc, count)?;
+    file.push_str(behind)?;
+    file_says(rt, alloc, file.as_bytes(), end)
+}
+
 // Whether a file with 200 scopes in one another ends so.
 fn scopes_say<R: Threads + Sync>(
     rt: &R,
@@ -99,6 +130,16 @@ fn brackets_nest_up_to_the_limit(rt: HostRuntime) -> Result<(), Fail> {
     let deep = "1ERROR at //BUILD.gn:1:205: Nesting is too deep.\n";
     assert!(rt; lists_are_printed(&rt, rt.alloc())?);
     assert!(rt; lists_say(&rt, rt.alloc(), "x = [", "]\nprint(x)\n", deep)?);
+    Ok(())
+}
+
+// The bodies of 200 templates, each called in the next one's, are as deep as an evaluation may be.
+#[test]
+fn calls_nest_up_to_the_limit(rt: HostRuntime) -> Result<(), Fail> {
+    let (greatest, above) = ("t199(\"n\") {\n}\n", "t200(\"n\") {\n}\n");
+    let deep = "1ERROR at //BUILD.gn:5:3: Evaluation is nested too deeply.\n";
+    assert!(rt; templates_say(&rt, rt.alloc(), 200, greatest, "0x\n")?);
+    assert!(rt; templates_say(&rt, rt.alloc(), 201, above, deep)?);
     Ok(())
 }
 

@@ -58,20 +58,6 @@ impl Bindings {
         self.entries
     }
 
-    /// The number of names.
-    pub fn len(&self) -> usize
-        ensures { result ≡ length self.now }
-    {
-        self.entries.len()
-    }
-
-    /// Whether there are no names.
-    pub fn is_empty(&self) -> bool
-        ensures { IsTrue result ↔ (self.now ≡ []) }
-    {
-        self.entries.is_empty()
-    }
-
     /// The names and their values, in the order of the names.
     pub fn as_slice(&self) -> &[Entry]
         ensures value { map entry_of result.now ≡ self.now }

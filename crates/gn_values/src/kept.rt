@@ -213,13 +213,6 @@ impl Definitions {
         self.definitions.len()
     }
 
-    /// Whether there are no definitions.
-    pub fn is_empty(&self) -> bool
-        ensures { IsTrue result ↔ (self.now ≡ []) }
-    {
-        self.definitions.is_empty()
-    }
-
     /// The definition of this number, counted from 0. None comes exactly where there is none.
     pub fn get(&self, number: usize) -> Option<&Arc<Definition>>
         ensures { option_map (λ d. d.now.value) result ≡ slice_get self.now number }
