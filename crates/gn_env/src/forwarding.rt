@@ -205,13 +205,20 @@ impl Env {
         Ok(())
     }
 
+    // Whether the innermost scope has a name; that of a body has the invoker.
+    fn is_set_here(&self, name: &Text) -> bool
+        ensures { result ≡ is_set_here self.now name.now }
+    {
+        self.scopes.has_here(name) || self.is_invoker_here(name)
+    }
+
     // The first of the names that the innermost scope has.
     fn first_set<'a>(&self, names: &[&'a Text]) -> Option<&'a Text>
         ensures { option_map (λ n. n.now) result
             ≡ find (is_set_here self.now) (map (λ n. n.now) names.now) }
     {
         for name in names {
-            if self.scopes.has_here(name) {
+            if self.is_set_here(name) {
                 return Some(name);
             }
         }

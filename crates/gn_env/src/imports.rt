@@ -2,13 +2,15 @@
 
 ghost use Rattle.std.specs.Prelude.{◌≡◌, IfOk, OnOk, OnErr, IfErr, IfSome, option_map};
 ghost use Rattle.gn_values.specs.Tables.{with_name};
-ghost use Rattle.gn_environment.specs.Imports.{import_left, scope_left, merged, merged_known, conflict_in, lesser, first_name, other_template, same_definition};
+ghost use Rattle.gn_environment.specs.Imports.{import_left, scope_left, merged, merged_known, conflict_in, invoker_brought, lesser, first_name, other_value, other_template, other_defaults, same_definition};
 ghost use Rattle.gn_env.specs.Conflicts.{conflict_of};
 
 use crate::env::Env;
 use gn_paths::Text;
 use gn_scopes::NamedScopes;
-use gn_values::{Definition, DefinitionName, Definitions, ImportValue, KeptScope, MadeBy};
+use gn_values::{
+    Bindings, Definition, DefinitionName, Definitions, ImportValue, KeptScope, MadeBy,
+};
 use std::alloc::{AllocError, Global};
 use std::collections::BTreeMap;
 use std::sync::Arc;
@@ -36,8 +38,8 @@ impl From<AllocError> for MergeError {
 impl Env {
     /// Merges what an import left into the innermost scope: its variables, which count as read, its templates and its
     /// defaults; the environment knows its definitions from then on. `Conflict` comes exactly where the scope has a
-    /// variable with another value, a template with a definition at another place, or other defaults, and names the
-    /// first such name. After a refusal nothing is changed. The work is n log n, where n counts the names merged and
+    /// variable with another value, the invoker for a variable of its name, a template with a definition at another
+    /// place, or other defaults, and names the first such name. After a refusal nothing is changed. The work is n log n, where n counts the names merged and
     /// the executions whose definitions the import knows, and the logarithm is of all names and executions.
     #[tactic(auto, unfolding(gn_environment::specs::Imports::merged))]
     pub fn merge(&mut self, alloc: Global, value: &ImportValue) -> Result<(), MergeError>
@@ -90,11 +92,33 @@ impl Env {
         ensures { option_map (λ n. n.now) result
             ≡ conflict_in value.now self.now self.now.chain.inner }
     {
-        let scope = value.scope();
+        let invoker = self.invoker_brought(value.scope().variables());
+        lesser(invoker, self.other(value.scope()))
+    }
+
+    // The first of the names of a scope at which the innermost scope has another variable, template or defaults.
+    fn other<'a>(&self, scope: &'a KeptScope) -> Option<&'a Text>
+        ensures { option_map (λ n. n.now) result
+            ≡ lesser (first_name (other_value self.now.chain.inner) scope.now.variables)
+            (lesser (first_name (other_template self.now self.now.chain.inner) scope.now.templates)
+            (first_name (other_defaults self.now.chain.inner) scope.now.defaults)) }
+    {
         let variable = self.scopes.other_value(scope.variables());
         let template = self.other_template(scope.templates());
         let defaults = self.scopes.innermost().other_defaults(scope.defaults());
         lesser(variable, lesser(template, defaults))
+    }
+
+    // The name of the invoker, where these bring it into the scope in which the invoker stands.
+    fn invoker_brought<'a>(&self, values: &'a Bindings) -> Option<&'a Text>
+        ensures { option_map (λ n. n.now) result ≡ first_name (invoker_brought self.now) values.now }
+    {
+        for entry in values.as_slice() {
+            if self.is_invoker_here(&entry.name) {
+                return Some(&entry.name);
+            }
+        }
+        None
     }
 
     // The first of these names, in their order, at which the innermost scope has a template with another definition.

@@ -1,18 +1,21 @@
 // The invoker: the scope of the block of a call, as the template's body sees it.
 
-ghost use Rattle.std.specs.Prelude.{◌≡◌, ◌≢◌, IfOk, OnOk, OnErr, IfErr, true, false, option_map};
+ghost use Rattle.std.specs.Prelude.{◌≡◌, ◌≢◌, ◌↔◌, [], IsTrue, IfOk, OnOk, OnErr, IfErr, true, false, option_map};
 ghost use Rattle.gn_values.specs.Limits.{scope_fits};
 ghost use Rattle.gn_values.specs.Val.{vscope, binds_of};
 ghost use Rattle.gn_values.specs.View.{val_of};
 ghost use Rattle.gn_environment.specs.Environment.{fixed_value, kept_by};
+ghost use Rattle.gn_environment.specs.Layers.{values_in};
+ghost use Rattle.gn_environment.specs.Assigning.{replaces};
 ghost use Rattle.gn_environment.specs.Chains.{nearest, read_in, all_read, all_read_but, names_read, chain_value, chain_read};
 ghost use Rattle.gn_environment.specs.Templates.{with_caller, in_block};
-ghost use Rattle.gn_environment.specs.Invoker.{names_invoker, entries_by, invoker_entries, invoker_entry, value_by, after_invoker_entry_read, after_invoker_read, after_invoker_read_but, after_invoker_names_read};
+ghost use Rattle.gn_environment.specs.Invoker.{names_invoker, is_outermost, is_invoker_here, entries_by, invoker_entries, invoker_entry, value_by, after_invoker_entry_read, after_invoker_read, after_invoker_read_but, after_invoker_names_read};
 
 use crate::caller::Caller;
 use crate::env::Env;
 use gn_layers::NameSet;
 use gn_paths::{Text, Texts};
+use gn_scopes::NamedScopes;
 use gn_values::{Definition, Entries, Value, ValueError};
 use std::alloc::{AllocError, Global};
 use std::collections::VecDeque;
@@ -28,6 +31,30 @@ impl Env {
         name.as_bytes() == b"invoker".as_slice()
             && !self.callers.is_empty()
             && self.scopes.value(name).is_none()
+    }
+
+    /// Whether a name is the invoker and stands in the innermost scope: that is the scope of the body itself, in which the
+    /// invoker stands from its beginning on as a name that is set and read. It takes no memory.
+    #[tactic(auto, unfolding(gn_environment::specs::Invoker::is_invoker_here))]
+    pub fn is_invoker_here(&self, name: &Text) -> bool
+        ensures { result ≡ is_invoker_here name.now self.now }
+    {
+        self.is_invoker(name) && is_outermost(&self.scopes)
+    }
+
+    /// Whether a value that is a nonempty scope would take the place of the invoker, which has a name. The names are
+    /// copied for it.
+    #[tactic(auto, unfolding(gn_environment::specs::Invoker::invoker_entries))]
+    pub fn replaces_invoker(&self, alloc: Global, value: &Value) -> Result<bool, AllocError>
+        ensures { IfOk result
+            (λ b. b ≡ replaces (vscope (binds_of (invoker_entries self.now))) (val_of value.now)) }
+    {
+        match value {
+            Value::Scope(entries) if !entries.is_empty() => {
+                Ok(!block_is_empty(&self.callers, alloc)?)
+            }
+            _ => Ok(false),
+        }
     }
 
     /// The invoker as a value: a scope of copies of the names that stand directly in the block of the call. `TooLong` comes
@@ -141,6 +168,31 @@ pub(crate) fn read_at_caller(callers: &mut VecDeque<Caller>, name: &Text)
     if let Some(caller) = callers.front_mut() {
         caller.scopes.mark(name);
     }
+}
+
+// Whether no layer stands around the innermost one.
+fn is_outermost(scopes: &NamedScopes) -> bool
+    ensures { result ≡ is_outermost scopes.now }
+{
+    scopes.outer().is_empty()
+}
+
+// Whether no name stands directly in the block of the innermost caller's call.
+fn block_is_empty(callers: &VecDeque<Caller>, alloc: Global) -> Result<bool, AllocError>
+    ensures { IfOk result (λ b. IsTrue b ↔ (entries_by callers.now.items ≡ [])) }
+{
+    match callers.front() {
+        Some(caller) => is_empty_here(&caller.scopes, alloc),
+        None => Ok(true),
+    }
+}
+
+// Whether no name stands in the innermost layer.
+fn is_empty_here(scopes: &NamedScopes, alloc: Global) -> Result<bool, AllocError>
+    ensures { IfOk result (λ b. IsTrue b ↔ (values_in scopes.now.inner ≡ [])) }
+{
+    let names = scopes.copies_here(alloc)?;
+    Ok(names.as_slice().is_empty())
 }
 
 // Copies of what stands directly in the block of the innermost caller's call.

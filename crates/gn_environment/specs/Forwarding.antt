@@ -1,12 +1,12 @@
 -- `forward_variables_from` and `not_needed`.
-use Rattle.std.specs.Prelude.{ℕ, Bool, ◌&&◌, not, if◌then◌else◌, List, [], ◌∷◌, filter, Option, Some, None, is_some, Result, Ok, Err, codes}
+use Rattle.std.specs.Prelude.{ℕ, Bool, ◌&&◌, ◌||◌, not, if◌then◌else◌, List, [], ◌∷◌, filter, Option, Some, None, is_some, Result, Ok, Err, codes}
 use Rattle.std.specs.List.{find}
 use Rattle.gn_values.specs.Val.{Val}
 use Rattle.gn_values.specs.Tables.{Table, at_name}
 use Rattle.gn_environment.specs.Chains.{is_one_of, variable_in, names_read, all_read_but}
 use Rattle.gn_environment.specs.Environment.{Environment, given}
 use Rattle.gn_environment.specs.Templates.{in_block}
-use Rattle.gn_environment.specs.Invoker.{invoker_entries, caller_value, after_caller_read, after_invoker_read}
+use Rattle.gn_environment.specs.Invoker.{is_invoker_here, invoker_entries, caller_value, after_caller_read, after_invoker_read}
 
 -- from where variables are forwarded: the entries of a scope, or the invoker
 pub data Origin : Type 0 where
@@ -37,9 +37,9 @@ abbrev pub names_given : (List ℕ → Option Val) → Origin → List (List ℕ
 names_given value origin [] env = env
 names_given value origin (n ∷ ns) env = names_given value origin ns (given_if n (value n) (origin_read origin n env))
 
--- whether the innermost scope has a name
+-- whether the innermost scope has a name; that of a body has the invoker
 abbrev pub is_set_here : Environment → List ℕ → Bool
-is_set_here env name = is_some (variable_in name env.chain.inner)
+is_set_here env name = is_some (variable_in name env.chain.inner) || is_invoker_here name env
 
 abbrev pub forwarded_unless : Option (List ℕ) → Environment → Result Environment (List ℕ)
 forwarded_unless (Some name) env = Err name

@@ -11,6 +11,7 @@ use Rattle.gn_environment.specs.Layers.{VariableState, LayerState, values_in}
 use Rattle.gn_environment.specs.Chains.{variable_in}
 use Rattle.gn_environment.specs.Environment.{Environment, given}
 use Rattle.gn_environment.specs.Templates.{definition_of, same_place, in_block}
+use Rattle.gn_environment.specs.Invoker.{is_invoker_here}
 use Rattle.gn_environment.specs.Giving.{all_given}
 
 -- What is left: the names that don't begin with `_`
@@ -80,11 +81,16 @@ lesser (Some a) (Some b) = if is_less b a then Some b else Some a
 abbrev pub knowing : ImportState → Environment → Environment
 knowing value env = record env { definitions = with_new_names value.definitions env.definitions }
 
--- the first name, in name order, at which the innermost scope has something else than the import
+-- the name of the invoker, where it is brought into the scope in which the invoker stands
+abbrev pub invoker_brought : Environment → List ℕ × Val → Bool
+invoker_brought env e = is_invoker_here e.0 env
+
+-- the first name, in name order, at which the innermost scope has something else than the import; the invoker is something else than any value
 abbrev pub conflict_in : ImportState → Environment → LayerState → Option (List ℕ)
 conflict_in value env layer =
-    lesser (first_name (other_value layer) value.scope.variables)
-    (lesser (first_name (other_template env layer) value.scope.templates) (first_name (other_defaults layer) value.scope.defaults))
+    lesser (first_name (invoker_brought env) value.scope.variables)
+    (lesser (first_name (other_value layer) value.scope.variables)
+    (lesser (first_name (other_template env layer) value.scope.templates) (first_name (other_defaults layer) value.scope.defaults)))
 
 -- the innermost scope with all that the import brings; its variables count as read
 abbrev pub values_given : Table Val → Environment → Environment

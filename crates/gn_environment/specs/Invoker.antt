@@ -3,7 +3,7 @@ use Rattle.std.specs.Prelude.{ℕ, Bool, true, false, ◌&&◌, not, List, [], �
 use Rattle.std.specs.Str.{bytes_eq}
 use Rattle.gn_values.specs.Val.{Val}
 use Rattle.gn_values.specs.Tables.{Table}
-use Rattle.gn_environment.specs.Layers.{values_in}
+use Rattle.gn_environment.specs.Layers.{LayerState, ChainState, values_in}
 use Rattle.gn_environment.specs.Chains.{variable_in, nearest, read_in, all_read, all_read_but, names_read, chain_value, chain_read}
 use Rattle.gn_environment.specs.Environment.{Caller, Environment, fixed_value, kept_by}
 use Rattle.gn_environment.specs.Templates.{with_caller, in_block}
@@ -18,6 +18,19 @@ is_called (c ∷ cs) = true
 -- whether a name is the invoker: it is so named, the body of a template runs, and no layer of it has the name
 unfoldable pub names_invoker : List ℕ → Environment → Bool
 names_invoker name env = bytes_eq name invoker_name && (is_called env.callers && not (is_some (chain_value name env.chain)))
+
+-- whether no layer stands around the innermost one
+abbrev pub is_outermost : ChainState → Bool
+is_outermost chain = has_none chain.outer
+  where
+    has_none : List LayerState → Bool
+    has_none [] = true
+    has_none (l ∷ ls) = false
+
+-- whether a name is the invoker and stands in the innermost scope: that is the scope of the body itself, which begins with the invoker as a
+-- name that is set and read
+unfoldable pub is_invoker_here : List ℕ → Environment → Bool
+is_invoker_here name env = names_invoker name env && is_outermost env.chain
 
 -- the names that stand directly in the block of the call, with their values
 abbrev pub entries_by : List Caller → Table Val

@@ -6,18 +6,18 @@ use Rattle.gn_tree.specs.declared.piece.Piece.{Piece}
 use Rattle.gn_tree.specs.declared.piece.Piece.TheVariants.{Bytes, Name, Item as ItemPiece, Entry}
 use Rattle.gn_tree.specs.declared.piece.Subscript.{Subscript}
 use Rattle.gn_tree.specs.declared.piece.Subscript.TheVariants.{Name as NameSubscript, Integer}
-use Rattle.gn_values.specs.Val.{Val, vbool, vstr}
+use Rattle.gn_values.specs.Val.{Val, vbool, vstr, vscope, binds_of}
 use Rattle.gn_values.specs.declared.error.ValueError.{ValueError}
 use Rattle.gn_values.specs.declared.error.ElementError.{ElementError}
 use Rattle.gn_values.specs.declared.error.ElementError.TheVariants as element_error
 use Rattle.gn_values.specs.Limits.{list_fits, scope_fits, text_fits}
 use Rattle.gn_items.specs.Effects.{Effects}
 use Rattle.gn_runs.specs.Runs.{Question, Answers, Run}
-use Rattle.gn_environment.specs.Environment.{Environment, value_of, entries_here, after_assignment, after_assignment_over, after_element_assignment, after_element_assignment_over}
-use Rattle.gn_environment.specs.Invoker.{names_invoker, invoker_entries, invoker_entry}
-use Rattle.gn_environment.specs.Assigning.{Refusal, replaces_nonempty, has_no_value, operator_refuses, ElementRefusal, base_has_no_value, element_refuses}
+use Rattle.gn_environment.specs.Environment.{Environment, value_of, given, entries_here, after_assignment, after_assignment_over, after_element_assignment, after_element_assignment_over}
+use Rattle.gn_environment.specs.Invoker.{names_invoker, is_invoker_here, invoker_entries, invoker_entry}
+use Rattle.gn_environment.specs.Assigning.{replaces, Refusal, replaces_nonempty, has_no_value, operator_refuses, ElementRefusal, base_has_no_value, element_refuses}
 use Rattle.gn_meaning.specs.Steps.{Left}
-use Rattle.gn_meaning.specs.Words.{value_or_fault, element_or_fault, value_or_undefined, invoker_runs, name_runs, element_of_base, entry_or_undefined, invoker_element_runs, element_runs, base_runs, negation_runs, boolean_runs, list_runs, scope_runs, text_added_runs, assigned_to, element_fault, element_assigned_to, changes_value, over_invoker, name_assigned_runs, element_assigned_runs}
+use Rattle.gn_meaning.specs.Words.{value_or_fault, element_or_fault, value_or_undefined, invoker_runs, name_runs, element_of_base, entry_or_undefined, invoker_element_runs, element_runs, base_runs, negation_runs, boolean_runs, list_runs, scope_runs, text_added_runs, assigned_to, element_fault, element_assigned_to, changes_value, over_invoker, invoker_replaced_runs, name_assigned_runs, variable_element_assigned_runs, invoker_element_assigned_runs, element_assigned_runs}
 use Rattle.gn_meaning.specs.Pieces.{subscript_runs, text_runs, piece_runs, pieces_run}
 use Rattle.gn_meaning.proofs.Steps.{IsTreeBehind, AreQuiet, tree_do, tree_ends, tree_fails, tree_if}
 
@@ -115,16 +115,32 @@ element_assigned_tree (Err (element_refuses e)) name base at p q env out = eleme
 over_invoker_tree : (p : Position) (next : Val → Environment → Run (Left (Unit {0}))) (env : Environment) (out : Effects) → ((v : Val) (env1 : Environment) → IsTreeBehind out.asked (λ a. next v env1)) → IsTreeBehind out.asked (λ a. over_invoker p next env out)
 over_invoker_tree p next env out t = tree_if (scope_fits (invoker_entries env)) _ _ (t _ _) (tree_fails _ out)
 
+invoker_replaced_tree : (name : List ℕ) (p : Position) (v : Val) → AreQuiet (invoker_replaced_runs name p v)
+unfolding invoker_replaced_runs
+invoker_replaced_tree name p v env out =
+    tree_if (replaces (vscope (binds_of (invoker_entries env))) v) _ _ (tree_fails _ out) (tree_ends _ _ out)
+
 pub name_assigned_tree : (name : List ℕ) (at : Position) (op : AssignOp) (p : Position) (v : Val) → AreQuiet (name_assigned_runs name at op p v)
 unfolding name_assigned_runs
 name_assigned_tree name at op p v env out =
-    tree_if (changes_value op && names_invoker name env) _ _ (over_invoker_tree p _ env out (λ old env1. assigned_tree (after_assignment_over old name op v p env1) name at p env1 out)) (assigned_tree (after_assignment name op v p env) name at p env out)
+    tree_if (changes_value op && names_invoker name env) _ _ (over_invoker_tree p _ env out (λ old env1. assigned_tree (after_assignment_over old name op v p env1) name at p env1 out))
+    (tree_if (is_invoker_here name env) _ _ (invoker_replaced_tree name p v env out) (assigned_tree (after_assignment name op v p env) name at p env out))
+
+variable_element_tree : (base : List ℕ) (base_position : Position) (at : Val) (q : Position) (op : AssignOp) (p : Position) (v : Val) → AreQuiet (variable_element_assigned_runs base base_position at q op p v)
+unfolding variable_element_assigned_runs
+variable_element_tree base base_position at q op p v env out =
+    element_assigned_tree (after_element_assignment base at op v p env) base base_position at q p env out
+
+invoker_element_changed_tree : (old : Val) (base : List ℕ) (base_position : Position) (at : Val) (q : Position) (op : AssignOp) (p : Position) (v : Val) → AreQuiet (invoker_element_assigned_runs old base base_position at q op p v)
+unfolding invoker_element_assigned_runs
+invoker_element_changed_tree old base base_position at q op p v env out =
+    tree_if (is_invoker_here base env) _ _ (variable_element_tree base base_position at q op p v (given base old env) out)
+    (element_assigned_tree (after_element_assignment_over old base at op v p env) base base_position at q p env out)
 
 pub element_changed_tree : (base : List ℕ) (base_position : Position) (at : Val) (q : Position) (op : AssignOp) (p : Position) (v : Val) → AreQuiet (element_assigned_runs base base_position at q op p v)
 unfolding element_assigned_runs
 element_changed_tree base base_position at q op p v env out =
-    tree_if (names_invoker base env) _ _ (over_invoker_tree p _ env out (λ old env1. element_assigned_tree (after_element_assignment_over old base at op v p env1) base base_position at q p env1 out))
-    (element_assigned_tree (after_element_assignment base at op v p env) base base_position at q p env out)
+    tree_if (names_invoker base env) _ _ (over_invoker_tree p _ env out (λ old env1. invoker_element_changed_tree old base base_position at q op p v env1 out)) (variable_element_tree base base_position at q op p v env out)
 
 -- Strings
 

@@ -19,9 +19,9 @@ use Rattle.gn_faults.specs.declared.code.Code.{Code}
 use Rattle.gn_faults.specs.declared.code.Code.TheVariants as code
 use Rattle.gn_items.specs.Effects.{Effects}
 use Rattle.gn_runs.specs.Runs.{Run}
-use Rattle.gn_environment.specs.Environment.{Environment, value_of, after_read, after_assignment, after_assignment_over, after_element_assignment, after_element_assignment_over, entries_here, left}
-use Rattle.gn_environment.specs.Invoker.{names_invoker, invoker_entries, invoker_entry, after_invoker_read, after_invoker_entry_read}
-use Rattle.gn_environment.specs.Assigning.{Refusal, replaces_nonempty, has_no_value, operator_refuses, ElementRefusal, base_has_no_value, element_refuses}
+use Rattle.gn_environment.specs.Environment.{Environment, value_of, after_read, after_assignment, after_assignment_over, after_element_assignment, after_element_assignment_over, given, entries_here, left}
+use Rattle.gn_environment.specs.Invoker.{names_invoker, is_invoker_here, invoker_entries, invoker_entry, after_invoker_read, after_invoker_entry_read}
+use Rattle.gn_environment.specs.Assigning.{replaces, Refusal, replaces_nonempty, has_no_value, operator_refuses, ElementRefusal, base_has_no_value, element_refuses}
 use Rattle.gn_environment.specs.Faults.{fault_in}
 use Rattle.gn_meaning.specs.Steps.{Left, ends, breaks}
 
@@ -168,15 +168,33 @@ abbrev pub over_invoker : Position → (Val → Environment → Run (Left (Unit 
 over_invoker operator next env out =
     if scope_fits (invoker_entries env) then next (vscope (binds_of (invoker_entries env))) (after_invoker_read env) else fails_at code.TooLong operator [] env out
 
+-- `=` in the scope in which the invoker stands is that of a name that was read: it stays read, and a scope that isn't empty takes the place of none
+unfoldable pub invoker_replaced_runs : List ℕ → Position → Val → Environment → Effects → Run (Left (Unit {0}))
+invoker_replaced_runs name operator v env out =
+    if replaces (vscope (binds_of (invoker_entries env))) v then fails_at code.Overwrite operator (name ∷ []) env out else ends tt (given name v env) out
+
 unfoldable pub name_assigned_runs : List ℕ → Position → AssignOp → Position → Val → Environment → Effects → Run (Left (Unit {0}))
 name_assigned_runs name at op operator v env out =
     if changes_value op && names_invoker name env
     then over_invoker operator (λ old env1. assigned_to (after_assignment_over old name op v operator env1) name at operator env1 out) env out
+    else if is_invoker_here name env then invoker_replaced_runs name operator v env out
     else assigned_to (after_assignment name op v operator env) name at operator env out
+
+-- assigning to an element of a variable
+unfoldable pub variable_element_assigned_runs : List ℕ → Position → Val → Position → AssignOp → Position → Val → Environment → Effects → Run (Left (Unit {0}))
+variable_element_assigned_runs base base_position at subscript op operator v env out =
+    element_assigned_to (after_element_assignment base at op v operator env) base base_position at subscript operator env out
+
+-- assigning to an element of the invoker, which has this value: where it stands it is a variable that was read, and further in it is copied inwards
+unfoldable pub invoker_element_assigned_runs : Val → List ℕ → Position → Val → Position → AssignOp → Position → Val → Environment → Effects → Run (Left (Unit {0}))
+invoker_element_assigned_runs old base base_position at subscript op operator v env out =
+    if is_invoker_here base env
+    then variable_element_assigned_runs base base_position at subscript op operator v (given base old env) out
+    else element_assigned_to (after_element_assignment_over old base at op v operator env) base base_position at subscript operator env out
 
 -- assigning to an element
 unfoldable pub element_assigned_runs : List ℕ → Position → Val → Position → AssignOp → Position → Val → Environment → Effects → Run (Left (Unit {0}))
 element_assigned_runs base base_position at subscript op operator v env out =
     if names_invoker base env
-    then over_invoker operator (λ old env1. element_assigned_to (after_element_assignment_over old base at op v operator env1) base base_position at subscript operator env1 out) env out
-    else element_assigned_to (after_element_assignment base at op v operator env) base base_position at subscript operator env out
+    then over_invoker operator (λ old env1. invoker_element_assigned_runs old base base_position at subscript op operator v env1 out) env out
+    else variable_element_assigned_runs base base_position at subscript op operator v env out

@@ -4,7 +4,7 @@ ghost use Rattle.std.specs.Prelude.{◌≡◌, Result, Err, IfSome};
 ghost use Rattle.gn_items.specs.Effects.{Effects};
 ghost use Rattle.gn_values.specs.View.{val_of};
 ghost use Rattle.gn_environment.specs.Environment.{Environment, after_assignment, after_assignment_over, after_element_assignment, after_element_assignment_over};
-ghost use Rattle.gn_meaning.specs.Words.{changes_value, over_invoker, assigned_to, element_assigned_to, name_assigned_runs, element_assigned_runs};
+ghost use Rattle.gn_meaning.specs.Words.{changes_value, over_invoker, assigned_to, element_assigned_to, invoker_replaced_runs, name_assigned_runs, variable_element_assigned_runs, invoker_element_assigned_runs, element_assigned_runs};
 ghost use Rattle.gn_environment.specs.Assigning.{Refusal, ElementRefusal};
 ghost use Rattle.gn_layers.specs.Errors.{refusal_of, element_refusal_of};
 ghost use Rattle.gn_steps.specs.Ends.{IsStepFailure, IsStep};
@@ -106,11 +106,28 @@ fn changes_value(operator: AssignOp) -> bool
     }
 }
 
+// `=` in the scope in which the invoker stands, which has been read: a scope that isn't empty takes the place of none.
+#[tactic(auto, unfolding(gn_meaning::specs::Words::invoker_replaced_runs))]
+fn replace_invoker(
+    alloc: Global,
+    name: &Text,
+    position: Position,
+    value: Value,
+    env: &mut Env,
+) -> Result<(), StepEnd>
+    ensures runs { (out : Effects) → IsStep (λ u. u) result env.new out (invoker_replaced_runs name.now position (val_of value) env.old out) }
+{
+    if env.replaces_invoker(alloc, &value)? {
+        return Err(wrong_with(alloc, env, Code::Overwrite, position, name));
+    }
+    Ok(env.give(alloc, name, value)?)
+}
+
 /// `name = value`, `name += value` or `name -= value`, whose name stands at `at` and whose operator at the position.
-/// `+=` and `-=` on the invoker read it as a value, and set a variable of its name. `Wrong` has `Overwrite` at the
-/// operator where `=` would replace a nonempty list or scope by another, `Undefined` at the name where `+=` and `-=`
-/// find no value, what the operator refuses at the operator, or `TooLong` at the name where the invoker nests too deep
-/// for a scope's value.
+/// `+=` and `-=` on the invoker read it as a value. `=` on it in the body's own scope is that of a name that was read.
+/// `Wrong` has `Overwrite` at the operator where `=` would replace a nonempty list or scope by another, `Undefined` at
+/// the name where `+=` and `-=` find no value, what the operator refuses at the operator, or `TooLong` there where the
+/// invoker nests too deep for a scope's value.
 #[tactic(auto, unfolding(gn_meaning::specs::Words::name_assigned_runs))]
 pub fn assign_name(
     alloc: Global,
@@ -126,6 +143,8 @@ pub fn assign_name(
     let over = changes_value(operator) && env.is_invoker(name);
     if over {
         assign_over_invoker(alloc, name, at, operator, position, value, env)
+    } else if env.is_invoker_here(name) {
+        replace_invoker(alloc, name, position, value, env)
     } else {
         assign_variable(alloc, name, at, operator, position, value, env)
     }
@@ -155,7 +174,7 @@ fn element_not_assigned(
     }
 }
 
-#[tactic(auto, unfolding(gn_meaning::specs::Words::element_assigned_to))]
+#[tactic(auto, unfolding(gn_meaning::specs::Words::element_assigned_to, gn_meaning::specs::Words::variable_element_assigned_runs))]
 fn assign_variable_element(
     alloc: Global,
     base: &Text,
@@ -167,7 +186,7 @@ fn assign_variable_element(
     value: Value,
     env: &mut Env,
 ) -> Result<(), StepEnd>
-    ensures runs { (out : Effects) → IsStep (λ u. u) result env.new out (element_assigned_to (after_element_assignment base.now (val_of at.now) operator (val_of value) position env.old) base.now base_position (val_of at.now) subscript position env.old out) }
+    ensures runs { (out : Effects) → IsStep (λ u. u) result env.new out (variable_element_assigned_runs base.now base_position (val_of at.now) subscript operator position (val_of value) env.old out) }
 {
     match env.assign_element(alloc, base, at, operator, value, position) {
         Ok(()) => Ok(()),
@@ -214,7 +233,52 @@ fn assign_element_over(
     }
 }
 
-// The same of an element of the invoker, which is named at `base_position`.
+// The same of an element of the invoker, which has this value: in the scope in which it stands it becomes a variable that
+// was read, and further in it is copied inwards.
+#[tactic(auto, unfolding(gn_meaning::specs::Words::invoker_element_assigned_runs))]
+fn assign_element_of_invoker(
+    alloc: Global,
+    old: Value,
+    base: &Text,
+    base_position: Position,
+    at: &Value,
+    subscript: Position,
+    operator: AssignOp,
+    position: Position,
+    value: Value,
+    env: &mut Env,
+) -> Result<(), StepEnd>
+    ensures runs { (out : Effects) → IsStep (λ u. u) result env.new out (invoker_element_assigned_runs (val_of old) base.now base_position (val_of at.now) subscript operator position (val_of value) env.old out) }
+{
+    if !env.is_invoker_here(base) {
+        return assign_element_over(
+            alloc,
+            &old,
+            base,
+            base_position,
+            at,
+            subscript,
+            operator,
+            position,
+            value,
+            env,
+        );
+    }
+    env.give(alloc, base, old)?;
+    assign_variable_element(
+        alloc,
+        base,
+        base_position,
+        at,
+        subscript,
+        operator,
+        position,
+        value,
+        env,
+    )
+}
+
+// The same of an element of the invoker, which is named at `base_position` and read as a value.
 fn assign_element_over_invoker(
     alloc: Global,
     base: &Text,
@@ -226,14 +290,14 @@ fn assign_element_over_invoker(
     value: Value,
     env: &mut Env,
 ) -> Result<(), StepEnd>
-    ensures runs { (out : Effects) → IsStep (λ u. u) result env.new out (over_invoker position (λ old env1. element_assigned_to (after_element_assignment_over old base.now (val_of at.now) operator (val_of value) position env1) base.now base_position (val_of at.now) subscript position env1 out) env.old out) }
+    ensures runs { (out : Effects) → IsStep (λ u. u) result env.new out (over_invoker position (λ old env1. invoker_element_assigned_runs old base.now base_position (val_of at.now) subscript operator position (val_of value) env1 out) env.old out) }
 {
     match env.invoker_value(alloc) {
         Ok(old) => {
             env.read_invoker();
-            assign_element_over(
+            assign_element_of_invoker(
                 alloc,
-                &old,
+                old,
                 base,
                 base_position,
                 at,
@@ -249,9 +313,9 @@ fn assign_element_over_invoker(
 }
 
 /// `base[at] = value`, `base.at = value` and their kin, whose operator stands at the position. The invoker is read as a
-/// value, and a variable of its name is set. `Wrong` has `Undefined` at the base where that has no value, what the
-/// subscript doesn't find at the subscript, what the operator refuses at the operator, or `TooLong` at the base where
-/// the invoker nests too deep for a scope's value.
+/// value, and a variable of its name is set, which in the body's own scope counts as read. `Wrong` has `Undefined` at
+/// the base where that has no value, what the subscript doesn't find at the subscript, what the operator refuses at the
+/// operator, or `TooLong` there where the invoker nests too deep for a scope's value.
 #[tactic(auto, unfolding(gn_meaning::specs::Words::element_assigned_runs))]
 pub fn assign_element(
     alloc: Global,

@@ -87,6 +87,17 @@ const SAID: &str = said! {
     "z = 1\ntemplate(\"t\") {\n  print(defined(invoker.z))\n}\nt(\"n\") {\n}\nprint(z)" => "false\n1\n";
     "template(\"t\") {\n  group(\"g\") {\n    forward_variables_from(invoker, \"*\")\n    print(target_name)\n  }\n}\nt(\"n\") {\n}"
         => "g\n//:g\n";
+    // The invoker is a name of the scope of a body, set and read. A scope further in has none of that name.
+    "template(\"t\") {\n  invoker = 1\n  invoker = 2\n}\nt(\"n\") {\n}" => "";
+    "template(\"t\") {\n  invoker.x = 1\n}\nt(\"n\") {\n  a = 1\n}" => "";
+    "template(\"t\") {\n  invoker = { }\n  invoker = { y = 1 }\n  print(invoker.y)\n}\nt(\"n\") {\n}" => "1\n";
+    "invoker = 1\ntemplate(\"t\") {\n  print(invoker.target_name)\n}\nt(\"n\") {\n}" => "n\n";
+    "s = { invoker = 1 }\ntemplate(\"t\") {\n  forward_variables_from(s, \"*\")\n  print(invoker)\n}\nt(\"n\") {\n}"
+        => "1\n";
+    "s = { invoker = 1 }\ntemplate(\"t\") {\n  group(\"g\") {\n    forward_variables_from(s, [ \"invoker\" ])\n    print(invoker)\n  }\n}\nt(\"n\") {\n}"
+        => "1\n//:g\n";
+    "template(\"t\") {\n  foreach(invoker, [ 1 ]) {\n    print(invoker)\n  }\n  print(invoker.a)\n}\nt(\"n\") {\n  a = 2\n}"
+        => "1\n2\n";
 };
 
 // Faults of tokens, operators and calls.
@@ -179,6 +190,22 @@ const SCOPE_FAULTS: &str = faults! {
     "x = 1\ngroup(\"g\") {\n  x += 2\n}" => "3:5", "Assignment had no effect: \"x\".";
     "x = 1\ngroup(\"g\") {\n  x += 2\n  x += 3\n}" => "4:5", "Assignment had no effect: \"x\".";
     "x = [ 1 ]\ngroup(\"g\") {\n  x[0] += 2\n}" => "3:8", "Assignment had no effect: \"x\".";
+    // The invoker is a name of the scope of a body, set and read.
+    "template(\"t\") {\n  invoker = { y = 1 }\n}\nt(\"n\") {\n}" => "2:11", "Replacing nonempty list or scope \"invoker\".";
+    "template(\"o\") {\n  template(\"i\") {\n    invoker = { y = 1 }\n  }\n  i(\"x\") {\n    invoker = { z = 1 }\n  }\n}\no(\"n\") {\n}"
+        => "3:13", "Replacing nonempty list or scope \"invoker\".";
+    "template(\"t\") {\n  invoker += 1\n}\nt(\"n\") {\n}" => "2:11", "Wrong type of value.";
+    "template(\"t\") {\n  invoker = 1\n}\nt(\"n\") {\n  a = 1\n}" => "5:5", "Assignment had no effect: \"a\".";
+    "template(\"t\") {\n  group(\"g\") {\n    invoker = { y = 1 }\n  }\n}\nt(\"n\") {\n}"
+        => "3:13", "Assignment had no effect: \"invoker\".";
+    "template(\"t\") {\n  group(\"g\") {\n    invoker.x = 1\n  }\n}\nt(\"n\") {\n}"
+        => "3:15", "Assignment had no effect: \"invoker\".";
+    "s = { invoker = 1 }\ntemplate(\"t\") {\n  forward_variables_from(s, [ \"invoker\" ])\n}\nt(\"n\") {\n}"
+        => "3:3", "\"invoker\" is already set.";
+    "invoker = 1\ntemplate(\"t\") {\n  forward_variables_from(invoker, [ \"invoker\" ])\n}\nt(\"n\") {\n}"
+        => "3:3", "\"invoker\" is already set.";
+    "set_defaults(\"t\") {\n  invoker = 1\n}\ntemplate(\"t\") {\n  forward_variables_from(invoker, [ \"invoker\" ])\n}\nt(\"n\") {\n}"
+        => "5:3", "\"invoker\" is already set.";
 };
 
 #[test]

@@ -141,6 +141,19 @@ const TREES: &str = trees! {
     "//BUILD.gn": "import(\"//a.gni\")\nt(\"n\") {\n}\n",
     "//a.gni": "_p = 7\ntemplate(\"t\") {\n  print(_p)\n}\n",
     => 0 "7\n";
+    // In the scope of a body the invoker is something else than any variable of its name.
+    "//BUILD.gn": "template(\"t\") {\n  a = 1\n  z = 1\n  import(\"//d.gni\")\n}\nt(\"n\") {\n}\n",
+    "//d.gni": "invoker = 1\nz = 2\n",
+    => 1 "ERROR at //BUILD.gn:4:3: Value collision on import: \"invoker\".\n";
+    "//BUILD.gn": "template(\"t\") {\n  a = 1\n  import(\"//d.gni\")\n}\nt(\"n\") {\n}\n",
+    "//d.gni": "invoker = 1\na = 2\n",
+    => 1 "ERROR at //BUILD.gn:3:3: Value collision on import: \"a\".\n";
+    "//BUILD.gn": "template(\"t\") {\n  group(\"g\") {\n    import(\"//d.gni\")\n    print(invoker)\n  }\n}\nt(\"n\") {\n}\n",
+    "//d.gni": "invoker = 1\n",
+    => 0 "1\n//:g\n";
+    "//BUILD.gn": "template(\"t\") {\n  import(\"//d.gni\")\n  print(invoker.a)\n}\nt(\"n\") {\n  a = 1\n}\n",
+    "//d.gni": "template(\"invoker\") {\n}\n",
+    => 0 "1\n";
 };
 
 // What comes along with a template: its file's names, and the defaults of its calls. Faults in a body stand in its file.
