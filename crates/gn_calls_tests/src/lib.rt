@@ -1,11 +1,15 @@
-//! Tests of the calls on values and of build arguments, which stand on nothing of the evaluator: a file a crate.
+//! Tests of the calls on values and of build arguments, which stand on nothing of the evaluator.
 #![tactic(auto)]
 
 #[cfg(test)]
 mod arguments;
 #[cfg(test)]
-mod calls_path;
+mod labels;
 #[cfg(test)]
-mod calls_text;
+mod paths;
 #[cfg(test)]
 mod rows;
+#[cfg(test)]
+mod standing;
+#[cfg(test)]
+mod texts;
