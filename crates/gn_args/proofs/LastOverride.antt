@@ -1,7 +1,8 @@
 -- The last override of a name.
-use Rattle.std.proofs.Common.{◌≡◌, ℕ, ◌×◌, List, [], ◌∷◌, ◌++◌, Option, Some, None, refl, sym, ap, ◌∙◌}
+use Rattle.std.proofs.Common.{◌≡◌, ℕ, ◌+◌, ◌<◌, List, [], ◌∷◌, ◌++◌, length, take, get_or, Option, Some, None, option_map, refl, sym, ap, ◌∙◌}
 use Rattle.std.specs.List.{filter_map, last_or, cons_option, AllByRecursion}
 use Rattle.std.specs.Option.{unwrap_or, option_or}
+use Rattle.std.proofs.lemmas.List.{take_more}
 use Rattle.std.proofs.lemmas.List.Elements.{filter_map-append}
 use Rattle.gn_values.specs.Operators.{value_at}
 use Rattle.gn_values.specs.Val.{Val}
@@ -23,6 +24,22 @@ override_more name lists l =
     ap (last_or None) (filter_map-append (value_at name) lists (l ∷ []))
     ∙ last_of_both None (filter_map (value_at name) lists) (filter_map (value_at name) (l ∷ []))
     ∙ last_of_more (override_of name lists) (value_at name l)
+
+-- one of two that is there, seen
+seen_or : {V A : Type 0} (f : V → A) (more found : Option V) → option_map f (option_or more found) ≡ option_or (option_map f more) (option_map f found)
+seen_or f None found = refl
+seen_or f (Some v) found = refl
+
+-- the override in the lists looked at, when one more is
+pub override_taken : {V : Type 0} (f : V → Val) (name : List ℕ) (lists : List (List (List ℕ × Val))) (i : ℕ) (l : List (List ℕ × Val)) (more found : Option V)
+    → i < length lists → l ≡ get_or lists i l → option_map f more ≡ value_at name l → option_map f found ≡ override_of name (take i lists)
+    → option_map f (option_or more found) ≡ override_of name (take (i + 1) lists)
+override_taken f name lists i l more found h is one before =
+    seen_or f more found
+    ∙ (λ j. option_or (one j) (before j))
+    ∙ sym (override_more name (take i lists) l)
+    ∙ ap (λ x. override_of name (take i lists ++ x ∷ [])) is
+    ∙ ap (override_of name) (sym (take_more lists i l h))
 
 -- lists without the name have no override
 none_of : (name : List ℕ) (lists : List (List (List ℕ × Val))) → AllByRecursion (λ l. value_at name l ≡ None) lists → filter_map (value_at name) lists ≡ []

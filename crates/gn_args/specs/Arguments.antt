@@ -1,5 +1,5 @@
 -- Which value a build argument takes, and which names that were given have no effect.
-use Rattle.std.specs.Prelude.{ℕ, ◌||◌, List, ◌×◌, Option, None, Bool, not, map}
+use Rattle.std.specs.Prelude.{ℕ, ◌||◌, List, Option, None, Bool, not, map}
 use Rattle.std.specs.List.{filter, filter_map, last_or}
 use Rattle.std.specs.Option.{unwrap_or}
 use Rattle.gn_environment.specs.Chains.{is_one_of}

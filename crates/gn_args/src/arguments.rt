@@ -17,9 +17,7 @@ fn last_override<'a>(lists: &'a [Overrides], name: &[u8]) -> Option<&'a Value>
 {
     let mut found = None;
     for list in lists {
-        if let Some(value) = list.get(name) {
-            found = Some(value);
-        }
+        found = list.get(name).or(found);
     }
     found
 }

@@ -1,6 +1,6 @@
 // Laws of build arguments.
 
-ghost use Rattle.std.specs.Prelude.{◌≡◌, ◌++◌, ◌×◌, ◌∷◌, ℕ, List, Some, None};
+ghost use Rattle.std.specs.Prelude.{◌≡◌, ◌++◌, ◌∷◌, ℕ, List, Some, None};
 ghost use Rattle.std.specs.List.{AllByRecursion};
 ghost use Rattle.gn_values.specs.Operators.{value_at};
 ghost use Rattle.gn_values.specs.Val.{Val};
