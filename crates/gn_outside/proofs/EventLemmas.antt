@@ -1,17 +1,16 @@
 -- What was told, with one thing more.
-use Rattle.std.proofs.Common.{◌≡◌, ℕ, ◌<◌, ◌≤◌, ◌+◌, List, [], ◌∷◌, ◌++◌, map, length, ap, ◌∙◌, refl, sym, append-nil, arith}
+use Rattle.std.proofs.Common.{◌≡◌, ℕ, ◌<◌, ◌+◌, List, [], ◌∷◌, ◌++◌, map, length, ap, ◌∙◌, refl, sym, append-nil, arith}
 use Rattle.std.specs.Prelude.{Option, Some, None, slice_get, slice_index_or, drop, zero, suc, ◌-◌, string_bytes}
 use Rattle.std.proofs.lemmas.List.{at_drop_more}
 use Rattle.std.proofs.Math.Seq.{drop-length}
 use Rattle.std.specs.declared.string.String.{String}
 use Rattle.std.specs.declared.vec.Vec.{Vec}
 use Rattle.std.specs.declared.alloc.Global.{Global}
-use Rattle.std.specs.List.{flat_map}
 use Rattle.std.proofs.lemmas.List.{map-append}
 use Rattle.std.proofs.lemmas.Grind.{flat_map-append}
 use Rattle.gn_outside.specs.declared.tree_sink.Event.{Event}
 use Rattle.gn_outside.specs.declared.tree_sink.Event.TheVariants.{Said, Kept}
-use Rattle.gn_outside.specs.States.{PutFile, SinkEvent, Piece, Put, bytes_of_event, bytes_said, files_put}
+use Rattle.gn_outside.specs.States.{PutFile, bytes_of_event, bytes_said, files_put}
 use Rattle.gn_outside.specs.TreeSinks.{event_view}
 
 -- one call more says its own bytes behind the others

@@ -1,13 +1,13 @@
 -- What a run over one source has said and read, of what the loading of its build has.
 use Rattle.std.proofs.Common.{◌≡◌, ℕ, ◌≤◌, List, [], ◌∷◌, ◌++◌, refl, sym, ap, ◌∙◌, subst, arith, append-nil, inl, ⊎_elim}
 use Rattle.std.proofs.Math.Seq.{drop-append_seam}
-use Rattle.std.specs.Prelude.{Option, None, Some, Result, Ok, Err, IfOk, IsSome}
+use Rattle.std.specs.Prelude.{Option, None, Some, Result, Ok, Err, IfOk, IsSome, true}
 use Rattle.std.specs.declared.cmp.Ordering.TheVariants.{Equal}
 use Rattle.std.specs.Ordering.{nat_cmp}
 use Rattle.std.specs.Cmp.Lexicographic.{slice_cmp}
 use Rattle.std.proofs.lemmas.Cmp.{nat_list_cmp_total, tied_itself}
 use Rattle.gn_outside.specs.Tree.{Tree}
-use Rattle.gn_outside.specs.States.{SourceState}
+use Rattle.gn_outside.specs.States.{SourceRead, SourceState, paths_of}
 use Rattle.gn_outside.specs.Lists.{AllDiffer, Each, EachPair, Extends, OneOf}
 use Rattle.gn_outside.specs.Sources.{AllTell, AllTellReads, FailedAt, IsAtMost, IsLeastFailure, GoesOn, reads_since, joined_reads}
 use Rattle.gn_imports.specs.Asked.{contents_asked}
@@ -21,7 +21,7 @@ use Rattle.gn_top.specs.Run.{IsCount}
 use Rattle.gn_top.proofs.CommandLemmas.{units-view}
 use Rattle.gn_top.specs.Loading.{questions}
 use Rattle.gn_top.specs.Progress.{ReadsAsked, FailsAt}
-use Rattle.gn_top.specs.Steps.{IsSaying, IfCannotRead, CountsFault}
+use Rattle.gn_top.specs.Steps.{IsSaying, IfCannotRead}
 
 -- a source that tells its tree is all that tells it
 pub told_by_one : (result : Result Answered RunStop) (before : SourceState) (meaning : Tree → Said) → IfOk result (λ a. (tree : Tree) → before.tree ≡ Some tree → IsSaying a (meaning tree))
@@ -41,62 +41,60 @@ of_its_path (Ok x) P Q so has = tt
 of_its_path (Err (CannotRead path)) P Q so has = so path has
 of_its_path (Err Memory) P Q so has = tt
 
--- the count of faults falls never
-pub faults_go_on : {T : Type 0} (before after : ℕ) (result : Result T RunStop) → CountsFault before after result → before ≤ after
-faults_go_on before after (Ok x) same = omega arith
-faults_go_on before after (Err (CannotRead path)) rose = omega arith
-faults_go_on before after (Err Memory) same = omega arith
+since_some : (before reads : List SourceRead) (after : Option (List SourceRead)) → after ≡ Some (before ++ reads) → reads_since (Some before) after ≡ reads
+since_some before reads after is = ap (reads_since (Some before)) is ∙ drop-append_seam before reads
 
-since_some : (before paths : List (List ℕ)) (after : Option (List (List ℕ))) → after ≡ Some (before ++ paths) → reads_since (Some before) after ≡ paths
-since_some before paths after is = ap (reads_since (Some before)) is ∙ drop-append_seam before paths
+-- what was read since are the reads by which the source goes on
+pub since_extended : (before after : Option (List SourceRead)) (reads : List SourceRead) → IsSome before → Extends before after reads → reads_since before after ≡ reads
+since_extended None after reads told goes = cc
+since_extended (Some before) after reads told goes = since_some before reads after goes
 
--- what was read since are the paths by which the reads go on
-pub since_extended : (before after : Option (List (List ℕ))) (paths : List (List ℕ)) → IsSome before → Extends before after paths → reads_since before after ≡ paths
-since_extended None after paths told goes = cc
-since_extended (Some before) after paths told goes = since_some before paths after goes
-
--- the last of a list, or d
-end_of : List ℕ → List (List ℕ) → List ℕ
+-- the path of the last read, or d
+end_of : List ℕ → List SourceRead → List ℕ
 end_of d [] = d
-end_of d (p ∷ ps) = end_of p ps
+end_of d (r ∷ rs) = end_of r.path rs
 
-end_told : Option (List (List ℕ)) → List ℕ
+end_told : Option (List SourceRead) → List ℕ
 end_told None = []
-end_told (Some ps) = end_of [] ps
+end_told (Some rs) = end_of [] rs
 
-end_more : (es : List (List ℕ)) (d p : List ℕ) → end_of d (es ++ p ∷ []) ≡ p
+end_more : (es : List SourceRead) (d : List ℕ) (r : SourceRead) → end_of d (es ++ r ∷ []) ≡ r.path
 unfolding end_of
-end_more [] d p = refl
-end_more (e ∷ es) d p = end_more es e p
+end_more [] d r = refl
+end_more (e ∷ es) d r = end_more es e.path r
 
-end_behind : (ps es : List (List ℕ)) (d p : List ℕ) → end_of d (ps ++ es ++ p ∷ []) ≡ p
+end_behind : (rs es : List SourceRead) (d : List ℕ) (r : SourceRead) → end_of d (rs ++ es ++ r ∷ []) ≡ r.path
 unfolding end_of
-end_behind [] es d p = end_more es d p
-end_behind (q ∷ ps) es d p = end_behind ps es q p
+end_behind [] es d r = end_more es d r
+end_behind (q ∷ rs) es d r = end_behind rs es q.path r
+
+-- a read that has failed
+abbrev failed_read : List ℕ → SourceRead
+failed_read path = record { path = path; failed = true }
 
 at_most_itself : (path : List ℕ) → IsAtMost path path
 at_most_itself path = λ greater. let tied : slice_cmp nat_cmp path path ≡ Equal = tied_itself nat_list_cmp_total path in cc
 
 module _ (before after : SourceState) where
-  joined : (paths : List (List ℕ)) → IsSome before.reads → Extends before.reads after.reads paths → joined_reads (before ∷ []) (after ∷ []) ≡ paths
-  joined paths told goes = append-nil (reads_since before.reads after.reads) ∙ since_extended before.reads after.reads paths told goes
+  joined : (reads : List SourceRead) → IsSome before.reads → Extends before.reads after.reads reads → joined_reads (before ∷ []) (after ∷ []) ≡ paths_of reads
+  joined reads told goes = append-nil (paths_of (reads_since before.reads after.reads)) ∙ ap paths_of (since_extended before.reads after.reads reads told goes)
 
   pub reads_differ : ReadsAsked before after → AllTellReads (before ∷ []) → AllDiffer (joined_reads (before ∷ []) (after ∷ []))
-  reads_differ read told = subst AllDiffer (sym (joined read.reads.0 told.0 read.reads.1)) read.reads.2
+  reads_differ read told = subst AllDiffer (sym (joined read.0 told.0 read.1.joined)) read.2
 
   pub reads_are_asked : ReadsAsked before after → (tree : Tree) → before.tree ≡ Some tree → AllTellReads (before ∷ [])
       → Each (OneOf (contents_asked (questions tree))) (joined_reads (before ∷ []) (after ∷ []))
   reads_are_asked read tree of told =
-      subst (Each (OneOf (contents_asked (questions tree)))) (sym (joined read.reads.0 told.0 read.reads.1)) (read.reads.3 tree of)
+      subst (Each (OneOf (contents_asked (questions tree)))) (sym (joined read.0 told.0 read.1.joined)) (read.3 tree of)
 
-  pub source_goes_on : ReadsAsked before after → before.faults ≤ after.faults → EachPair GoesOn (before ∷ []) (after ∷ [])
-  source_goes_on read faults = (record { tree = read.tree; reads = (read.reads.0, read.reads.1); faults = faults }, tt)
+  pub source_goes_on : ReadsAsked before after → EachPair GoesOn (before ∷ []) (after ∷ [])
+  source_goes_on read = ((read.0, read.1), tt)
 
   -- a source has one path that it has read last
   one_last : (path other : List ℕ) → FailedAt path before after → FailedAt other before after → path ≡ other
   unfolding end_told
   one_last path other one two =
-      sym (end_behind one.last.0 one.last.1 [] path) ∙ ap end_told (sym one.last.3 ∙ two.last.3) ∙ end_behind two.last.0 two.last.1 [] other
+      sym (end_behind one.last.0 one.last.1 [] (failed_read path)) ∙ ap end_told (sym one.last.3 ∙ two.last.3) ∙ end_behind two.last.0 two.last.1 [] (failed_read other)
 
   pub least_failure : (path : List ℕ) → FailsAt path before after → AllTellReads (before ∷ []) → IsLeastFailure (before ∷ []) (after ∷ []) path
   least_failure path fails told = record {

@@ -1,14 +1,16 @@
 -- What a source has read while a build was loaded.
 use Rattle.std.proofs.Common.{suc, ◌+◌, length, arith, Result, Ok, Err, ◌≡◌, ◌≢◌, ◌<◌, ◌≤◌, ℕ, List, [], ◌∷◌, ◌++◌, Option, Some, None, refl, sym, ◌∙◌, ap, subst, append_assoc, append-nil, inl, inr, ◌⊎◌}
-use Rattle.std.specs.Prelude.{option_map, IsSome, is_some, false, IsErrAnd}
+use Rattle.std.specs.Prelude.{option_map, IsSome, is_some, Bool, true, false, IsErrAnd}
 use Rattle.std.specs.declared.cmp.Ordering.{Ordering}
 use Rattle.std.specs.declared.cmp.Ordering.TheVariants.{Less, Equal, Greater}
 use Rattle.std.specs.Ordering.{nat_cmp, match_ordering}
 use Rattle.std.specs.Cmp.Lexicographic.{slice_cmp}
 use Rattle.std.specs.Map.{keys_of}
 use Rattle.gn_outside.specs.Tree.{Tree}
-use Rattle.gn_outside.specs.States.{SourceState}
+use Rattle.gn_outside.specs.States.{SourceRead, SourceState}
 use Rattle.gn_outside.specs.Lists.{AllDiffer, Each, Extends, OneOf}
+use Rattle.gn_outside.specs.Sources.{CountsFailures, plain_reads}
+use Rattle.gn_outside.proofs.SourceLemmas.{one_read, ended_by, paths-plain, stops-plain, none-plain, paths-ended, stops-ended, some-ended, plain-ended}
 use Rattle.gn_paths.specs.declared.place.Place.{Place}
 use Rattle.gn_runs.specs.Runs.{content_of, Content}
 use Rattle.gn_runs.proofs.TreeLaws.{tree_needs_unknown}
@@ -87,16 +89,21 @@ need_unknown known [] path place h = (tree_needs_unknown (load_execution root) (
 need_unknown known (l ∷ ls) path place h = (tree_needs_unknown (import_execution l.path) (import_execution_tree l.path) (answers_of known) (content_of path) place h).0
 
 -- the last read of a source that has read this
-last_read : (before now : Option (List (List ℕ))) (paths : List (List ℕ)) (path : List ℕ) → Extends before now (paths ++ path ∷ []) → IsSome before → (all earlier : List (List ℕ)) × (before ≡ Some all) × (now ≡ Some (all ++ earlier ++ path ∷ []))
-last_read None now paths path more some = cc
-last_read (Some all) now paths path more some = (all, paths, refl, more ∙ ap Some (sym (append_assoc all paths (path ∷ []))))
+last_read : (before now : Option (List SourceRead)) (reads : List SourceRead) (read : SourceRead) → Extends before now (reads ++ read ∷ []) → IsSome before → (all earlier : List SourceRead) × (before ≡ Some all) × (now ≡ Some (all ++ earlier ++ read ∷ []))
+last_read None now reads read more some = cc
+last_read (Some all) now reads read more some = (all, reads, refl, more ∙ ap Some (sym (append_assoc all reads (read ∷ []))))
 
 -- what has been read was asked for
 pub has_asked : (before now : SourceState) (store : Store) (links : List Link) → HasRead before now store → ((tree : Tree) → before.tree ≡ Some tree → Loads tree store links) → ReadsAsked before now
-has_asked before now store links has loads = record {
-  tree = has.tree;
-  reads = (has.reads.0, has.reads.1, has.reads.2, λ tree told. each_maps (λ p. IsSome ((known_in store).contents p)) (OneOf (contents_asked (questions tree))) (known_one tree store links (loads tree told)) has.reads.0 has.reads.3);
-}
+has_asked before now store links has loads =
+    let paths = has.reads.0 in (
+      plain_reads paths,
+      record { tree = has.tree; joined = has.reads.1; stops = stops-plain paths; faults = subst (CountsFailures before.faults now.faults) (sym (none-plain paths)) has.faults },
+      subst AllDiffer (sym (paths-plain paths)) has.reads.2,
+      λ tree told.
+          subst (Each (OneOf (contents_asked (questions tree)))) (sym (paths-plain paths))
+          (each_maps (λ p. IsSome ((known_in store).contents p)) (OneOf (contents_asked (questions tree))) (known_one tree store links (loads tree told)) paths has.reads.3),
+    )
 
 -- a store of which the same has been read
 pub has_still : (before now : SourceState) (old new : Store) → (known_in new).contents ≡ (known_in old).contents → HasRead before now old → HasRead before now new
@@ -119,35 +126,40 @@ module _ (before was now : SourceState) (store : Store) (links : List Link) (pat
   differ : AllDiffer (has.reads.0 ++ path ∷ [])
   differ = differ_behind has.reads.0 path has.reads.2 (each_maps (λ p. IsSome ((known_in store).contents p)) (λ p. p ≢ path) other has.reads.0 has.reads.3)
 
-  module _ (recorded : Extends was.reads now.reads (path ∷ [])) where
-    more : Extends before.reads now.reads (has.reads.0 ++ path ∷ [])
-    more = extends_behind before.reads was.reads now.reads has.reads.0 (path ∷ []) has.reads.1 recorded
+  more : (failed : Bool) → Extends was.reads now.reads (one_read path failed ∷ []) → Extends before.reads now.reads (ended_by has.reads.0 path failed)
+  more failed recorded = extends_behind before.reads was.reads now.reads (plain_reads has.reads.0) (one_read path failed ∷ []) has.reads.1 recorded
 
-    -- it was asked for
+  -- it was asked for, whether its read has failed or not
+  module _ (failed : Bool) (recorded : Extends was.reads now.reads (one_read path failed ∷ [])) (counted : CountsFailures was.faults now.faults failed) where
     pub read_asked : ((tree : Tree) → before.tree ≡ Some tree → Loads tree store links) → ReadsAsked before now
-    read_asked loads = record {
-      tree = tree_same ∙ has.tree;
-      reads = (
-        has.reads.0 ++ path ∷ [],
-        more,
-        differ,
-        λ tree told.
-            each_behind (OneOf (contents_asked (questions tree))) has.reads.0 path
-            (each_maps (λ p. IsSome ((known_in store).contents p)) (OneOf (contents_asked (questions tree))) (known_one tree store links (loads tree told)) has.reads.0 has.reads.3)
-            (need_one tree store links (loads tree told) path need.0 need.1),
-      );
-    }
+    read_asked loads =
+        let paths = has.reads.0 in (
+          ended_by paths path failed,
+          record {
+            tree = tree_same ∙ has.tree;
+            joined = more failed recorded;
+            stops = stops-ended paths path failed;
+            faults = subst (CountsFailures before.faults now.faults) (sym (some-ended paths path failed)) (subst (λ n. CountsFailures n now.faults failed) has.faults counted);
+          },
+          subst AllDiffer (sym (paths-ended paths path failed)) differ,
+          λ tree told.
+              subst (Each (OneOf (contents_asked (questions tree)))) (sym (paths-ended paths path failed))
+              (each_behind (OneOf (contents_asked (questions tree))) paths path
+              (each_maps (λ p. IsSome ((known_in store).contents p)) (OneOf (contents_asked (questions tree))) (known_one tree store links (loads tree told)) paths has.reads.3)
+              (need_one tree store links (loads tree told) path need.0 need.1)),
+        )
 
-    -- the source has failed there
-    pub read_fails : was.faults < now.faults → FailsAt path before now
-    read_fails rose = record {
+  -- the source has failed there
+  pub read_fails : Extends was.reads now.reads (one_read path true ∷ []) → was.faults < now.faults → FailsAt path before now
+  read_fails recorded rose = record {
+    failed = subst (λ n. n < now.faults) has.faults rose;
+    last = λ some. record {
       failed = subst (λ n. n < now.faults) has.faults rose;
-      last = λ some. record {
-        failed = subst (λ n. n < now.faults) has.faults rose;
-        last = last_read before.reads now.reads has.reads.0 path more some;
-      };
-    }
+      last = last_read before.reads now.reads (plain_reads has.reads.0) (one_read path true) (more true recorded) some;
+    };
+  }
 
+  module _ (recorded : Extends was.reads now.reads (one_read path false ∷ [])) where
     -- and now it is known
     pub read_known : (new : Store) (content : Content) → now.faults ≡ was.faults → known_in new ≡ with_content (known_in store) path content → HasRead before now new
     read_known new content same known = record {
@@ -155,7 +167,7 @@ module _ (before was now : SourceState) (store : Store) (links : List Link) (pat
       faults = same ∙ has.faults;
       reads = (
         has.reads.0 ++ path ∷ [],
-        more,
+        subst (Extends before.reads now.reads) (plain-ended has.reads.0 path) (more false recorded),
         differ,
         subst (λ (k : Known). Each (λ p. IsSome (k.contents p)) (has.reads.0 ++ path ∷ [])) (sym known)
             (each_behind (λ p. IsSome (set_at path (Some content) (known_in store).contents p)) has.reads.0 path
@@ -171,8 +183,8 @@ module _ (before was now : SourceState) (store : Store) (links : List Link) (pat
       (record { tree = tree_same ∙ has.tree; faults = faults_same ∙ has.faults; reads = (has.reads.0, same ∙ has.reads.1, has.reads.2, has.reads.3) })
       loads
 
-  pub read_memory : Extends was.reads now.reads (path ∷ []) ⊎ (now.reads ≡ was.reads) → now.faults ≡ was.faults → ((tree : Tree) → before.tree ≡ Some tree → Loads tree store links) → (now.faults ≡ before.faults) × ReadsAsked before now
-  read_memory (inl recorded) faults_same loads = (faults_same ∙ has.faults, read_asked recorded loads)
+  pub read_memory : Extends was.reads now.reads (one_read path false ∷ []) ⊎ (now.reads ≡ was.reads) → now.faults ≡ was.faults → ((tree : Tree) → before.tree ≡ Some tree → Loads tree store links) → (now.faults ≡ before.faults) × ReadsAsked before now
+  read_memory (inl recorded) faults_same loads = (faults_same ∙ has.faults, read_asked false recorded faults_same loads)
   read_memory (inr same) faults_same loads = (faults_same ∙ has.faults, read_unrecorded same faults_same loads)
 
 -- want of memory ends the loading

@@ -3,12 +3,12 @@ use Rattle.std.proofs.Common.{◌≡◌, ◌⊎◌, inl, inr, ⊎_elim, ℕ, ◌
 use Rattle.std.specs.Prelude.{Option, None, Some, option_map}
 use Rattle.std.proofs.Math.Seq.{drop-length}
 use Rattle.std.specs.Prelude.{slice_set, slice_index_or}
-use Rattle.gn_outside.specs.States.{SourceState, SinkState, PutFile, Piece, Put}
+use Rattle.gn_outside.specs.States.{SourceRead, SourceState, SinkState, PutFile, Piece, Put, piece_of, paths_of}
 use Rattle.gn_top.specs.Said.{Said}
 use Rattle.gn_outside.specs.Lists.{EachPair, SomePair, Extends}
 use Rattle.gn_outside.specs.Sources.{AllTellReads, total_faults, FailedAt, IsLeastFailure, reads_since, joined_reads, GoesOn}
 use Rattle.gn_top.specs.Texts.{cannot_read_line}
-use Rattle.gn_top.specs.Run.{EndsAs, piece_of, SaysPart, TellsPart, IsCutShort, CutsFailure, CannotRead, EndsWithUsage}
+use Rattle.gn_top.specs.Run.{EndsAs, SaysPart, TellsPart, IsCutShort, CutsFailure, CannotRead, EndsWithUsage}
 
 pub nothing_more : {X : Type 0} (before after : Option (List X)) → after ≡ before → Extends before after []
 nothing_more None after same = same
@@ -56,19 +56,19 @@ one_failed path before now sink after rose text least = record {
 -- Sources beside the first that stay as they are add nothing.
 
 goes_on_same : (s : SourceState) → GoesOn s s
-goes_on_same s = record { tree = refl; reads = ([], nothing_more s.reads s.reads refl); faults = omega arith }
+goes_on_same s = ([], record { tree = refl; joined = nothing_more s.reads s.reads refl; stops = tt; faults = refl })
 
 all_go_on_same : (rest : List SourceState) → EachPair GoesOn rest rest
 all_go_on_same [] = tt
 all_go_on_same (s ∷ rest) = (goes_on_same s, all_go_on_same rest)
 
-none_since : (reads : Option (List (List ℕ))) → reads_since reads reads ≡ []
+none_since : (reads : Option (List SourceRead)) → reads_since reads reads ≡ []
 none_since None = refl
 none_since (Some paths) = drop-length paths
 
 joined_same : (rest : List SourceState) → joined_reads rest rest ≡ []
 joined_same [] = refl
-joined_same (s ∷ rest) = ap (λ (paths : List (List ℕ)). paths ++ joined_reads rest rest) (none_since s.reads) ∙ joined_same rest
+joined_same (s ∷ rest) = ap (λ (reads : List SourceRead). paths_of reads ++ joined_reads rest rest) (none_since s.reads) ∙ joined_same rest
 
 none_failed : (path : List ℕ) (rest : List SourceState) → SomePair (FailedAt path) rest rest → ⊥
 none_failed path [] failed = failed
@@ -116,7 +116,7 @@ module _ (s t : SourceState) (rest : List SourceState) where
   }
 
   pub joined_more : joined_reads (s ∷ rest) (t ∷ rest) ≡ joined_reads (s ∷ []) (t ∷ [])
-  joined_more = ap (λ (paths : List (List ℕ)). reads_since s.reads t.reads ++ paths) (joined_same rest)
+  joined_more = ap (λ (paths : List (List ℕ)). paths_of (reads_since s.reads t.reads) ++ paths) (joined_same rest)
 
   pub goes_on_more : EachPair GoesOn (s ∷ []) (t ∷ []) → EachPair GoesOn (s ∷ rest) (t ∷ rest)
   goes_on_more one = (one.0, all_go_on_same rest)

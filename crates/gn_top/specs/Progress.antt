@@ -1,10 +1,10 @@
 -- How far the loading of a build has come.
-use Rattle.std.specs.Prelude.{◌≡◌, ◌⊎◌, ℕ, ◌<◌, ◌≤◌, length, List, [], ◌∷◌, map, Option, Some, None, Result, Ok, Err, IsSome, codes}
+use Rattle.std.specs.Prelude.{◌≡◌, ◌⊎◌, ℕ, ◌<◌, ◌≤◌, true, length, List, [], ◌∷◌, map, Option, Some, None, Result, Ok, Err, IsSome, codes}
 use Rattle.std.specs.Map.{keys_of, values_of}
 use Rattle.gn_outside.specs.Tree.{Tree}
-use Rattle.gn_outside.specs.States.{SourceState}
+use Rattle.gn_outside.specs.States.{SourceRead, SourceState, paths_of}
 use Rattle.gn_outside.specs.Lists.{AllDiffer, Each, Extends, OneOf}
-use Rattle.gn_outside.specs.Sources.{FailedAt}
+use Rattle.gn_outside.specs.Sources.{FailedAt, GoesOnBy, plain_reads}
 use Rattle.gn_outside.specs.declared.stops.ReadStop.{ReadStop}
 use Rattle.gn_outside.specs.declared.stops.ReadStop.TheVariants as stop
 use Rattle.gn_paths.specs.declared.place.Place.{Place}
@@ -82,16 +82,17 @@ abbrev pub loaded_view : Loaded → Result Build Fault
 loaded_view (Built store effects) = has_built store (Left effects)
 loaded_view (Failed fault) = Err fault
 
--- since loading began the source has told no failure and read paths that are known, each once
+-- since loading began no read has failed, and those that were read are known, each read once
 pub record HasRead (before now : SourceState) (store : Store) : Type 0 where
   pub tree : now.tree ≡ before.tree
   pub faults : now.faults ≡ before.faults
-  pub reads : (paths : List (List ℕ)) × Extends before.reads now.reads paths × AllDiffer paths × Each (λ path. IsSome ((known_in store).contents path)) paths
+  pub reads : (paths : List (List ℕ)) × Extends before.reads now.reads (plain_reads paths) × AllDiffer paths × Each (λ path. IsSome ((known_in store).contents path)) paths
 
--- it has read paths that the build of its tree asks for, each once
-pub record ReadsAsked (before now : SourceState) : Type 0 where
-  pub tree : now.tree ≡ before.tree
-  pub reads : (paths : List (List ℕ)) × Extends before.reads now.reads paths × AllDiffer paths × ((tree : Tree) → before.tree ≡ Some tree → Each (OneOf (contents_asked (questions tree))) paths)
+-- it goes on by reads of paths that the build of its tree asks for, each once
+abbrev pub ReadsAsked : SourceState → SourceState → Type 0
+ReadsAsked before now =
+    (reads : List SourceRead) × GoesOnBy before now reads × AllDiffer (paths_of reads)
+    × ((tree : Tree) → before.tree ≡ Some tree → Each (OneOf (contents_asked (questions tree))) (paths_of reads))
 
 -- it has failed at this path, which it has read last
 pub record FailsAt (path : List ℕ) (before now : SourceState) : Type 0 where
@@ -119,11 +120,11 @@ IsSettledWith tree store links None = Loads tree store links
 IsSettledWith tree store links (Some ending) = loaded tree ≡ has_built store ending
 
 -- a read is recorded, but for want of memory perhaps not
-abbrev pub ReadsPath : Option (List (List ℕ)) → Option (List (List ℕ)) → List ℕ → Result FileContent ReadStop → Type 0
-ReadsPath before after path (Ok content) = Extends before after (path ∷ [])
-ReadsPath before after path (Err stop.Failed) = Extends before after (path ∷ [])
-ReadsPath before after path (Err (stop.TooBig n)) = Extends before after (path ∷ [])
-ReadsPath before after path (Err stop.Memory) = Extends before after (path ∷ []) ⊎ (after ≡ before)
+abbrev pub ReadsPath : Option (List SourceRead) → Option (List SourceRead) → List ℕ → Result FileContent ReadStop → Type 0
+ReadsPath before after path (Ok content) = Extends before after (plain_reads (path ∷ []))
+ReadsPath before after path (Err stop.Failed) = Extends before after (record { path = path; failed = true } ∷ [])
+ReadsPath before after path (Err (stop.TooBig n)) = Extends before after (plain_reads (path ∷ []))
+ReadsPath before after path (Err stop.Memory) = Extends before after (plain_reads (path ∷ [])) ⊎ (after ≡ before)
 
 -- the count of faults rises exactly where the read has failed
 abbrev pub CountsRead : ℕ → ℕ → Result FileContent ReadStop → Type 0

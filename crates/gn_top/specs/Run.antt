@@ -1,15 +1,10 @@
 -- What a whole run does to its sources and its sink.
 use Rattle.std.specs.Prelude.{◌≡◌, ◌⊎◌, ℕ, ◌<◌, ◌≤◌, List, [], ◌∷◌, ◌++◌, map, take}
-use Rattle.gn_outside.specs.States.{SourceState, SinkState, SinkEvent, Piece, Put}
+use Rattle.gn_outside.specs.States.{SourceState, SinkState, SinkEvent, Piece, Put, piece_of}
 use Rattle.gn_outside.specs.Lists.{EachPair, Extends}
 use Rattle.gn_outside.specs.Sources.{AllTellReads, total_faults, FailedAt, IsLeastFailure}
 use Rattle.gn_top.specs.Texts.{usage_line, cannot_read_line}
 use Rattle.gn_top.specs.Said.{Said, UnitCount, Exactly, AtMost}
-
--- a text in one piece, and nothing for an empty one
-abbrev pub piece_of : List ℕ → List SinkEvent
-piece_of [] = []
-piece_of (byte ∷ bytes) = Piece (byte ∷ bytes) ∷ []
 
 -- what this meaning tells the sink: its files in their order, and then its text in one piece
 abbrev pub events_of : Said → List SinkEvent

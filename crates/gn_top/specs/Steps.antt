@@ -1,12 +1,12 @@
 -- What the parts of a run do.
 use Rattle.std.specs.Prelude.{◌≡◌, ℕ, ◌<◌, ◌≤◌, List, [], Result, Ok, Err}
-use Rattle.gn_outside.specs.States.{SourceState, SinkState}
+use Rattle.gn_outside.specs.States.{SourceState, SinkState, piece_of}
 use Rattle.gn_outside.specs.Lists.{Extends}
 use Rattle.gn_top.specs.declared.answered.Answered.{Answered}
 use Rattle.gn_top.specs.declared.answered.RunStop.{RunStop}
 use Rattle.gn_top.specs.declared.answered.RunStop.TheVariants.{CannotRead, Memory}
 use Rattle.gn_top.specs.Said.{Said, usage_said}
-use Rattle.gn_top.specs.Run.{IsCount, piece_of, SaysPart}
+use Rattle.gn_top.specs.Run.{IsCount, SaysPart}
 
 -- an answer has the status and the text of a meaning that puts no files, and has loaded as many build files
 pub record IsSaying (answered : Answered) (meaning : Said) : Type 0 where

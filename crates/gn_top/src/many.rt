@@ -58,7 +58,8 @@ pub fn run_gn<R: Threads + Wait + Sync, S: Source + Send, K: Sink>(
     ensures units { (tree : Tree) → AllTell tree (map S.state sources.items) →
         LoadsUnits (said (texts words.now) (host_texts host.now) [] tree) result.status result.units }
 
-    // Each source comes back in its place and goes on, and those without a worker are as they were.
+    // Each source comes back in its place and goes on, and isn't read again after a failed read. Those without a worker are as
+    // they were.
     ensures sources { EachPair GoesOn (map S.state sources.items) (map S.state result.sources.items) }
     ensures idle { let workers = worker_count (texts words.now) (vec_len sources) in
         drop workers result.sources.items ≡ drop workers sources.items }

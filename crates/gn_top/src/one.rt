@@ -14,7 +14,7 @@ use crate::answer::answer;
 use crate::answered::RunStop;
 use crate::host::{Host, One};
 use crate::texts::CANNOT_READ;
-use gn_outside::{Sink, SinkStop, Source};
+use gn_outside::{Sink, SinkStop, Source, say_text};
 use gn_paths::Path;
 use std::alloc::{AllocError, Global};
 use std::thread::Threads;
@@ -24,10 +24,7 @@ fn say_under<K: Sink>(sink: &mut K, text: &[u8], status: u8) -> u8
     requires { status ≤ 3 }
     ensures { SaysUnder (K.state sink.old) (K.state sink.new) text.now status result }
 {
-    if text.is_empty() {
-        return status;
-    }
-    match sink.say(text) {
+    match say_text(sink, text) {
         Ok(()) => status,
         Err(SinkStop::Failed) => 4,
         Err(SinkStop::Memory) => 5,
@@ -99,7 +96,7 @@ pub fn run_one<R: Threads + Sync, S: Source, K: Sink>(
     ensures units { (tree : Tree) → AllTell tree (S.state source.old ∷ []) →
         LoadsUnits (said (texts words.now) (host_texts host.now) [] tree) result.status result.units }
 
-    // The source goes on.
+    // The source goes on, and isn't read again after a failed read.
     ensures sources { EachPair GoesOn (S.state source.old ∷ []) (S.state source.new ∷ []) }
 {
     match answer(alloc, words, host, source) {

@@ -1,4 +1,4 @@
-use Rattle.std.proofs.Common.{◌≡◌, ℕ, ◌+◌, length, sym, ◌∙◌, ap, refl, arith}
+use Rattle.std.proofs.Common.{◌≡◌, ◌+◌, length, sym, ◌∙◌, ap, refl, arith}
 use Rattle.std.specs.Prelude.{drop}
 use Rattle.gn_outside.proofs.EventLemmas.{file_in, piece_passed, file_found, file_passed, none_left, same_file}
 use Rattle.gn_outside.proofs.tree_sink.file_among.Goals as goal

@@ -1,7 +1,7 @@
 use Rattle.std.proofs.Common.{rules}
 use Rattle.gn_top.specs.Words.{HasNoForm}
 use Rattle.gn_top.specs.Said.{said, asked}
-use Rattle.gn_top.proofs.AnswerLemmas.{told_by_one, one_loaded, of_its_path, faults_go_on, reads_differ, reads_are_asked, source_goes_on, least_failure}
+use Rattle.gn_top.proofs.AnswerLemmas.{told_by_one, one_loaded, of_its_path, reads_differ, reads_are_asked, source_goes_on, least_failure}
 use Rattle.gn_top.proofs.CommandLemmas.{command_said-view, command_asked-view, has_form}
 use Rattle.gn_top.proofs.answer.answer.Goals as goal
 
@@ -38,4 +38,4 @@ returns-in-Some-Ls-clause-reads_asked g c =
     rw (← c.in-Some-Ls.ensures) (simp command_asked-view (λ tree of told. reads_are_asked _ _ c.read_build.ensures.reads tree of.0 told))
 
 pub returns-in-Some-Ls-clause-sources : goal.returns-in-Some-Ls-clause-sources
-returns-in-Some-Ls-clause-sources g c = source_goes_on _ _ c.read_build.ensures.reads (faults_go_on _ _ _ c.read_build.ensures.faults)
+returns-in-Some-Ls-clause-sources g c = source_goes_on _ _ c.read_build.ensures.reads

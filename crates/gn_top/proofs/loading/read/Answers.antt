@@ -1,4 +1,4 @@
-use Rattle.std.proofs.Common.{◌≤◌, ◌<◌, length, Err, sym, ap, ◌∙◌, subst}
+use Rattle.std.proofs.Common.{◌≤◌, ◌<◌, true, false, length, Err, sym, ap, ◌∙◌, subst}
 use Rattle.std.specs.Map.{keys_of}
 use Rattle.gn_top.specs.Store.{content_view}
 use Rattle.gn_top.specs.Loading.{max_paths}
@@ -22,7 +22,7 @@ returns-in_err-put-in-Ok g c = λ before has loads need.
     let was = g.S.Source.state c.args.source.now in
     let now = g.S.Source.state c.read_content.new.source in
     memory_step before now c.put.new.self links c.from_residual.result c.from_residual.ensures.1
-    (c.in-Ok.ensures.faults ∙ has.faults, read_asked before was now store links c.args.path has need c.read_content.ensures.tree c.in-Ok.ensures.reads loads)
+    (c.in-Ok.ensures.faults ∙ has.faults, read_asked before was now store links c.args.path has need c.read_content.ensures.tree false c.in-Ok.ensures.reads c.in-Ok.ensures.faults loads)
 
 pub returns-in_ok-put-in-Ok : goal.returns-in_ok-put-in-Ok
 returns-in_ok-put-in-Ok g c = λ before has loads need.
@@ -44,7 +44,7 @@ returns-in-Err-Failed g c = λ before has loads need.
     let now = g.S.Source.state c.read_content.new.source in
     let recorded = rw c.in-Err-Failed.field-0-is at c.in-Err-Failed.ensures.reads in
     let rose = rw c.in-Err-Failed.field-0-is at c.in-Err-Failed.ensures.faults in
-    (read_fails before was now store links c.args.path has need c.read_content.ensures.tree recorded rose, read_asked before was now store links c.args.path has need c.read_content.ensures.tree recorded loads)
+    (read_fails before was now store links c.args.path has need c.read_content.ensures.tree recorded rose, read_asked before was now store links c.args.path has need c.read_content.ensures.tree true recorded rose loads)
 
 pub returns-in-Err-Memory : goal.returns-in-Err-Memory
 returns-in-Err-Memory g c = λ before has loads need.
@@ -61,4 +61,4 @@ returns-in-Err-TooBig g c = λ before has loads need.
     let was = g.S.Source.state c.args.source.now in
     let now = g.S.Source.state c.read_content.new.source in
     let same = rw c.in-Err-TooBig.field-0-is at c.in-Err-TooBig.ensures.faults in
-    (same ∙ has.faults, read_asked before was now store links c.args.path has need c.read_content.ensures.tree (rw c.in-Err-TooBig.field-0-is at c.in-Err-TooBig.ensures.reads) loads)
+    (same ∙ has.faults, read_asked before was now store links c.args.path has need c.read_content.ensures.tree false (rw c.in-Err-TooBig.field-0-is at c.in-Err-TooBig.ensures.reads) same loads)
