@@ -1,5 +1,5 @@
 // A source over the files below the current folder. It tells nothing of their content.
-ghost use Rattle.std.specs.Prelude.{None};
+ghost use Rattle.std.specs.Prelude.{◌≢◌, None, []};
 ghost use Rattle.gn.specs.Ends.{IsWithin};
 
 use gn_outside::{ReadStop, Source};
@@ -62,17 +62,18 @@ impl<R: Files + Drop> Source for FileSource<R> {
     }
 }
 
-// The name below the current folder, or the system's path. The source root is the current folder itself.
-fn name_of(path: &str) -> &str {
-    match path.strip_prefix("//") {
-        Some("") => ".",
-        Some(name) => name,
-        None => path,
-    }
+// The name below the current folder, or the system's path. The source root is the current folder itself: it has a name too,
+// since to open an empty one would look like absence.
+fn name_of(path: &str) -> &str
+    ensures { result.now ≢ [] }
+{
+    let name = path.strip_prefix("//").unwrap_or(path);
+    if name.is_empty() { "." } else { name }
 }
 
 // What stands at a name. A named pipe isn't opened, since that would wait for somebody to write into it.
 fn read_named<R: Files>(rt: &R, alloc: Global, name: &str) -> FileEnd
+    requires { name.now ≢ [] }
     ensures { IsWithin result }
 {
     if is_named_pipe(rt, name) {
