@@ -3,3 +3,9 @@ pub mod Outcomes
 pub mod Outwards
 pub mod Earlier
 pub mod Found
+pub mod Least
+pub mod ShownNames
+pub mod WithinBodies
+pub mod KeptScopes
+pub mod Surroundings
+pub mod SurroundingsOfCalls

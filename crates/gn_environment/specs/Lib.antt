@@ -8,6 +8,9 @@ pub mod Invoker
 pub mod Forwarding
 pub mod Giving
 pub mod Imports
+pub mod Surroundings
+pub mod Shown
+pub mod Within
 pub mod Faults
 pub mod Codes
 pub mod Lending

@@ -3,8 +3,15 @@
 #![tactic(auto)]
 
 mod laws;
+mod name_laws;
+mod surrounding_laws;
 
 pub use laws::{
     bodies_end_where_they_began, given_names_are_found, reads_keep_values,
     scopes_end_where_they_began,
 };
+pub use name_laws::{
+    definitions_keep_what_reads_find, first_unread_name_is_reported, least_conflict_is_shown,
+    templates_are_not_found_in_their_bodies,
+};
+pub use surrounding_laws::{bodies_leave_their_surroundings, scopes_leave_their_surroundings};

@@ -1,0 +1,129 @@
+-- What imports, forwarding and reads of the invoker leave around the scope in which they take place.
+use Rattle.std.proofs.Common.{◌≡◌, ℕ, Bool, true, false, if◌then◌else◌, List, [], ◌∷◌, Option, Some, None, find, refl, sym, ap, ◌∙◌}
+use Rattle.gn_values.specs.Val.{Val}
+use Rattle.gn_values.specs.Tables.{Table}
+use Rattle.gn_values.specs.Imported.{ImportState}
+use Rattle.gn_environment.specs.Layers.{LayerState}
+use Rattle.gn_environment.specs.Chains.{read_in, all_read, all_read_but, names_read, is_one_of, chain_read}
+use Rattle.gn_environment.specs.Environment.{Environment, given, in_item}
+use Rattle.gn_environment.specs.Templates.{with_caller, in_block}
+use Rattle.gn_environment.specs.Invoker.{invoker_entries, after_invoker_entry_read, after_invoker_read, after_invoker_read_but, after_invoker_names_read, after_caller_read}
+use Rattle.gn_environment.specs.Forwarding.{Origin, from_entries, from_invoker, origin_value, origin_read, forwarded_names, given_if, names_given, is_set_here, forwarded_unless, names_forwarded, entries_given, target_name, all_forwarded, after_names_read_here, after_all_read_here}
+use Rattle.gn_environment.specs.Imports.{knowing, conflict_in, values_given, with_import, merged_unless, merged}
+use Rattle.gn_environment.specs.Surroundings.{outline, surroundings}
+use Rattle.gn_environment.proofs.Surroundings.{IsKept, read_in_outline, chain_read_outline, outline_around, with_layers, given_keeps, callers_keep, with_callers, block_outline}
+
+-- Reads of many names
+
+names_outline : (names except : List (List ℕ)) (l : LayerState) → outline (names_read names except l) ≡ outline l
+names_outline [] except l = refl
+names_outline (n ∷ ns) except l =
+    elim (is_one_of n except) as (λ b. outline (names_read ns except (if b then l else read_in n l)) ≡ outline l) [ true ↦ names_outline ns except l | false ↦ names_outline ns except (read_in n l) ∙ read_in_outline n l ]
+
+in_block_keeps : (change : LayerState → LayerState) → ((l : LayerState) → outline (change l) ≡ outline l) → (env : Environment) → surroundings (record env { chain = in_block change env.chain }) ≡ surroundings env
+in_block_keeps change h env =
+    with_layers (in_block change env.chain) env (outline_around (in_block change env.chain) env.chain (block_outline change h env.chain))
+
+pub names_read_here_keep : (names except : List (List ℕ)) (env : Environment) → surroundings (after_names_read_here names except env) ≡ surroundings env
+unfolding after_names_read_here
+names_read_here_keep names except env = in_block_keeps (names_read names except) (names_outline names except) env
+
+pub all_read_here_keeps : (except : List (List ℕ)) (env : Environment) → surroundings (after_all_read_here except env) ≡ surroundings env
+unfolding after_all_read_here
+all_read_here_keeps except env = in_block_keeps (all_read_but except) (λ l. refl) env
+
+-- Reads where a template was called
+
+pub caller_read_keeps : (name : List ℕ) (env : Environment) → surroundings (after_caller_read name env) ≡ surroundings env
+unfolding after_caller_read
+caller_read_keeps name env = with_callers (with_caller (chain_read name) env.callers) env (callers_keep (chain_read name) (chain_read_outline name) env.callers)
+
+invoker_keeps : (change : LayerState → LayerState) → ((l : LayerState) → outline (change l) ≡ outline l) → (env : Environment) → surroundings (record env { callers = with_caller (in_block change) env.callers }) ≡ surroundings env
+invoker_keeps change h env =
+    with_callers (with_caller (in_block change) env.callers) env (callers_keep (in_block change) (block_outline change h) env.callers)
+
+pub invoker_entry_read_keeps : (name : List ℕ) (env : Environment) → surroundings (after_invoker_entry_read name env) ≡ surroundings env
+unfolding after_invoker_entry_read
+invoker_entry_read_keeps name env = invoker_keeps (read_in name) (read_in_outline name) env
+
+pub invoker_read_keeps : (env : Environment) → surroundings (after_invoker_read env) ≡ surroundings env
+unfolding after_invoker_read
+invoker_read_keeps env = invoker_keeps all_read (λ l. refl) env
+
+pub invoker_read_but_keeps : (except : List (List ℕ)) (env : Environment) → surroundings (after_invoker_read_but except env) ≡ surroundings env
+unfolding after_invoker_read_but
+invoker_read_but_keeps except env = invoker_keeps (all_read_but except) (λ l. refl) env
+
+pub invoker_names_read_keep : (names except : List (List ℕ)) (env : Environment) → surroundings (after_invoker_names_read names except env) ≡ surroundings env
+unfolding after_invoker_names_read
+invoker_names_read_keep names except env = invoker_keeps (names_read names except) (names_outline names except) env
+
+-- Forwarding
+
+origin_read_keeps : (origin : Origin) (name : List ℕ) (env : Environment) → surroundings (origin_read origin name env) ≡ surroundings env
+origin_read_keeps (from_entries entries) name env = refl
+origin_read_keeps from_invoker name env = caller_read_keeps name env
+
+given_if_keeps : (name : List ℕ) (o : Option Val) (env : Environment) → surroundings (given_if name o env) ≡ surroundings env
+given_if_keeps name None env = refl
+given_if_keeps name (Some v) env = given_keeps name v env
+
+names_given_keep : (value : List ℕ → Option Val) (origin : Origin) (names : List (List ℕ)) (env : Environment) → surroundings (names_given value origin names env) ≡ surroundings env
+names_given_keep value origin [] env = refl
+names_given_keep value origin (n ∷ ns) env =
+    names_given_keep value origin ns (given_if n (value n) (origin_read origin n env)) ∙ given_if_keeps n (value n) (origin_read origin n env) ∙ origin_read_keeps origin n env
+
+unless_keeps : (o : Option (List ℕ)) (env after : Environment) → surroundings after ≡ surroundings env → IsKept env (forwarded_unless o after)
+unless_keeps None env after h = h
+unless_keeps (Some name) env after h = tt
+
+pub names_forwarded_keep : (origin : Origin) (names except : List (List ℕ)) (env : Environment) → IsKept env (names_forwarded origin names except env)
+unfolding names_forwarded
+names_forwarded_keep origin names except env =
+    unless_keeps (find (is_set_here env) (forwarded_names origin names except env)) env (names_given (origin_value origin env) origin (forwarded_names origin names except env) env) (names_given_keep (origin_value origin env) origin (forwarded_names origin names except env) env)
+
+entries_given_keep : (except : List (List ℕ)) (entries : Table Val) (env : Environment) → surroundings (entries_given except entries env) ≡ surroundings env
+entries_given_keep except [] env = refl
+entries_given_keep except (e ∷ es) env =
+    elim (is_one_of e.0 except) as (λ b. surroundings (entries_given except es (if b then env else given e.0 e.1 env)) ≡ surroundings env) [ true ↦ entries_given_keep except es env | false ↦ entries_given_keep except es (given e.0 e.1 env) ∙ given_keeps e.0 e.1 env ]
+
+pub all_forwarded_keep : (origin : Origin) (except : List (List ℕ)) (env : Environment) → surroundings (all_forwarded origin except env) ≡ surroundings env
+unfolding all_forwarded
+all_forwarded_keep (from_entries entries) except env = entries_given_keep (target_name ∷ except) entries env
+all_forwarded_keep from_invoker except env =
+    entries_given_keep (target_name ∷ except) (invoker_entries env) (after_invoker_read env) ∙ invoker_read_keeps env
+
+-- Imports
+
+values_given_keep : (values : Table Val) (env : Environment) → surroundings (values_given values env) ≡ surroundings env
+values_given_keep [] env = refl
+values_given_keep (e ∷ es) env = values_given_keep es (given e.0 e.1 env) ∙ given_keeps e.0 e.1 env
+
+import_keeps : (value : ImportState) (env : Environment) → surroundings (with_import value env) ≡ surroundings env
+unfolding surroundings
+import_keeps value env = values_given_keep value.scope.variables env
+
+known_keeps : (value : ImportState) (env : Environment) → surroundings (knowing value env) ≡ surroundings env
+unfolding surroundings
+known_keeps value env = refl
+
+merged_unless_keeps : (o : Option (List ℕ)) (env after : Environment) → surroundings after ≡ surroundings env → IsKept env (merged_unless o after)
+merged_unless_keeps None env after h = h
+merged_unless_keeps (Some name) env after h = tt
+
+pub merged_keeps : (value : ImportState) (env : Environment) → IsKept env (merged value env)
+unfolding merged
+merged_keeps value env =
+    merged_unless_keeps (conflict_in value (knowing value env) env.chain.inner) env (with_import value (knowing value env)) (import_keeps value (knowing value env) ∙ known_keeps value env)
+
+-- The blocks of items
+
+pub in_item_ends : (env after : Environment) → surroundings after ≡ surroundings (in_item true env) → env.setting.in_item ≡ false → surroundings (in_item false after) ≡ surroundings env
+unfolding surroundings
+in_item_ends env after h e =
+    ap (λ (s : Environment). in_item false s) h
+    ∙ ap (λ (b : Bool). record (surroundings env) { setting = record env.setting { in_item = b } }) (sym e)
+
+pub same_item : (env after : Environment) → surroundings after ≡ surroundings env → after.setting.in_item ≡ env.setting.in_item
+unfolding surroundings
+same_item env after h = ap (λ (s : Environment). s.setting.in_item) h
