@@ -10,3 +10,12 @@ pub mod OpeningTrees
 pub mod CallTrees
 pub mod Evaluations
 pub mod ImportTrees
+pub mod Ends
+pub mod KeptBySteps
+pub mod KeptBySelections
+pub mod KeptByOpenings
+pub mod KeptByCalls
+pub mod KeptByBlocks
+pub mod Lists
+pub mod SameRuns
+pub mod SameBlocks

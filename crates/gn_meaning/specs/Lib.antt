@@ -15,3 +15,5 @@ pub mod OpeningCalls
 pub mod FunctionCalls
 pub mod Meaning
 pub mod Laws
+pub mod BlockLaws
+pub mod TemplateLaws

@@ -1,10 +1,15 @@
 //! What a block of the language means.
 #![tactic(auto)]
 
+mod block_laws;
 mod function;
 mod laws;
 mod rule;
 
+pub use block_laws::{
+    bodies_never_call_their_templates, evaluations_leave_their_surroundings,
+    lists_are_the_values_of_their_items,
+};
 pub use function::{Changing, Function, Named, Opening, Plain, TargetKind};
 pub use laws::{
     evaluations_are_trees, evaluations_depend_on_what_they_ask, evaluations_stop_at_answers,

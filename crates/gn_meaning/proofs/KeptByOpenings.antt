@@ -1,0 +1,187 @@
+-- What the calls that open a scope leave around the scope in which they stand, where their blocks and the bodies of templates do so.
+use Rattle.std.proofs.Common.{◌≡◌, ℕ, Bool, true, false, nat_lt, if◌then◌else◌, List, [], ◌∷◌, Option, Some, None, Result, Ok, Err, IfOk, refl, sym, ◌∙◌, true≢false}
+use Rattle.gn_tree.specs.declared.position.Position.{Position}
+use Rattle.gn_tree.specs.declared.tree.Call.{Call}
+use Rattle.gn_values.specs.Val.{Val, vstr}
+use Rattle.gn_values.specs.Imported.{DefinitionState}
+use Rattle.gn_labels.specs.Names.{is_name}
+use Rattle.gn_faults.specs.declared.fault.Fault.{Fault}
+use Rattle.gn_items.specs.declared.item.Item.{Item}
+use Rattle.gn_items.specs.declared.item.ItemKind.{ItemKind}
+use Rattle.gn_items.specs.declared.item.ItemKind.TheVariants.{Group}
+use Rattle.gn_items.specs.Effects.{Effects, is_defined, with_item}
+use Rattle.gn_environment.specs.Environment.{Environment, value_of, after_read, entered, left, reported_here, in_item}
+use Rattle.gn_environment.specs.Templates.{template_of, block_begins, defaults_given, at_depth, body_begins, body_ends, reported_by_invoker}
+use Rattle.gn_environment.specs.Surroundings.{surroundings}
+use Rattle.gn_environment.proofs.Surroundings.{IsKept, read_keeps, left_keeps, defaults_given_keep, block_begins_so, defaults_set_keep, at_depth_keeps, depth_again, body_ends_keep}
+use Rattle.gn_environment.proofs.SurroundingsOfCalls.{in_item_ends, same_item}
+use Rattle.gn_meaning.specs.Steps.{Left, Steps, max_evaluation_depth}
+use Rattle.gn_meaning.specs.Items.{may_be_strings, item_here, deps_name, defined}
+use Rattle.gn_meaning.specs.Calls.{item_runs, item_end_runs, defaults_taken, scope_begun_runs}
+use Rattle.gn_meaning.specs.Templates.{opened_depth, invoker_checked, template_end_runs, is_build_file, allows_items, defaults_end_runs}
+use Rattle.gn_meaning.specs.Functions.{target_kind_of}
+use Rattle.gn_meaning.specs.OpeningCalls.{Opener, of_template, of_function, Opened, opened_item, opened_template, opened_defaults, template_begun_runs, item_begun_runs, template_named_runs, item_named_runs, target_kind_runs, target_of_runs, target_runs, defaults_begun_runs, begun_runs, closed_runs, opened_call_runs, valued_runs, opening_runs}
+use Rattle.gn_meaning.specs.declared.function.TargetKind.{TargetKind}
+use Rattle.gn_meaning.specs.declared.function.TargetKind.TheVariants.{Built, NotBuilt, NoKind}
+use Rattle.gn_meaning.specs.declared.function.Opening.TheVariants.{Item as ItemCall, Target, SetDefaults}
+use Rattle.gn_meaning.proofs.Ends.{Ends, Leaves, Keep, ends_do, moved, keep_ends, fails_so, so_if}
+use Rattle.gn_meaning.proofs.KeptBySteps.{checked_leaves}
+
+-- How a call begins, of which these surroundings are to be left: a template's call is open already, and has the depth before it
+
+abbrev pub Before : Opener → Environment → Environment → Type 0
+Before (of_template definition depth) s env = surroundings (at_depth depth env) ≡ s
+Before (of_function (ItemCall kind)) s env = (surroundings env ≡ s) × (env.setting.in_item ≡ false)
+Before (of_function Target) s env = surroundings env ≡ s
+Before (of_function SetDefaults) s env = surroundings env ≡ s
+
+pub before_moved : (o : Opener) (s env after : Environment) → surroundings after ≡ surroundings env → Before o s env → Before o s after
+before_moved (of_template definition depth) s env after h b = at_depth_keeps depth env after h ∙ b
+before_moved (of_function (ItemCall kind)) s env after h b = (h ∙ b.0, same_item env after h ∙ b.1)
+before_moved (of_function Target) s env after h b = h ∙ b
+before_moved (of_function SetDefaults) s env after h b = h ∙ b
+
+-- what stands around while the block of the call runs
+
+abbrev pub During : Opened → Environment → Environment → Type 0
+During (opened_item kind name) s env = (env0 : Environment) × (surroundings env0 ≡ s) × (env0.setting.in_item ≡ false) × (surroundings env ≡ surroundings (entered true (in_item true env0)))
+During (opened_template definition name depth) s env = (env0 : Environment) × (surroundings (at_depth depth env0) ≡ s) × (surroundings env ≡ surroundings (entered true env0))
+During (opened_defaults kind) s env = (env0 : Environment) × (surroundings env0 ≡ s) × (surroundings env ≡ surroundings (entered false env0))
+
+abbrev pub IsOpened : Environment → Left Opened → Type 0
+IsOpened s l = During l.value s l.environment
+
+-- Beginnings
+
+taken_leaves : (r : Result Environment (List ℕ)) (p : Position) (begun env : Environment) (out : Effects) → IsKept begun r → Leaves (surroundings begun) (defaults_taken r p env out)
+taken_leaves (Ok after) p begun env out h = keep_ends tt after out h
+taken_leaves (Err name) p begun env out h = fails_so _ out
+
+scope_begun_leaves : (kind name : List ℕ) (p : Position) (env : Environment) (out : Effects) → Leaves (surroundings (entered true env)) (scope_begun_runs kind name p env out)
+unfolding scope_begun_runs
+scope_begun_leaves kind name p env out =
+    moved (block_begins_so name env) (taken_leaves (defaults_given kind (block_begins name env)) p (block_begins name env) env out (defaults_given_keep kind (block_begins name env)))
+
+template_begun_so : (s : Environment) (d : DefinitionState) (depth : ℕ) (kind_name name : List ℕ) (p : Position) (env : Environment) (out : Effects) → surroundings (at_depth depth env) ≡ s → Ends (IsOpened s) (template_begun_runs d depth kind_name name p env out)
+unfolding template_begun_runs
+template_begun_so s d depth kind_name name p env out b =
+    ends_do _ _ (scope_begun_leaves kind_name name p env out) (λ l h. record { so = (env, b, h) })
+
+item_begun_so : (s : Environment) (kind : ItemKind) (kind_name name : List ℕ) (p : Position) (env : Environment) (out : Effects) → surroundings env ≡ s → env.setting.in_item ≡ false → Ends (IsOpened s) (item_begun_runs kind kind_name name p env out)
+unfolding item_begun_runs
+item_begun_so s kind kind_name name p env out b e =
+    ends_do _ _ (scope_begun_leaves kind_name name p (in_item true env) out) (λ l h. record { so = (env, b, e, h) })
+
+template_named_so : (s : Environment) (d : DefinitionState) (depth : ℕ) (v : Val) (call : Call) (env : Environment) (out : Effects) → surroundings (at_depth depth env) ≡ s → Ends (IsOpened s) (template_named_runs d depth v call env out)
+template_named_so s d depth (vstr name) call env out b = template_begun_so s d depth call.name name call.position env out b
+template_named_so s d depth v call env out b = fails_so _ out
+
+item_named_so : (s : Environment) (kind : ItemKind) (v : Val) (call : Call) (env : Environment) (out : Effects) → surroundings env ≡ s → env.setting.in_item ≡ false → Ends (IsOpened s) (item_named_runs kind v call env out)
+item_named_so s kind (vstr name) call env out b e = item_begun_so s kind call.name name call.position env out b e
+item_named_so s kind v call env out b e = fails_so _ out
+
+-- where items are allowed, no block of an item is open
+pub not_in_item : (env : Environment) → allows_items env ≡ true → env.setting.in_item ≡ false
+not_in_item env h =
+    elim env.setting.in_item as (λ b. (if b then false else is_build_file env.setting.kind) ≡ true → b ≡ false) [ true ↦ λ g. absurd (true≢false (sym g)) | false ↦ λ g. refl ] h
+
+target_kind_so : (s : Environment) (kind : TargetKind) (kind_name name : List ℕ) (call : Call) (env : Environment) (out : Effects) → surroundings env ≡ s → Ends (IsOpened s) (target_kind_runs kind kind_name name call env out)
+target_kind_so s (Built kind) kind_name name call env out b = by (allows_items env) refl
+  where
+    by : (r : Bool) → allows_items env ≡ r → Ends (IsOpened s) (target_kind_runs (Built kind) kind_name name call env out)
+    by true e = rw e (item_begun_so s kind kind_name name call.position env out b (not_in_item env e))
+    by false e = rw e (fails_so _ out)
+target_kind_so s NotBuilt kind_name name call env out b = fails_so _ out
+target_kind_so s NoKind kind_name name call env out b = fails_so _ out
+
+target_of_so : (s : Environment) (d : Option DefinitionState) (n : ℕ) (kind_name name : List ℕ) (call : Call) (env : Environment) (out : Effects) → surroundings env ≡ s → Ends (IsOpened s) (target_of_runs d n kind_name name call env out)
+target_of_so s (Some d) n kind_name name call env out b =
+    so_if (nat_lt max_evaluation_depth (opened_depth n env)) _ _ (fails_so _ out)
+    (template_begun_so s d env.depth kind_name name call.position (at_depth (opened_depth n env) env) out (depth_again (opened_depth n env) env ∙ b))
+target_of_so s None n kind_name name call env out b = target_kind_so s (target_kind_of kind_name) kind_name name call env out b
+
+target_so : (s : Environment) (kind v : Val) (n : ℕ) (call : Call) (env : Environment) (out : Effects) → surroundings env ≡ s → Ends (IsOpened s) (target_runs kind v n call env out)
+unfolding target_runs
+target_so s (vstr kind_name) (vstr name) n call env out b = target_of_so s (template_of kind_name env) n kind_name name call env out b
+target_so s (vstr kind_name) v n call env out b = fails_so _ out
+target_so s kind v n call env out b = fails_so _ out
+
+defaults_begun_so : (s : Environment) (v : Val) (call : Call) (env : Environment) (out : Effects) → surroundings env ≡ s → Ends (IsOpened s) (defaults_begun_runs v call env out)
+defaults_begun_so s (vstr kind) call env out b = record { so = (env, b, refl) }
+defaults_begun_so s v call env out b = fails_so _ out
+
+pub begun_so : (s : Environment) (o : Opener) (vs : List Val) (n : ℕ) (call : Call) (env : Environment) (out : Effects) → Before o s env → Ends (IsOpened s) (begun_runs o vs n call env out)
+unfolding begun_runs
+begun_so s (of_template d depth) (v ∷ []) n call env out b = template_named_so s d depth v call env out b
+begun_so s (of_function (ItemCall kind)) (v ∷ []) n call env out b = item_named_so s kind v call env out b.0 b.1
+begun_so s (of_function Target) (kind ∷ v ∷ []) n call env out b = target_so s kind v n call env out b
+begun_so s (of_function SetDefaults) (v ∷ []) n call env out b = defaults_begun_so s v call env out b
+begun_so s o vs n call env out b = fails_so _ out
+
+-- Ends
+
+abbrev IsDefinedAround : Environment → Result (Item × Environment) Fault → Type 0
+IsDefinedAround env r = IfOk r (λ d. surroundings d.1 ≡ surroundings env)
+
+defined_if : (b : Bool) (item : Item) (fault : Fault) (env after : Environment) → surroundings after ≡ surroundings env → IsDefinedAround env (if b then Ok (item, after) else Err fault)
+defined_if true item fault env after h = h
+defined_if false item fault env after h = tt
+
+named_if : (b : Bool) (r : Result (Item × Environment) Fault) (fault : Fault) (env : Environment) → IsDefinedAround env r → IsDefinedAround env (if b then r else Err fault)
+named_if true r fault env h = h
+named_if false r fault env h = tt
+
+defined_keeps : (kind : ItemKind) (name : List ℕ) (p : Position) (env : Environment) → IsDefinedAround env (defined kind name p env)
+unfolding defined
+defined_keeps Group name p env =
+    named_if (is_name name) _ _ env (defined_if (may_be_strings (value_of deps_name env)) (item_here env.setting Group name p) _ env (after_read deps_name env) (read_keeps deps_name env))
+
+item_leaves : (r : Result (Item × Environment) Fault) (p : Position) (env0 env : Environment) (out : Effects) → surroundings env ≡ surroundings (entered true (in_item true env0)) → env0.setting.in_item ≡ false → IsDefinedAround env r → Leaves (surroundings env0) (item_runs r p env out)
+item_leaves (Err fault) p env0 env out h e k = fails_so _ out
+item_leaves (Ok d) p env0 env out h e k =
+    so_if (is_defined d.0.label out) _ _ (fails_so _ out)
+    (checked_leaves (reported_here d.1) _ (in_item false (left d.1)) d.1 (with_item d.0 out) (in_item_ends env0 (left d.1) (left_keeps true (in_item true env0) d.1 (k ∙ h)) e))
+
+item_end_leaves : (kind : ItemKind) (name : List ℕ) (p : Position) (env0 env : Environment) (out : Effects) → surroundings env ≡ surroundings (entered true (in_item true env0)) → env0.setting.in_item ≡ false → Leaves (surroundings env0) (item_end_runs kind name p env out)
+unfolding item_end_runs
+item_end_leaves kind name p env0 env out h e = item_leaves (defined kind name p env) p env0 env out h e (defined_keeps kind name p env)
+
+invoker_checked_so : {s : Environment} (unread : Option (List ℕ × (List ℕ × Position))) (steps : Steps (Option Val)) (env : Environment) (out : Effects) → Leaves s (steps env out) → Leaves s (invoker_checked unread steps env out)
+invoker_checked_so (Some unread) steps env out t = fails_so _ out
+invoker_checked_so None steps env out t = t
+
+template_end_leaves : (d : DefinitionState) (name : List ℕ) (depth : ℕ) (env0 env after : Environment) (out : Effects) → surroundings env ≡ surroundings (entered true env0) → surroundings after ≡ surroundings (body_begins d name env) → Leaves (surroundings (at_depth depth env0)) (template_end_runs depth after out)
+unfolding template_end_runs
+template_end_leaves d name depth env0 env after out h k =
+    invoker_checked_so (reported_by_invoker after) _ after out
+    (checked_leaves (reported_here after) _ (at_depth depth (body_ends after)) after out (at_depth_keeps depth env0 (body_ends after) (body_ends_keep d name env after k ∙ left_keeps true env0 env h)))
+
+defaults_end_leaves : (kind : List ℕ) (env0 env : Environment) (out : Effects) → surroundings env ≡ surroundings (entered false env0) → Leaves (surroundings env0) (defaults_end_runs kind env out)
+unfolding defaults_end_runs
+defaults_end_leaves kind env0 env out h = keep_ends _ _ out (defaults_set_keep kind env ∙ left_keeps false env0 env h)
+
+-- The whole
+
+-- the bodies of templates, each of which leaves what stands around its scope
+abbrev pub BodiesKeep : (DefinitionState → Position → Steps (Unit {0})) → Type 0
+BodiesKeep body = (definition : DefinitionState) (p : Position) → Keep (body definition p)
+
+module _ (body : DefinitionState → Position → Steps (Unit {0})) (b : BodiesKeep body) (block : Steps (Unit {0})) (u : Keep block) where
+  opened_leaves : (s : Environment) (o : Opened) (p : Position) (env : Environment) (out : Effects) → During o s env → Leaves s (opened_call_runs body o p block env out)
+  unfolding opened_call_runs closed_runs
+  opened_leaves s (opened_item kind name) p env out d =
+      ends_do _ _ (u env out) (λ l h. moved d.1 (item_end_leaves kind name p d.0 l.environment l.effects (h ∙ d.3) d.2))
+  opened_leaves s (opened_template definition name depth) p env out d =
+      ends_do _ _ (u env out) (λ l h. ends_do _ _ (b definition p (body_begins definition name l.environment) l.effects) (λ k g. moved d.1 (template_end_leaves definition name depth d.0 l.environment k.environment k.effects (h ∙ d.2) g)))
+  opened_leaves s (opened_defaults kind) p env out d =
+      ends_do _ _ (u env out) (λ l h. moved d.1 (defaults_end_leaves kind d.0 l.environment l.effects (h ∙ d.2)))
+
+  valued_leaves : (s : Environment) (o : Opener) (vs : List Val) (n : ℕ) (call : Call) (env : Environment) (out : Effects) → Before o s env → Leaves s (valued_runs body o vs n call block env out)
+  unfolding valued_runs
+  valued_leaves s o vs n call env out k =
+      ends_do _ _ (begun_so s o vs n call env out k) (λ l d. opened_leaves s l.value call.position l.environment l.effects d)
+
+  pub opening_leaves : (s : Environment) (o : Opener) (n : ℕ) (call : Call) (values : Steps (List Val)) → Keep values → (env : Environment) (out : Effects) → Before o s env → Leaves s (opening_runs body o n call values block env out)
+  unfolding opening_runs
+  opening_leaves s o n call values t env out k =
+      ends_do _ _ (t env out) (λ l h. valued_leaves s o l.value n call l.environment l.effects (before_moved o s env l.environment h k))
