@@ -72,7 +72,7 @@ fn eval_operand<L: Library + Definer>(
         Expr::Name { position, name } => Ok(read_name(alloc, name, *position, env)?),
         Expr::Integer { value, .. } => Ok(Value::Int(*value)),
         Expr::String { position, pieces } => {
-            Ok(Value::Str(expand(alloc, pieces.as_slice(), *position, env)?))
+            Ok(expand(alloc, pieces.as_slice(), *position, env)?)
         }
         Expr::Boolean { value, .. } => Ok(Value::Bool(*value)),
         Expr::Call(call) => eval_call(alloc, level, call, env, out, library),

@@ -14,7 +14,7 @@ use Rattle.gn_meaning.specs.Steps.{Steps, deeper}
 use Rattle.gn_meaning.specs.Words.{operated}
 use Rattle.gn_meaning.specs.Meaning.{operator_runs, truth_runs, picked_runs, operators_in, call_in, expr_runs, values_run, others_run, call_runs, body_runs, defined_runs, foreach_runs, assignment_runs, statement_runs, condition_runs, otherwise_runs, block_runs, calls, world}
 use Rattle.gn_meaning.proofs.Steps.{IsTreeBehind, AreQuiet, AreTrees, tree_do, tree_ends, tree_fails}
-use Rattle.gn_meaning.proofs.Words.{value_tree, name_tree, element_tree, base_tree, negation_tree, boolean_tree, list_tree, scope_tree, name_assigned_tree, element_changed_tree, pieces_tree}
+use Rattle.gn_meaning.proofs.Words.{value_tree, name_tree, element_tree, base_tree, negation_tree, boolean_tree, list_tree, scope_tree, string_tree, name_assigned_tree, element_changed_tree, pieces_tree}
 use Rattle.gn_meaning.proofs.Calls.{has_entry_tree, has_value_tree, loop_tree, call_value_tree}
 use Rattle.gn_meaning.proofs.OpeningTrees.{BodiesAreTrees}
 use Rattle.gn_meaning.proofs.CallTrees.{called_tree}
@@ -45,7 +45,7 @@ module _ (room : ℕ) (c : BodiesAreTrees (calls room)) where
     expr_tree : (n : ℕ) (e : ExprTree) (env : Environment) (out : Effects) → IsTreeBehind out.asked (λ a. expr_runs (world room a) n e env out)
     expr_tree n (name_expr p m) env out = name_tree m p env out
     expr_tree n (integer_expr p v) env out = tree_ends _ env out
-    expr_tree n (string_expr p pieces) env out = tree_do _ _ (pieces_tree pieces [] p env out) (λ text env1 out1. tree_ends _ env1 out1)
+    expr_tree n (string_expr p pieces) env out = tree_do _ _ (pieces_tree pieces [] env out) (λ text env1 out1. string_tree text p env1 out1)
     expr_tree n (boolean_expr p b) env out = tree_ends _ env out
     expr_tree n (call_expr k) env out = tree_do _ _ (call_tree_of n k env out) (λ v env1 out1. call_value_tree v (call_position k) env1 out1)
     expr_tree n (item_expr p base bracket index) env out =

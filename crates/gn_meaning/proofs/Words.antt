@@ -17,7 +17,7 @@ use Rattle.gn_environment.specs.Environment.{Environment, value_of, given, entri
 use Rattle.gn_environment.specs.Invoker.{names_invoker, is_invoker_here, invoker_entries, invoker_entry}
 use Rattle.gn_environment.specs.Assigning.{replaces, Refusal, replaces_nonempty, has_no_value, operator_refuses, ElementRefusal, base_has_no_value, element_refuses}
 use Rattle.gn_meaning.specs.Steps.{Left}
-use Rattle.gn_meaning.specs.Words.{value_or_fault, element_or_fault, value_or_undefined, invoker_runs, name_runs, element_of_base, entry_or_undefined, invoker_element_runs, element_runs, base_runs, negation_runs, boolean_runs, list_runs, scope_runs, text_added_runs, assigned_to, element_fault, element_assigned_to, changes_value, over_invoker, invoker_replaced_runs, name_assigned_runs, variable_element_assigned_runs, invoker_element_assigned_runs, element_assigned_runs}
+use Rattle.gn_meaning.specs.Words.{value_or_fault, element_or_fault, value_or_undefined, invoker_runs, name_runs, element_of_base, entry_or_undefined, invoker_element_runs, element_runs, base_runs, negation_runs, boolean_runs, list_runs, scope_runs, string_runs, assigned_to, element_fault, element_assigned_to, changes_value, over_invoker, invoker_replaced_runs, name_assigned_runs, variable_element_assigned_runs, invoker_element_assigned_runs, element_assigned_runs}
 use Rattle.gn_meaning.specs.Pieces.{subscript_runs, text_runs, piece_runs, pieces_run}
 use Rattle.gn_meaning.proofs.Steps.{IsTreeBehind, AreQuiet, tree_do, tree_ends, tree_fails, tree_if}
 
@@ -88,9 +88,9 @@ pub scope_tree : (p : Position) → AreQuiet (scope_runs p)
 unfolding scope_runs
 scope_tree p env out = tree_if (scope_fits (entries_here env)) _ _ (tree_ends _ _ out) (tree_fails _ out)
 
-text_added_tree : (text more : List ℕ) (p : Position) → AreQuiet (text_added_runs text more p)
-unfolding text_added_runs
-text_added_tree text more p env out = tree_if (text_fits (text ++ more)) _ _ (tree_ends _ env out) (tree_fails _ out)
+pub string_tree : (text : List ℕ) (p : Position) → AreQuiet (string_runs text p)
+unfolding string_runs
+string_tree text p env out = tree_if (text_fits text) _ _ (tree_ends _ env out) (tree_fails _ out)
 
 -- Assignments
 
@@ -159,7 +159,6 @@ piece_tree (ItemPiece p base s) env out =
     text_tree _ (tree_do _ _ (base_tree base p env out) (λ _ env1 out1. tree_do _ _ (subscript_tree s p env1 out1) (λ at env2 out2. element_tree base p at p env2 out2)))
 piece_tree (Entry p base entry) env out = text_tree _ (element_tree base p (vstr entry) p env out)
 
-pub pieces_tree : (pieces : List Piece) (text : List ℕ) (quote : Position) → AreQuiet (pieces_run pieces text quote)
-pieces_tree [] text quote env out = tree_ends text env out
-pieces_tree (piece ∷ pieces) text quote env out =
-    tree_do _ _ (piece_tree piece env out) (λ more env1 out1. tree_do _ _ (text_added_tree text more quote env1 out1) (λ longer env2 out2. pieces_tree pieces longer quote env2 out2))
+pub pieces_tree : (pieces : List Piece) (text : List ℕ) → AreQuiet (pieces_run pieces text)
+pieces_tree [] text env out = tree_ends text env out
+pieces_tree (piece ∷ pieces) text env out = tree_do _ _ (piece_tree piece env out) (λ more env1 out1. pieces_tree pieces (text ++ more) env1 out1)

@@ -14,7 +14,7 @@ use Rattle.gn_runs.specs.Runs.{Answers}
 use Rattle.gn_environment.specs.Environment.{entered, reported_here}
 use Rattle.gn_environment.specs.Imports.{import_left}
 use Rattle.gn_meaning.specs.Steps.{Steps, World, max_evaluation_depth, deeper, then_do, ends}
-use Rattle.gn_meaning.specs.Words.{fails_at, value_or_fault, name_runs, element_runs, base_runs, negation_runs, operated, boolean_runs, list_runs, scope_runs, name_assigned_runs, element_assigned_runs}
+use Rattle.gn_meaning.specs.Words.{fails_at, value_or_fault, name_runs, element_runs, base_runs, negation_runs, operated, boolean_runs, list_runs, scope_runs, string_runs, name_assigned_runs, element_assigned_runs}
 use Rattle.gn_meaning.specs.Calls.{has_entry_runs, has_value_runs, loop_runs, call_value_runs, checked_end}
 use Rattle.gn_meaning.specs.FunctionCalls.{called_runs}
 use Rattle.gn_meaning.specs.Pieces.{pieces_run}
@@ -58,7 +58,7 @@ unfoldable mutual
   pub expr_runs : World → ℕ → ExprTree → Steps Val
   expr_runs w n (name_expr p m) env out = name_runs m p env out
   expr_runs w n (integer_expr p v) env out = ends (vint v) env out
-  expr_runs w n (string_expr p pieces) env out = then_do (pieces_run pieces [] p env out) (λ text env1 out1. ends (vstr text) env1 out1)
+  expr_runs w n (string_expr p pieces) env out = then_do (pieces_run pieces [] env out) (λ text env1 out1. string_runs text p env1 out1)
   expr_runs w n (boolean_expr p b) env out = ends (vbool b) env out
   expr_runs w n (call_expr c) env out = then_do (call_runs w n c env out) (λ v env1 out1. call_value_runs v (call_position c) env1 out1)
   expr_runs w n (item_expr p base bracket index) env out =

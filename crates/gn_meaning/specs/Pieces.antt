@@ -1,5 +1,5 @@
 -- The expansions of a string.
-use Rattle.std.specs.Prelude.{ℕ, false, List, [], ◌∷◌}
+use Rattle.std.specs.Prelude.{ℕ, false, List, [], ◌∷◌, ◌++◌}
 use Rattle.gn_tree.specs.declared.position.Position.{Position}
 use Rattle.gn_tree.specs.declared.piece.Piece.{Piece}
 use Rattle.gn_tree.specs.declared.piece.Piece.TheVariants.{Bytes, Name, Item, Entry}
@@ -9,7 +9,7 @@ use Rattle.gn_values.specs.Val.{Val, vint, vstr}
 use Rattle.gn_values.specs.Text.{text_of}
 use Rattle.gn_runs.specs.Runs.{Run}
 use Rattle.gn_meaning.specs.Steps.{Left, Steps, then_do, ends}
-use Rattle.gn_meaning.specs.Words.{name_runs, base_runs, element_runs, text_added_runs}
+use Rattle.gn_meaning.specs.Words.{name_runs, base_runs, element_runs}
 
 -- the subscript of an expansion, whose faults stand at its `$`
 abbrev pub subscript_runs : Subscript → Position → Steps Val
@@ -29,9 +29,7 @@ piece_runs (Item position base subscript) env out =
     (λ _ env1 out1. then_do (subscript_runs subscript position env1 out1) (λ at env2 out2. element_runs base position at position env2 out2)))
 piece_runs (Entry position base entry) env out = text_runs (element_runs base position (vstr entry) position env out)
 
--- the pieces behind a text, in order
-abbrev pub pieces_run : List Piece → List ℕ → Position → Steps (List ℕ)
-pieces_run [] text quote env out = ends text env out
-pieces_run (piece ∷ pieces) text quote env out =
-    then_do (piece_runs piece env out)
-    (λ more env1 out1. then_do (text_added_runs text more quote env1 out1) (λ longer env2 out2. pieces_run pieces longer quote env2 out2))
+-- the texts of pieces in order, behind the text that is there. How long it gets is judged once all pieces have theirs
+abbrev pub pieces_run : List Piece → List ℕ → Steps (List ℕ)
+pieces_run [] text env out = ends text env out
+pieces_run (piece ∷ pieces) text env out = then_do (piece_runs piece env out) (λ more env1 out1. pieces_run pieces (text ++ more) env1 out1)

@@ -1,5 +1,5 @@
 -- Small steps of an evaluation, which ask nothing.
-use Rattle.std.specs.Prelude.{ℕ, Bool, true, false, ◌&&◌, not, ◌++◌, List, [], ◌∷◌, if◌then◌else◌, Option, Some, None, Result, Ok, Err}
+use Rattle.std.specs.Prelude.{ℕ, Bool, true, false, ◌&&◌, not, List, [], ◌∷◌, if◌then◌else◌, Option, Some, None, Result, Ok, Err}
 use Rattle.gn_tree.specs.declared.position.Position.{Position}
 use Rattle.gn_tree.specs.declared.operator.AssignOp.{AssignOp}
 use Rattle.gn_tree.specs.declared.operator.AssignOp.TheVariants as assign
@@ -134,10 +134,10 @@ unfoldable pub scope_runs : Position → Environment → Effects → Run (Left V
 scope_runs position env out =
     if scope_fits (entries_here env) then ends (vscope (binds_of (entries_here env))) (left env) out else fails_at code.TooLong position [] env out
 
--- a text that grows, within the limit or a fault at its opening quote
-unfoldable pub text_added_runs : List ℕ → List ℕ → Position → Environment → Effects → Run (Left (List ℕ))
-text_added_runs text more position env out =
-    if text_fits (text ++ more) then ends (text ++ more) env out else fails_at code.TooLong position [] env out
+-- a string that is written out, within the limit or a fault at its opening quote
+unfoldable pub string_runs : List ℕ → Position → Environment → Effects → Run (Left Val)
+string_runs text position env out =
+    if text_fits text then ends (vstr text) env out else fails_at code.TooLong position [] env out
 
 -- an assignment that was made or refused: what replaces stands at the operator, a missing value at the name
 unfoldable pub assigned_to : Result Environment Refusal → List ℕ → Position → Position → Environment → Effects → Run (Left (Unit {0}))

@@ -1,5 +1,6 @@
 pub mod Ends
 pub mod Definitions
+pub mod Texts
 pub mod Selected
 pub mod Resolved
 pub mod Answers

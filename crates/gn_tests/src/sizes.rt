@@ -40,6 +40,16 @@ fn a_string_grows_up_to_the_limit(rt: HostRuntime) -> Result<(), Fail> {
     Ok(())
 }
 
+// All parts of a string are evaluated before its length is judged.
+#[test]
+fn a_string_is_too_long_once_its_parts_are_evaluated(rt: HostRuntime) -> Result<(), Fail> {
+    let too_long = "1ERROR at //BUILD.gn:26:7: Value is too long.\n";
+    let undefined = "1ERROR at //BUILD.gn:26:12: Undefined identifier \"nope\".\n";
+    assert!(rt; doubled_says(&rt, rt.alloc(), "print(\"$s$s\")\n", too_long)?);
+    assert!(rt; doubled_says(&rt, rt.alloc(), "print(\"$s$s$nope\")\n", undefined)?);
+    Ok(())
+}
+
 #[test]
 fn a_file_of_the_limit_is_read_and_a_longer_one_is_too_big(rt: HostRuntime) -> Result<(), Fail> {
     let too_big = "1ERROR at //BUILD.gn:1:1: File \"//BUILD.gn\" is too big.\n";
