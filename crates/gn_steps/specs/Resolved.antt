@@ -8,8 +8,7 @@ use Rattle.gn_environment.specs.Environment.{Environment}
 use Rattle.gn_meaning.specs.Steps.{Left, content_asked}
 use Rattle.gn_meaning.specs.Imports.{place_here, content_runs, imported_runs}
 use Rattle.gn_steps.specs.declared.step.StepEnd.{StepEnd}
-use Rattle.gn_steps.specs.declared.step.StepEnd.TheVariants as step
-use Rattle.gn_steps.specs.Ends.{IsFault, IsStepFailure}
+use Rattle.gn_steps.specs.Ends.{IsStepFailure}
 
 -- an import of the file at a path, whose argument and whose name stand there: its content is asked for
 abbrev pub path_asked : List ℕ → Answers → Position → Position → Environment → Effects → Run (Left (Option Val))

@@ -1,4 +1,4 @@
-use Rattle.std.proofs.Common.{◌≡◌, sym, ◌∙◌, arith}
+use Rattle.std.proofs.Common.{sym, ◌∙◌, arith}
 use Rattle.gn_steps.proofs.Positions.{position_at, position_past}
 use Rattle.gn_steps.proofs.arguments.argument_position.Goals as goal
 

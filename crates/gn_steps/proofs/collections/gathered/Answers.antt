@@ -1,4 +1,4 @@
-use Rattle.std.proofs.Common.{◌≡◌, [], ◌∷◌, ◌++◌, map, sym, ◌∙◌, append_assoc, arith}
+use Rattle.std.proofs.Common.{[], ◌∷◌, ◌++◌, map, append_assoc, arith}
 use Rattle.std.proofs.lemmas.Grind.{common_steps}
 use Rattle.std.specs.Vec.Iter.{into_iter_items}
 use Rattle.gn_values.specs.View.{val_of}
