@@ -1,0 +1,4 @@
+pub mod Lists
+pub mod FoldLemmas
+pub mod FileLemmas
+pub mod GroupLemmas

@@ -1,0 +1,8 @@
+use Rattle.std.proofs.Common.{◌≡◌, [], drop, map}
+use Rattle.gn_values.specs.View.{val_of}
+use Rattle.gn_define.specs.Reading.{label_in, all_read}
+use Rattle.gn_define.proofs.strings.labels_in.Given as goal
+
+abbrev pub invariant-loop-value : goal.invariant-loop-value
+invariant-loop-value l =
+    all_read (label_in l.fn.place) l.made.items (map val_of (drop l.value-index l.values)) ≡ all_read (label_in l.fn.place) [] (map val_of l.values)

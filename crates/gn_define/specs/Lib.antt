@@ -1,0 +1,9 @@
+pub mod Faults
+pub mod Reading
+pub mod Files
+pub mod Held
+pub mod Checking
+pub mod Fields
+pub mod Demands
+pub mod Defining
+pub mod Laws

@@ -1,0 +1,49 @@
+//! Laws of what blocks define, each as a call that does nothing and whose contract is the law.
+
+ghost use Rattle.std.specs.Prelude.{◌≡◌, ℕ, List, [], ◌++◌, Option, Ok, codes};
+ghost use Rattle.std.specs.List.{filter};
+ghost use Rattle.gn_rows.specs.declared.row.Row.{Row};
+ghost use Rattle.gn_rows.specs.Tables.{built_group_rows};
+ghost use Rattle.gn_rows.specs.declared.variable.Variable.{Variable};
+ghost use Rattle.gn_rows.specs.Tables.{rows_of, demands_of};
+ghost use Rattle.gn_substs.specs.declared.subst.Subst.{Subst};
+ghost use Rattle.gn_values.specs.Val.{Val};
+ghost use Rattle.gn_define.specs.declared.forms.FileRole.TheVariants.{Output};
+ghost use Rattle.gn_define.specs.declared.place.Where.{Where};
+ghost use Rattle.gn_define.specs.Defining.{defined};
+ghost use Rattle.gn_define.specs.Fields.{filled};
+ghost use Rattle.gn_define.specs.Files.{file_in};
+ghost use Rattle.gn_define.specs.Held.{Held};
+ghost use Rattle.gn_define.specs.Laws.{is_set, AreFieldsOf, file_texts, StandBelow, AreMet, built_group};
+ghost use Rattle.gn_define.specs.Reading.{then_do};
+
+/// The first rows are judged before the others: their fault stands, and else the others go on from their fields.
+#[tactic(auto, using(crate::proofs::FoldLemmas::goes_on))]
+pub fn first_rows_come_first()
+    ensures { (w : Where) (values : List ℕ → Option Val) (made : List (Variable × Held)) (first others : List Row) → filled w values made (first ++ others) ≡ then_do (λ more. filled w values more others) (filled w values made first) }
+{}
+
+/// An item that is defined has a field for just those rows of its kind whose variable its block sets, in their order, and each field is
+/// what the value of its variable is read as.
+#[tactic(auto, using(crate::proofs::FoldLemmas::fields_are))]
+pub fn fields_are_of_the_block()
+    ensures { (w : Where) (name : List ℕ) (values : List ℕ → Option Val) (fields : List (Variable × Held)) → defined w name values ≡ Ok fields → AreFieldsOf w values [] fields (filter (is_set values) (rows_of w.kind)) }
+{}
+
+/// An item that is defined meets all that its kind demands.
+#[tactic(auto, using(crate::proofs::FoldLemmas::demands_are_met))]
+pub fn demands_are_met()
+    ensures { (w : Where) (name : List ℕ) (values : List ℕ → Option Val) (fields : List (Variable × Held)) → defined w name values ≡ Ok fields → AreMet fields (demands_of w.kind name) }
+{}
+
+/// A text that is taken as an output means, for each source, a path strictly below the build directory.
+#[tactic(auto, using(crate::proofs::FileLemmas::outputs_below))]
+pub fn outputs_stand_below_the_build_directory()
+    ensures { (w : Where) (sources : List (List ℕ)) (text : List ℕ) (subst : Subst) → file_in w Output sources text ≡ Ok subst → StandBelow w (file_texts w Output sources subst) }
+{}
+
+/// What is built of groups so far is `deps` alone: without a value, or a list of strings.
+#[tactic(auto, using(crate::proofs::GroupLemmas::built_group_is))]
+pub fn built_groups_are_their_deps()
+    ensures { (w : Where) (values : List ℕ → Option Val) → filled w values [] built_group_rows ≡ built_group (values (codes "deps")) }
+{}
