@@ -1,8 +1,10 @@
-//! Tests of the calls on values and of build arguments, which stand on nothing of the evaluator.
+//! Tests of the calls on values, of build arguments and of the definition of items, which stand on nothing of the evaluator.
 #![tactic(auto)]
 
 #[cfg(test)]
 mod arguments;
+#[cfg(test)]
+mod define;
 #[cfg(test)]
 mod labels;
 #[cfg(test)]

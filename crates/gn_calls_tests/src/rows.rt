@@ -85,7 +85,7 @@ fn deep(alloc: Global, depth: usize) -> Result<Value, AllocError> {
     Ok(value)
 }
 
-fn value(alloc: Global, argument: &Argument) -> Result<Value, AllocError> {
+pub(crate) fn value(alloc: Global, argument: &Argument) -> Result<Value, AllocError> {
     match argument {
         Integer(number) => Ok(Value::Int(*number)),
         String(bytes) => Ok(Value::Str(Text::from_bytes(alloc, *bytes)?)),
