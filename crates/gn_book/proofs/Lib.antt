@@ -1,0 +1,9 @@
+pub mod Standing
+pub mod Keeping
+pub mod Steps
+pub mod Numbering
+pub mod Walks
+pub mod Back
+pub mod Chains
+pub mod Runs
+pub mod Blocking

@@ -1,0 +1,357 @@
+// The book: what is claimed, blocked and filed.
+
+ghost use Rattle.std.specs.Prelude.{◌≡◌, ◌<◌, ◌≤◌, ◌+◌, [], ◌∷◌, ◌++◌, None, Some, IfOk, IfErr, OnOk, OnErr, length, slice_get, slice_set, option_map, ◌↔◌, Bool, true, if◌then◌else◌, false, not, map, vec_len, vec_capacity};
+ghost use Rattle.std.specs.List.{list_any};
+ghost use Rattle.indexmap.specs.IndexSet.{spare};
+ghost use Rattle.gn_core.specs.Keys.{same_key};
+ghost use Rattle.gn_core.specs.Machine.{Claim as claimed, File as filed, Stop as stopping};
+ghost use Rattle.gn_book.specs.declared.book.Claim.{Claim};
+ghost use Rattle.gn_book.specs.declared.book.Blocked.TheVariants.{Work, Wait, Cyclic};
+ghost use Rattle.gn_book.specs.Blocks.{LeadsBack, BlocksAs};
+ghost use Rattle.gn_book.specs.Keys.{key_of};
+ghost use Rattle.gn_book.specs.Logs.{Log, state_of, with_key, with_event, block_event, key_at, events_by, IsFree, cause_in, HasKeys, has_stopped, earlier, first_cause};
+ghost use Rattle.gn_book.specs.declared.status.Status.TheVariants.{Open};
+
+use crate::answer::Answer;
+use crate::chain::leads_to;
+use crate::event::{Block, Cause, Event, KeyId};
+use crate::key::Key;
+use crate::status::{Holder, Status, status_at};
+use gn_paths::Place;
+use indexmap::IndexSet;
+use std::alloc::{AllocError, Global};
+use std::marker::Model;
+
+/// The leave to find out what a key names. It can't be copied: who has it alone may file the answer.
+#[derive(Debug, Drop)]
+pub struct Claim {
+    /// What is to be found out.
+    pub key: Key,
+    /// The seat that has the claim.
+    pub seat: u32,
+    /// The number of the key.
+    pub number: KeyId,
+}
+
+// Makes room for one more event, and for the stops that may follow.
+fn make_room(log: &mut Vec<Event>, left: u32) -> Result<(), AllocError>
+    ensures items { log.new.items ≡ log.old.items }
+    ensures len { vec_len log.new ≡ vec_len log.old }
+    ensures room { OnOk result (vec_len log.new + 1 + left ≤ vec_capacity log.new) }
+    ensures kept { vec_capacity log.old ≤ vec_capacity log.new }
+{
+    log.reserve(left as usize + 1)
+}
+
+// Puts an event behind the others; there is room for it.
+fn note(log: &mut Vec<Event>, event: Event)
+    requires { vec_len log.old < vec_capacity log.old }
+    ensures items { log.new.items ≡ log.old.items ++ event ∷ [] }
+    ensures len { vec_len log.new ≡ vec_len log.old + 1 }
+    ensures capacity { vec_capacity log.old ≤ vec_capacity log.new }
+{
+    let _ = log.push(event);
+}
+
+// A key stands otherwise.
+fn stand<A: Drop>(statuses: &mut Vec<Status<A>>, key: KeyId, status: Status<A>)
+    requires { key < length statuses.old.items }
+    ensures { statuses.new.items ≡ slice_set statuses.old.items key status }
+{
+    statuses[key] = status;
+}
+
+// Makes room for one more key.
+fn make_places<A>(keys: &mut IndexSet<Key>, statuses: &mut Vec<Status<A>>) -> Result<(), AllocError>
+    ensures keys { keys.new.keys ≡ keys.old.keys }
+    ensures statuses { statuses.new.items ≡ statuses.old.items }
+    ensures spare { OnOk result (0 < spare keys.new) }
+    ensures room { OnOk result (vec_len statuses.new < vec_capacity statuses.new) }
+{
+    statuses.reserve(1)?;
+    keys.reserve(1)
+}
+
+// The number of a key, and whether it is new; there is room for it.
+fn put_key(keys: &mut IndexSet<Key>, key: Key) -> (KeyId, bool)
+    requires { 0 < spare keys.old }
+    ensures keys { map key_of keys.new.keys ≡ (if list_any (same_key (key_of key)) (map key_of keys.old.keys) then map key_of keys.old.keys else map key_of keys.old.keys ++ key_of key ∷ []) }
+    ensures number { slice_get (map key_of keys.new.keys) result.0 ≡ Some (key_of key) }
+    ensures is_new { result.1 ≡ not (list_any (same_key (key_of key)) (map key_of keys.old.keys)) }
+{
+    match keys.insert_full(key) {
+        Ok(place) => place,
+        Err(_) => unreachable!(),
+    }
+}
+
+// A new key is open; there is room for it.
+fn add_open<A: Drop>(statuses: &mut Vec<Status<A>>, is_new: bool)
+    requires { vec_len statuses.old < vec_capacity statuses.old }
+    ensures { statuses.new.items ≡ (if is_new then statuses.old.items ++ Open ∷ [] else statuses.old.items) }
+{
+    if is_new {
+        let _ = statuses.push(Status::Open);
+    }
+}
+
+// The first cause stays.
+fn set_first(stop: &mut Option<Cause>, cause: Cause)
+    ensures { stop.new ≡ earlier stop.old (Some cause) }
+{
+    if stop.is_none() {
+        *stop = Some(cause);
+    }
+}
+
+impl Claim {
+    fn spend(self) {}
+}
+
+/// What comes of a key's waiting for another.
+#[derive(Debug, Drop)]
+pub enum Blocked {
+    /// The other key has its answer.
+    Ready,
+    /// Nobody had claimed the other key: now the seat has.
+    Work(Claim),
+    /// This seat has claimed the other key.
+    Wait(u32),
+    /// The chain of keys that wait, from the other key on, leads back to the key that begins to wait.
+    Cyclic,
+}
+
+// What comes of a wait for a key that a seat has claimed.
+fn wait_or_cycle(closes: bool, seat: u32) -> Blocked
+    ensures { result ≡ (if closes then Cyclic else Wait seat) }
+{
+    if closes {
+        Blocked::Cyclic
+    } else {
+        Blocked::Wait(seat)
+    }
+}
+
+/// The book of loading. Contracts see its keys, each at its number, and its log: the list of all events. What is claimed,
+/// blocked and filed is what that log leaves.
+#[derive(Drop)]
+pub struct Book<A: Answer> {
+    alloc: Global,
+    seats: u32,
+    // How many seats haven't stopped.
+    left: u32,
+    keys: IndexSet<Key>,
+    // How each key stands, by its number.
+    statuses: Vec<Status<A>>,
+    log: Vec<Event>,
+    // The cause of the first stop.
+    stop: Option<Cause>,
+}
+
+impl<A: Answer> Model for Book<A> {
+    ghost use Rattle.std.specs.Prelude.{map, vec_len, vec_capacity};
+    ghost use Rattle.gn_book.specs.Keys.{key_of};
+    ghost use Rattle.gn_book.specs.Logs.{Log};
+    ghost use Rattle.gn_book.specs.Standings.{standing_of};
+    ghost use Rattle.gn_book.specs.Books.{log_in, IsWhole};
+    ghost use Rattle.std.specs.Coded.{codes};
+    ghost use Rattle.gn_values.specs.ImportedCode.{import_code};
+
+    ghost Value = { Log };
+
+    ghost coded = { Prim.hlevel (codes, import_code) };
+
+    ghost view = { λ b. log_in b.seats (map key_of b.keys.keys) (map (standing_of A.meaning) b.statuses.items) b.log.items };
+
+    ghost invariant = { λ b. IsWhole b.seats b.left b.stop (map key_of b.keys.keys) (map (standing_of A.meaning) b.statuses.items) b.log.items (vec_len b.log) (vec_capacity b.log) };
+}
+
+impl<A: Answer> Book<A> {
+    /// A book with no events, for so many seats. Room for their stops is taken here.
+    pub fn new(alloc: Global, seats: u32) -> Result<Book<A>, AllocError>
+        ensures { IfOk result (λ book. book ≡ record { seats = seats; keys = []; events = [] }) }
+    {
+        let mut log = Vec::new(alloc);
+        log.reserve(seats as usize)?;
+        Ok(Book {
+            alloc,
+            seats,
+            left: seats,
+            keys: IndexSet::new(alloc),
+            statuses: Vec::new(alloc),
+            log,
+            stop: None,
+        })
+    }
+
+    /// The key of a number. It takes no memory.
+    pub fn key(&self, key: KeyId) -> &Key
+        requires { key < length self.now.keys }
+        ensures { slice_get self.now.keys key ≡ Some (key_of result.now) }
+    {
+        match self.keys.get_index(key) {
+            Some(named) => named,
+            None => unreachable!(),
+        }
+    }
+
+    /// The answer of the key of a number. None comes exactly where none is filed. It takes no memory.
+    pub fn answer(&self, key: KeyId) -> Option<&A>
+        requires { key < length self.now.keys }
+        ensures { option_map (λ answer. A.meaning answer.now) result ≡ (state_of self.now).filed (key_at self.now key) }
+    {
+        status_at(&self.statuses, key).answer()
+    }
+
+    /// All events, the first one first. The answer of a key that was filed is that of `answer`. It takes no memory.
+    pub fn events(&self) -> &[Event]
+        ensures { events_by self.now result.now ≡ self.now.events }
+    {
+        &self.log
+    }
+
+    /// The cause of the first stop. None comes exactly where no seat has stopped. It takes no memory.
+    pub fn stopped(&self) -> Option<Cause>
+        ensures { option_map (cause_in (key_at self.now)) result ≡ first_cause (state_of self.now).stops }
+    {
+        self.stop
+    }
+
+    /// The number of a key. A key that has none gets the next one. After want of memory nothing is changed, and the key is
+    /// dropped.
+    pub fn number(&mut self, key: Key) -> Result<KeyId, AllocError>
+        ensures number { IfOk result (λ number. slice_get self.new.keys number ≡ Some (key_of key)) }
+        ensures ok { OnOk result (self.new ≡ with_key self.old (key_of key)) }
+        ensures err { OnErr result (self.new ≡ self.old) }
+    {
+        make_places(&mut self.keys, &mut self.statuses)?;
+        let (number, is_new) = put_key(&mut self.keys, key);
+        add_open(&mut self.statuses, is_new);
+        Ok(number)
+    }
+
+    /// The seat claims a key that has no answer and that nobody has claimed. After want of memory nothing is changed.
+    pub fn claim(&mut self, seat: u32, key: KeyId) -> Result<Claim, AllocError>
+        requires number { key < length self.old.keys }
+        requires free { IsFree (state_of self.old) (key_at self.old key) }
+        ensures claim { IfOk result (λ c. (key_of c.key ≡ key_at self.old key) × (c.seat ≡ seat) × (c.number ≡ key)) }
+        ensures ok { OnOk result (self.new ≡ with_event self.old (claimed seat (key_at self.old key))) }
+        ensures err { OnErr result (self.new ≡ self.old) }
+    {
+        let named = self.key(key).copy(self.alloc)?;
+        make_room(&mut self.log, self.left)?;
+        stand(&mut self.statuses, key, Status::Claimed(seat));
+        note(&mut self.log, Event::Claim(seat, key));
+        Ok(Claim {
+            key: named,
+            seat,
+            number: key,
+        })
+    }
+    /// Files the answer of a key that the seat of the claim has claimed. After want of memory nothing is changed, and the claim
+    /// and the answer come back.
+    pub fn file(&mut self, claim: Claim, answer: A) -> Result<(), (Claim, A)>
+        requires number { claim.number < length self.old.keys }
+        requires claimed { (state_of self.old).claims (key_at self.old claim.number) ≡ Some claim.seat }
+        ensures ok { OnOk result (self.new ≡ with_event self.old (filed claim.seat (key_at self.old claim.number) (A.meaning answer))) }
+        ensures err { OnErr result (self.new ≡ self.old) }
+        ensures back { IfErr result (λ back. back ≡ (claim, answer)) }
+    {
+        match make_room(&mut self.log, self.left) {
+            Err(_) => Err((claim, answer)),
+            Ok(()) => {
+                let seat = claim.seat;
+                let number = claim.number;
+                claim.spend();
+                stand(&mut self.statuses, number, Status::Filed(answer));
+                note(&mut self.log, Event::File(seat, number));
+                Ok(())
+            }
+        }
+    }
+
+    /// The seat, which hasn't stopped, stops. It takes no memory.
+    pub fn stop(&mut self, seat: u32, cause: Cause)
+        requires seat { seat < self.old.seats }
+        requires first { has_stopped self.old.events seat ≡ false }
+        requires cause { HasKeys self.old cause }
+        ensures { self.new ≡ with_event self.old (stopping seat (cause_in (key_at self.old) cause)) }
+    {
+        self.left -= 1;
+        set_first(&mut self.stop, cause);
+        note(&mut self.log, Event::Stop(seat, cause));
+    }
+    // The key of a claim waits for one that nobody has claimed: the seat claims that too.
+    fn block_free(&mut self, claim: &Claim, on: KeyId, place: Place) -> Result<Blocked, AllocError>
+        requires numbers { (claim.now.number < length self.old.keys) × (on < length self.old.keys) }
+        requires claimed { (state_of self.old).claims (key_at self.old claim.now.number) ≡ Some claim.now.seat }
+        requires free { IsFree (state_of self.old) (key_at self.old on) }
+        ensures claim { IfOk result (λ blocked. (c : Claim) × (blocked ≡ Work c) × (key_of c.key ≡ key_at self.old on) × (c.seat ≡ claim.now.seat) × (c.number ≡ on)) }
+        ensures ok { OnOk result (self.new ≡ with_event self.old (block_event self.old claim.now.seat claim.now.number on place false)) }
+        ensures err { OnErr result (self.new ≡ self.old) }
+    {
+        let named = self.key(on).copy(self.alloc)?;
+        make_room(&mut self.log, self.left)?;
+        let block = Block {
+            on,
+            place,
+            closes: false,
+        };
+        stand(&mut self.statuses, on, Status::Claimed(claim.seat));
+        stand(
+            &mut self.statuses,
+            claim.number,
+            Status::Blocked(claim.seat, on),
+        );
+        note(&mut self.log, Event::Block(claim.seat, claim.number, block));
+        Ok(Blocked::Work(Claim {
+            key: named,
+            seat: claim.seat,
+            number: on,
+        }))
+    }
+
+    // The key of a claim waits for one that a seat has claimed.
+    fn block_held(
+        &mut self,
+        claim: &Claim,
+        on: KeyId,
+        place: Place,
+        seat: u32,
+    ) -> Result<Blocked, AllocError>
+        requires numbers { (claim.now.number < length self.old.keys) × (on < length self.old.keys) }
+        requires claimed { (state_of self.old).claims (key_at self.old claim.now.number) ≡ Some claim.now.seat }
+        requires held { (state_of self.old).claims (key_at self.old on) ≡ Some seat }
+        ensures ok { IfOk result (λ blocked. (closes : Bool) × (blocked ≡ (if closes then Cyclic else Wait seat))
+            × ((closes ≡ true) ↔ LeadsBack self.old on claim.now.number)
+            × (self.new ≡ with_event self.old (block_event self.old claim.now.seat claim.now.number on place closes))) }
+        ensures err { OnErr result (self.new ≡ self.old) }
+    {
+        make_room(&mut self.log, self.left)?;
+        let closes = leads_to(&self.statuses, on, claim.number);
+        let block = Block { on, place, closes };
+        stand(
+            &mut self.statuses,
+            claim.number,
+            Status::Blocked(claim.seat, on),
+        );
+        note(&mut self.log, Event::Block(claim.seat, claim.number, block));
+        Ok(wait_or_cycle(closes, seat))
+    }
+    /// The key of a claim needs another, which a call at this place asks for. `Ready` comes exactly where the other key is filed,
+    /// and then nothing is changed; `Work` exactly where it is neither filed nor claimed; `Cyclic` exactly where the chain of
+    /// keys that wait, from the other key on, leads back to the key of the claim; `Wait` in the other cases. After want of
+    /// memory nothing is changed.
+    pub fn block(&mut self, claim: &Claim, on: KeyId, place: Place) -> Result<Blocked, AllocError>
+        requires numbers { (claim.now.number < length self.old.keys) × (on < length self.old.keys) }
+        requires claimed { (state_of self.old).claims (key_at self.old claim.now.number) ≡ Some claim.now.seat }
+        ensures ok { IfOk result (BlocksAs self.old self.new claim.now.seat claim.now.number on place) }
+        ensures err { OnErr result (self.new ≡ self.old) }
+    {
+        match status_at(&self.statuses, on).holder() {
+            Holder::Done => Ok(Blocked::Ready),
+            Holder::Nobody => self.block_free(claim, on, place),
+            Holder::Seat(seat) => self.block_held(claim, on, place, seat),
+        }
+    }
+}
