@@ -15,7 +15,7 @@ use Rattle.gn_values.specs.Imported.{ImportState}
 use Rattle.gn_environment.specs.Layers.{VariableState, LayerState}
 use Rattle.gn_environment.specs.Environment.{Environment}
 use Rattle.gn_environment.specs.Unread.{rank, stands_before, earlier, unread_at, first_unread_of, reported}
-use Rattle.gn_environment.specs.Imports.{other_value, other_template, other_defaults, first_name, is_less, lesser, knowing, conflict_in, merged, merged_unless, with_import}
+use Rattle.gn_environment.specs.Imports.{invoker_brought, other_value, other_template, other_defaults, first_name, is_less, lesser, knowing, conflict_in, merged, merged_unless, with_import}
 use Rattle.gn_environment.specs.Shown.{IsInOrder, ScopeIsInOrder, IsUnreadAmong, DiffersAmong, ConflictsAt}
 use Rattle.gn_environment.proofs.Names.{order}
 use Rattle.gn_environment.proofs.Least.{sooner, IsAtMost, not_before_itself, one_of_two, in_left, in_right}
@@ -152,6 +152,9 @@ module _ (value : ImportState) (env : Environment) where
   abbrev found : Option (List ℕ)
   found = conflict_in value (knowing value env) env.chain.inner
 
+  abbrev of_invoker : Option (List ℕ)
+  of_invoker = first_name (invoker_brought (knowing value env)) value.scope.variables
+
   abbrev of_values : Option (List ℕ)
   of_values = first_name (other_value env.chain.inner) value.scope.variables
 
@@ -161,24 +164,36 @@ module _ (value : ImportState) (env : Environment) where
   abbrev of_defaults : Option (List ℕ)
   of_defaults = first_name (other_defaults env.chain.inner) value.scope.defaults
 
+  abbrev of_calls : Option (List ℕ)
+  of_calls = lesser of_templates of_defaults
+
+  abbrev of_others : Option (List ℕ)
+  of_others = lesser of_values of_calls
+
   found_conflicts : (name : List ℕ) → found ≡ Some name → ConflictsAt value env name
-  found_conflicts name h = of_first (one_of_lesser of_values (lesser of_templates of_defaults) name h)
+  found_conflicts name h = of_invoker_or (one_of_lesser of_invoker of_others name h)
     where
       of_second : (of_templates ≡ Some name) ⊎ (of_defaults ≡ Some name) → ConflictsAt value env name
-      of_second (inl g) = inr (inl (first_differs (other_template (knowing value env) env.chain.inner) value.scope.templates name g))
-      of_second (inr g) = inr (inr (first_differs (other_defaults env.chain.inner) value.scope.defaults name g))
+      of_second (inl g) = inr (inr (inl (first_differs (other_template (knowing value env) env.chain.inner) value.scope.templates name g)))
+      of_second (inr g) = inr (inr (inr (first_differs (other_defaults env.chain.inner) value.scope.defaults name g)))
 
-      of_first : (of_values ≡ Some name) ⊎ (lesser of_templates of_defaults ≡ Some name) → ConflictsAt value env name
-      of_first (inl g) = inl (first_differs (other_value env.chain.inner) value.scope.variables name g)
+      of_first : (of_values ≡ Some name) ⊎ (of_calls ≡ Some name) → ConflictsAt value env name
+      of_first (inl g) = inr (inl (first_differs (other_value env.chain.inner) value.scope.variables name g))
       of_first (inr g) = of_second (one_of_lesser of_templates of_defaults name g)
+
+      of_invoker_or : (of_invoker ≡ Some name) ⊎ (of_others ≡ Some name) → ConflictsAt value env name
+      of_invoker_or (inl g) = inl (first_differs (invoker_brought (knowing value env)) value.scope.variables name g)
+      of_invoker_or (inr g) = of_first (one_of_lesser of_values of_calls name g)
 
   found_is_least : ScopeIsInOrder value.scope → (other : List ℕ) → ConflictsAt value env other → IsLowEnough found other
   found_is_least s other (inl m) =
-      lesser_left of_values (lesser of_templates of_defaults) other (first_is_least (other_value env.chain.inner) value.scope.variables other s.variables m)
+      lesser_left of_invoker of_others other (first_is_least (invoker_brought (knowing value env)) value.scope.variables other s.variables m)
   found_is_least s other (inr (inl m)) =
-      lesser_right of_values (lesser of_templates of_defaults) other (lesser_left of_templates of_defaults other (first_is_least (other_template (knowing value env) env.chain.inner) value.scope.templates other s.templates m))
-  found_is_least s other (inr (inr m)) =
-      lesser_right of_values (lesser of_templates of_defaults) other (lesser_right of_templates of_defaults other (first_is_least (other_defaults env.chain.inner) value.scope.defaults other s.defaults m))
+      lesser_right of_invoker of_others other (lesser_left of_values of_calls other (first_is_least (other_value env.chain.inner) value.scope.variables other s.variables m))
+  found_is_least s other (inr (inr (inl m))) =
+      lesser_right of_invoker of_others other (lesser_right of_values of_calls other (lesser_left of_templates of_defaults other (first_is_least (other_template (knowing value env) env.chain.inner) value.scope.templates other s.templates m)))
+  found_is_least s other (inr (inr (inr m))) =
+      lesser_right of_invoker of_others other (lesser_right of_values of_calls other (lesser_right of_templates of_defaults other (first_is_least (other_defaults env.chain.inner) value.scope.defaults other s.defaults m)))
 
   -- what a merge shows
   abbrev shown : Result Environment (List ℕ) → Option (List ℕ)
@@ -203,11 +218,13 @@ module _ (value : ImportState) (env : Environment) where
 
   none_found : found ≡ None → (other : List ℕ) → ConflictsAt value env other → ⊥
   none_found h other (inl m) =
-      none_differs (other_value env.chain.inner) value.scope.variables other (none_of_lesser of_values (lesser of_templates of_defaults) h).0 m
+      none_differs (invoker_brought (knowing value env)) value.scope.variables other (none_of_lesser of_invoker of_others h).0 m
   none_found h other (inr (inl m)) =
-      none_differs (other_template (knowing value env) env.chain.inner) value.scope.templates other (none_of_lesser of_templates of_defaults (none_of_lesser of_values (lesser of_templates of_defaults) h).1).0 m
-  none_found h other (inr (inr m)) =
-      none_differs (other_defaults env.chain.inner) value.scope.defaults other (none_of_lesser of_templates of_defaults (none_of_lesser of_values (lesser of_templates of_defaults) h).1).1 m
+      none_differs (other_value env.chain.inner) value.scope.variables other (none_of_lesser of_values of_calls (none_of_lesser of_invoker of_others h).1).0 m
+  none_found h other (inr (inr (inl m))) =
+      none_differs (other_template (knowing value env) env.chain.inner) value.scope.templates other (none_of_lesser of_templates of_defaults (none_of_lesser of_values of_calls (none_of_lesser of_invoker of_others h).1).1).0 m
+  none_found h other (inr (inr (inr m))) =
+      none_differs (other_defaults env.chain.inner) value.scope.defaults other (none_of_lesser of_templates of_defaults (none_of_lesser of_values of_calls (none_of_lesser of_invoker of_others h).1).1).1 m
 
   pub none_conflicts : (after : Environment) (other : List ℕ) → merged value env ≡ Ok after → ConflictsAt value env other → ⊥
   none_conflicts after other h m = none_found (merged_shows ∙ ap shown h) other m

@@ -10,7 +10,7 @@ use Rattle.gn_values.specs.Imported.{ScopeState, ImportState}
 use Rattle.gn_environment.specs.Layers.{VariableState}
 use Rattle.gn_environment.specs.Environment.{Environment}
 use Rattle.gn_environment.specs.Unread.{unread_at}
-use Rattle.gn_environment.specs.Imports.{other_value, other_template, other_defaults, knowing}
+use Rattle.gn_environment.specs.Imports.{invoker_brought, other_value, other_template, other_defaults, knowing}
 
 -- the names of a table stand in the order of their bytes, and none stands twice
 abbrev pub IsInOrder : {A : Type 0} → Table A → Type 0
@@ -32,9 +32,10 @@ abbrev pub DiffersAmong : {A : Type 0} → (List ℕ × A → Bool) → Table A 
 DiffersAmong differs [] name = ⊥
 DiffersAmong differs (e ∷ es) name = ((e.0 ≡ name) × (differs e ≡ true)) ⊎ DiffersAmong differs es name
 
--- at the name the import brings another value, another template or other defaults than the innermost scope has
+-- at the name the import brings another value, another template or other defaults than the innermost scope has, or a value where the invoker stands
 abbrev pub ConflictsAt : ImportState → Environment → List ℕ → Type 0
 ConflictsAt value env name =
-    DiffersAmong (other_value env.chain.inner) value.scope.variables name
+    DiffersAmong (invoker_brought (knowing value env)) value.scope.variables name
+    ⊎ (DiffersAmong (other_value env.chain.inner) value.scope.variables name
     ⊎ (DiffersAmong (other_template (knowing value env) env.chain.inner) value.scope.templates name
-    ⊎ DiffersAmong (other_defaults env.chain.inner) value.scope.defaults name)
+    ⊎ DiffersAmong (other_defaults env.chain.inner) value.scope.defaults name))

@@ -1,9 +1,8 @@
 -- A call is a tree of questions, where its parts are.
-use Rattle.std.proofs.Common.{ℕ, ◌+◌, Bool, true, false, ◌&&◌, nat_lt, List, Option, Some, None, is_some}
+use Rattle.std.proofs.Common.{ℕ, ◌+◌, Bool, true, false, ◌&&◌, nat_lt, Option, Some, None, is_some}
 use Rattle.gn_tree.specs.declared.position.Position.{Position}
 use Rattle.gn_tree.specs.declared.tree.Call.{Call}
 use Rattle.gn_tree.specs.Counts.{expr_count}
-use Rattle.gn_values.specs.Val.{Val}
 use Rattle.gn_values.specs.Imported.{DefinitionState}
 use Rattle.gn_runs.specs.Runs.{Answers}
 use Rattle.gn_environment.specs.Templates.{template_of}

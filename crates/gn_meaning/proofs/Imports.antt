@@ -6,7 +6,7 @@ use Rattle.gn_paths.specs.Resolve.{path_meant}
 use Rattle.gn_tree.specs.declared.position.Position.{Position}
 use Rattle.gn_values.specs.Val.{Val, vstr}
 use Rattle.gn_items.specs.Effects.{with_asked}
-use Rattle.gn_runs.specs.Runs.{content_of, import_of, Content, has_bytes, is_absent, is_too_big, Answers}
+use Rattle.gn_runs.specs.Runs.{content_of, import_of, Content, has_bytes, is_absent, is_too_big}
 use Rattle.gn_environment.specs.Environment.{Environment}
 use Rattle.gn_environment.specs.Imports.{merged}
 use Rattle.gn_meaning.specs.Imports.{merged_to, content_runs, path_runs, imported_runs}

@@ -16,7 +16,7 @@ use Rattle.gn_meaning.specs.Meaning.{operator_runs, truth_runs, picked_runs, ope
 use Rattle.gn_environment.specs.Surroundings.{surroundings}
 use Rattle.gn_meaning.specs.BlockLaws.{BlocksKeepSurroundings, ExpressionsKeepSurroundings}
 use Rattle.gn_meaning.proofs.Ends.{Leaves, Keep, of_end, ends_do, keep_do, keep_ends, fails_so}
-use Rattle.gn_meaning.proofs.KeptBySteps.{value_keeps, name_keeps, element_keeps, base_keeps, negation_keeps, boolean_keeps, list_keeps, scope_leaves, name_assigned_keeps, element_changed_keeps, pieces_keep, has_entry_keeps, has_value_keeps, loop_keeps, call_value_keeps}
+use Rattle.gn_meaning.proofs.KeptBySteps.{value_keeps, name_keeps, element_keeps, base_keeps, negation_keeps, boolean_keeps, list_keeps, string_keeps, scope_leaves, name_assigned_keeps, element_changed_keeps, pieces_keep, has_entry_keeps, has_value_keeps, loop_keeps, call_value_keeps}
 use Rattle.gn_meaning.proofs.KeptByOpenings.{BodiesKeep}
 use Rattle.gn_meaning.proofs.KeptByCalls.{called_keeps}
 
@@ -46,7 +46,7 @@ module _ (room : ℕ) (a : Answers) (c : BodiesKeep (calls room a)) where
     pub expr_keeps : (n : ℕ) (e : ExprTree) (env : Environment) (out : Effects) → Leaves (surroundings env) (expr_runs (world room a) n e env out)
     expr_keeps n (name_expr p m) env out = name_keeps m p env out
     expr_keeps n (integer_expr p v) env out = keep_ends _ env out refl
-    expr_keeps n (string_expr p pieces) env out = keep_do _ _ (pieces_keep pieces [] p env out) (λ text env1 out1. keep_ends _ env1 out1 refl)
+    expr_keeps n (string_expr p pieces) env out = keep_do _ _ (pieces_keep pieces [] env out) (λ text env1 out1. string_keeps text p env1 out1)
     expr_keeps n (boolean_expr p b) env out = keep_ends _ env out refl
     expr_keeps n (call_expr k) env out = keep_do _ _ (call_keeps n k env out) (λ v env1 out1. call_value_keeps v (call_position k) env1 out1)
     expr_keeps n (item_expr p base bracket index) env out =

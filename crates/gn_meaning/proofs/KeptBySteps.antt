@@ -6,7 +6,7 @@ use Rattle.gn_tree.specs.declared.piece.Piece.{Piece}
 use Rattle.gn_tree.specs.declared.piece.Piece.TheVariants.{Bytes, Name, Item as ItemPiece, Entry}
 use Rattle.gn_tree.specs.declared.piece.Subscript.{Subscript}
 use Rattle.gn_tree.specs.declared.piece.Subscript.TheVariants.{Name as NameSubscript, Integer}
-use Rattle.gn_values.specs.Val.{Val, vbool, vstr, vlist, vscope, list_of}
+use Rattle.gn_values.specs.Val.{Val, vbool, vstr, vlist, vscope, list_of, binds_of}
 use Rattle.gn_values.specs.declared.error.ValueError.{ValueError}
 use Rattle.gn_values.specs.declared.error.ElementError.{ElementError}
 use Rattle.gn_values.specs.declared.error.ElementError.TheVariants as element_error
@@ -14,10 +14,10 @@ use Rattle.gn_values.specs.Limits.{list_fits, scope_fits, text_fits}
 use Rattle.gn_items.specs.Effects.{Effects, with_print}
 use Rattle.gn_runs.specs.Runs.{Run}
 use Rattle.gn_environment.specs.Environment.{Environment, value_of, entries_here, entered, restored, given, variable_here, after_assignment, after_assignment_over, after_element_assignment, after_element_assignment_over}
-use Rattle.gn_environment.specs.Invoker.{names_invoker, invoker_entries, invoker_entry}
-use Rattle.gn_environment.specs.Assigning.{Refusal, replaces_nonempty, has_no_value, operator_refuses, ElementRefusal, base_has_no_value, element_refuses}
+use Rattle.gn_environment.specs.Invoker.{names_invoker, is_invoker_here, invoker_entries, invoker_entry}
+use Rattle.gn_environment.specs.Assigning.{replaces, Refusal, replaces_nonempty, has_no_value, operator_refuses, ElementRefusal, base_has_no_value, element_refuses}
 use Rattle.gn_meaning.specs.Steps.{Left, Steps}
-use Rattle.gn_meaning.specs.Words.{value_or_fault, element_or_fault, value_or_undefined, invoker_runs, name_runs, element_of_base, entry_or_undefined, invoker_element_runs, element_runs, base_runs, negation_runs, boolean_runs, list_runs, scope_runs, text_added_runs, assigned_to, element_fault, element_assigned_to, changes_value, over_invoker, name_assigned_runs, element_assigned_runs}
+use Rattle.gn_meaning.specs.Words.{value_or_fault, element_or_fault, value_or_undefined, invoker_runs, name_runs, element_of_base, entry_or_undefined, invoker_element_runs, element_runs, base_runs, negation_runs, boolean_runs, list_runs, scope_runs, string_runs, assigned_to, element_fault, element_assigned_to, changes_value, over_invoker, invoker_replaced_runs, name_assigned_runs, variable_element_assigned_runs, invoker_element_assigned_runs, element_assigned_runs}
 use Rattle.gn_meaning.specs.Pieces.{subscript_runs, text_runs, piece_runs, pieces_run}
 use Rattle.gn_tree.specs.declared.tree.Call.{Call}
 use Rattle.gn_environment.specs.Surroundings.{surroundings}
@@ -96,9 +96,9 @@ pub scope_leaves : (p : Position) (env after : Environment) (out : Effects) → 
 unfolding scope_runs
 scope_leaves p env after out h = so_if (scope_fits (entries_here after)) _ _ (keep_ends _ _ out (left_keeps false env after h)) (fails_so _ out)
 
-text_added_keeps : (text more : List ℕ) (p : Position) → Keep (text_added_runs text more p)
-unfolding text_added_runs
-text_added_keeps text more p env out = so_if (text_fits (text ++ more)) _ _ (keep_ends _ env out refl) (fails_so _ out)
+pub string_keeps : (text : List ℕ) (p : Position) → Keep (string_runs text p)
+unfolding string_runs
+string_keeps text p env out = so_if (text_fits text) _ _ (keep_ends _ env out refl) (fails_so _ out)
 
 -- Assignments
 
@@ -123,19 +123,34 @@ element_assigned_keeps (Err (element_refuses e)) name base at p q env out h = el
 over_invoker_keeps : (p : Position) (next : Val → Environment → Run (Left (Unit {0}))) (env : Environment) (out : Effects) → ((v : Val) (after : Environment) → Leaves (surroundings after) (next v after)) → Leaves (surroundings env) (over_invoker p next env out)
 over_invoker_keeps p next env out t = so_if (scope_fits (invoker_entries env)) _ _ (moved (invoker_read_keeps env) (t _ _)) (fails_so _ out)
 
+invoker_replaced_keeps : (name : List ℕ) (p : Position) (v : Val) → Keep (invoker_replaced_runs name p v)
+unfolding invoker_replaced_runs
+invoker_replaced_keeps name p v env out =
+    so_if (replaces (vscope (binds_of (invoker_entries env))) v) _ _ (fails_so _ out) (keep_ends _ _ out (given_keeps name v env))
+
 pub name_assigned_keeps : (name : List ℕ) (at : Position) (op : AssignOp) (p : Position) (v : Val) → Keep (name_assigned_runs name at op p v)
 unfolding name_assigned_runs
 name_assigned_keeps name at op p v env out =
     so_if (changes_value op && names_invoker name env) _ _
     (over_invoker_keeps p _ env out (λ old env1. assigned_keeps (after_assignment_over old name op v p env1) name at p env1 out (assignment_over_keeps old name op v p env1)))
-    (assigned_keeps (after_assignment name op v p env) name at p env out (assignment_keeps name op v p env))
+    (so_if (is_invoker_here name env) _ _ (invoker_replaced_keeps name p v env out) (assigned_keeps (after_assignment name op v p env) name at p env out (assignment_keeps name op v p env)))
+
+variable_element_keeps : (base : List ℕ) (base_position : Position) (at : Val) (q : Position) (op : AssignOp) (p : Position) (v : Val) → Keep (variable_element_assigned_runs base base_position at q op p v)
+unfolding variable_element_assigned_runs
+variable_element_keeps base base_position at q op p v env out =
+    element_assigned_keeps (after_element_assignment base at op v p env) base base_position at q p env out (element_assignment_keeps base at op v p env)
+
+invoker_element_assigned_keeps : (old : Val) (base : List ℕ) (base_position : Position) (at : Val) (q : Position) (op : AssignOp) (p : Position) (v : Val) → Keep (invoker_element_assigned_runs old base base_position at q op p v)
+unfolding invoker_element_assigned_runs
+invoker_element_assigned_keeps old base base_position at q op p v env out =
+    so_if (is_invoker_here base env) _ _ (moved (given_keeps base old env) (variable_element_keeps base base_position at q op p v _ out))
+    (element_assigned_keeps (after_element_assignment_over old base at op v p env) base base_position at q p env out (element_over_keeps old base at op v p env))
 
 pub element_changed_keeps : (base : List ℕ) (base_position : Position) (at : Val) (q : Position) (op : AssignOp) (p : Position) (v : Val) → Keep (element_assigned_runs base base_position at q op p v)
 unfolding element_assigned_runs
 element_changed_keeps base base_position at q op p v env out =
-    so_if (names_invoker base env) _ _
-    (over_invoker_keeps p _ env out (λ old env1. element_assigned_keeps (after_element_assignment_over old base at op v p env1) base base_position at q p env1 out (element_over_keeps old base at op v p env1)))
-    (element_assigned_keeps (after_element_assignment base at op v p env) base base_position at q p env out (element_assignment_keeps base at op v p env))
+    so_if (names_invoker base env) _ _ (over_invoker_keeps p _ env out (λ old env1. invoker_element_assigned_keeps old base base_position at q op p v env1 out))
+    (variable_element_keeps base base_position at q op p v env out)
 
 -- Strings
 
@@ -154,10 +169,9 @@ piece_keeps (ItemPiece p base s) env out =
     text_keeps _ (keep_do _ _ (base_keeps base p env out) (λ _ env1 out1. keep_do _ _ (subscript_keeps s p env1 out1) (λ at env2 out2. element_keeps base p at p env2 out2)))
 piece_keeps (Entry p base entry) env out = text_keeps _ (element_keeps base p (vstr entry) p env out)
 
-pub pieces_keep : (pieces : List Piece) (text : List ℕ) (quote : Position) → Keep (pieces_run pieces text quote)
-pieces_keep [] text quote env out = keep_ends text env out refl
-pieces_keep (piece ∷ pieces) text quote env out =
-    keep_do _ _ (piece_keeps piece env out) (λ more env1 out1. keep_do _ _ (text_added_keeps text more quote env1 out1) (λ longer env2 out2. pieces_keep pieces longer quote env2 out2))
+pub pieces_keep : (pieces : List Piece) (text : List ℕ) → Keep (pieces_run pieces text)
+pieces_keep [] text env out = keep_ends text env out refl
+pieces_keep (piece ∷ pieces) text env out = keep_do _ _ (piece_keeps piece env out) (λ more env1 out1. pieces_keep pieces (text ++ more) env1 out1)
 
 -- Single calls
 

@@ -1,5 +1,5 @@
 -- Where the arguments of a call stand.
-use Rattle.std.specs.Prelude.{ℕ, zero, suc, List, [], ◌∷◌}
+use Rattle.std.specs.Prelude.{ℕ, zero, suc, [], ◌∷◌}
 use Rattle.gn_tree.specs.declared.position.Position.{Position}
 use Rattle.gn_tree.specs.declared.tree.Call.{Call}
 use Rattle.gn_tree.specs.Tree.{ExprTrees, no_exprs, expr_then}

@@ -1,6 +1,5 @@
 -- Calls that need the values of their arguments and change the environment: `import`, `template`, `forward_variables_from`, `not_needed`.
 use Rattle.std.specs.Prelude.{ℕ, Bool, true, false, ◌&&◌, List, [], ◌∷◌, Option, Some, None}
-use Rattle.gn_tree.specs.declared.position.Position.{Position}
 use Rattle.gn_tree.specs.declared.tree.Call.{Call}
 use Rattle.gn_tree.specs.Tree.{ExprTrees, no_exprs, expr_then, BlockTree}
 use Rattle.gn_values.specs.Val.{Val}

@@ -1,5 +1,5 @@
 -- `import`.
-use Rattle.std.specs.Prelude.{ℕ, ◌+◌, nat_lt, if◌then◌else◌, List, [], ◌∷◌, Option, None, Result, Ok, Err}
+use Rattle.std.specs.Prelude.{ℕ, if◌then◌else◌, List, [], ◌∷◌, Option, None, Result, Ok, Err}
 use Rattle.gn_paths.specs.declared.error.PathFault.{PathFault}
 use Rattle.gn_paths.specs.declared.error.PathFault.TheVariants.{AboveRoot, BadPath}
 use Rattle.gn_paths.specs.declared.place.Place.{Place}

@@ -6,7 +6,7 @@ use Rattle.gn_values.specs.Val.{Val, vstr}
 use Rattle.gn_values.specs.Imported.{DefinitionState}
 use Rattle.gn_faults.specs.declared.code.Code.TheVariants as code
 use Rattle.gn_items.specs.declared.item.ItemKind.{ItemKind}
-use Rattle.gn_environment.specs.Environment.{Environment, in_item, entered}
+use Rattle.gn_environment.specs.Environment.{in_item, entered}
 use Rattle.gn_environment.specs.Templates.{template_of, body_begins}
 use Rattle.gn_meaning.specs.Steps.{Steps, then_do, ends}
 use Rattle.gn_meaning.specs.Words.{fails_at}

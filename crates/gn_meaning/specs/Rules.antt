@@ -1,8 +1,6 @@
 -- What is judged of a call before its arguments: a row for each function.
 use Rattle.std.specs.Prelude.{ℕ, Bool, true, false, ◌&&◌, not, nat_le, Option, Some, None}
-use Rattle.gn_items.specs.declared.item.ItemKind.TheVariants.{Group}
 use Rattle.gn_meaning.specs.declared.rule.Rule.{Rule}
-use Rattle.gn_meaning.specs.declared.rule.Allowed.{Allowed}
 use Rattle.gn_meaning.specs.declared.rule.Allowed.TheVariants.{Everywhere, WhereItems}
 use Rattle.gn_meaning.specs.declared.function.Function.{Function}
 use Rattle.gn_meaning.specs.declared.function.Function.TheVariants.{Plain, Changing, Opening, Defined, Foreach}

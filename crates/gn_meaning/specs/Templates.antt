@@ -3,12 +3,11 @@ use Rattle.std.specs.Prelude.{ℕ, suc, ◌+◌, Bool, true, false, nat_lt, if�
 use Rattle.gn_tree.specs.declared.position.Position.{Position}
 use Rattle.gn_tree.specs.Tree.{BlockTree}
 use Rattle.gn_values.specs.Val.{Val, vstr}
-use Rattle.gn_values.specs.Imported.{DefinitionState}
 use Rattle.gn_faults.specs.declared.code.Code.TheVariants as code
 use Rattle.gn_faults.specs.declared.file_kind.FileKind.{FileKind}
 use Rattle.gn_faults.specs.declared.file_kind.FileKind.TheVariants.{BuildFile, Import}
 use Rattle.gn_environment.specs.Environment.{Environment, reported_here}
-use Rattle.gn_environment.specs.Templates.{template_of, has_template_here, template_defined, defaults_set, at_depth, body_begins, body_ends, reported_by_invoker}
+use Rattle.gn_environment.specs.Templates.{has_template_here, template_defined, defaults_set, at_depth, body_ends, reported_by_invoker}
 use Rattle.gn_environment.specs.Faults.{fault_in}
 use Rattle.gn_meaning.specs.Steps.{Steps, ends, breaks, max_evaluation_depth}
 use Rattle.gn_meaning.specs.Words.{fails_at}
