@@ -1,5 +1,5 @@
 -- A list with an item set, and a scope with an entry set: how deep they nest, and what is within the limits.
-use Rattle.std.proofs.Common.{◌≡◌, ℕ, zero, suc, ◌+◌, ◌<◌, ◌≤◌, ◌⊎◌, inl, inr, max, nat_lt, false, Some, List, [], ◌∷◌, length, get_or, take, map, Ok, refl, sym, ap, ◌∙◌, subst, arith}
+use Rattle.std.proofs.Common.{◌≡◌, ℕ, zero, suc, ◌+◌, ◌<◌, ◌≤◌, ◌⊎◌, inl, inr, max, nat_lt, Some, List, [], ◌∷◌, length, get_or, take, map, Ok, refl, sym, ap, ◌∙◌, subst, arith}
 use Rattle.std.specs.Prelude.{slice_set}
 use Rattle.std.proofs.lemmas.List.{map-set, length-set, length-map, get_or-map}
 use Rattle.std.proofs.Math.Seq.{map-set_same}
@@ -46,9 +46,6 @@ fits_set vs i v h l =
     let y = r.rises in
     grind (arith, nat_tests)
 
-pub too_deep_set : (vs : List Val) (i : ℕ) (v : Val) → i < length vs → max_depth ≤ depth_of v → list_fits (slice_set vs i v) ≡ false
-too_deep_set vs i v l d = let has = (deepest_set vs i v v l).has in grind (arith, nat_tests)
-
 -- an item among the values that stand for items
 pub item_there : (xs : List Value) (i : ℕ) (old : Value) → i < length xs → old ≡ get_or xs i old → val_of old ≡ get_or (vals_in xs) i (val_of old)
 item_there xs i old l e = ap val_of e ∙ sym (get_or-map val_of xs i old (val_of old) l)
@@ -60,10 +57,6 @@ module _ (xs : List Value) (i : ℕ) (old new : Value) (d d' before after : ℕ)
       subst (λ (vs : List Val). IsChange (depth_of (val_of old)) (depth_of (val_of new)) (deepest_item (vals_of (vals_in xs))) (deepest_item (vals_of vs))) (sym (map-set val_of xs i new))
       (subst (λ (v : Val). IsChange (depth_of v) (depth_of (val_of new)) (deepest_item (vals_of (vals_in xs))) (deepest_item (vals_of (slice_set (vals_in xs) i (val_of new))))) (sym (item_there xs i old l e))
       (deepest_set (vals_in xs) i (val_of new) (val_of old) within))
-
-  -- an item is one level less deep than the list
-  pub item_shallow : i < length xs → old ≡ get_or xs i old → KeepsItems (vals_in xs) d → depth_of (val_of old) < max_depth
-  item_shallow l e k = let h = (change_there l e).had in omega (arith, k.limits.shallow)
 
   pub item_change_known : i < length xs → old ≡ get_or xs i old → KeepsItems (vals_in xs) d → before ≡ depth_of (val_of old) → after ≡ depth_of (val_of new) → (before ≤ after) ⊎ (before + 1 < d) → list_depth (vals_in (slice_set xs i new)) ≡ max d (after + 1)
   item_change_known l e k b a h =

@@ -1,14 +1,13 @@
 // An item of a list or an entry of a scope changes in place.
 
-ghost use Rattle.std.specs.Prelude.{◌≡◌, ◌≢◌, ◌<◌, ◌≤◌, ◌+◌, ◌⊎◌, IfErr, OnOk, OnErr, IsTrue, None, false, length, map, max, pos, slice_set};
+ghost use Rattle.std.specs.Prelude.{◌≡◌, ◌≢◌, ◌<◌, ◌≤◌, ◌+◌, ◌⊎◌, IfErr, OnOk, OnErr, None, length, map, max, pos};
 ghost use Rattle.gn_values.specs.Val.{vlist, vscope, vals_of, binds_of, list_depth, scope_depth};
-ghost use Rattle.gn_values.specs.Limits.{max_depth, list_fits};
+ghost use Rattle.gn_values.specs.Limits.{max_depth};
 ghost use Rattle.gn_values.specs.Operators.{item_at, value_at};
 ghost use Rattle.gn_values.specs.Assigning.{item_assigned, entry_assigned};
 ghost use Rattle.gn_values.specs.View.{val_of, entry_of};
 
 use crate::error::{ElementError, ValueError};
-use crate::limits::MAX_DEPTH;
 use crate::value::search::{depth_of_entries, find_entry};
 use crate::value::{Entries, Entry, Items, Value};
 use gn_paths::Text;
@@ -59,29 +58,6 @@ fn depth_of_changed_entries(entries: &[Entry], depth: u8, before: usize, after: 
 }
 
 impl Items {
-    /// Puts a value in the place of the item of this number, counted from 0. `TooLong` comes
-    /// exactly where the list would nest too deep. After a refusal the list is as before, and the
-    /// value is dropped. It takes no memory, and looks at each item only where the deepest one
-    /// gets less deep.
-    pub fn set(&mut self, index: usize, value: Value) -> Result<(), ValueError>
-        requires { index < length self.old }
-        ensures ok { OnOk result (self.new ≡ slice_set self.old index (val_of value)) }
-        ensures fits { OnOk result (IsTrue (list_fits self.new)) }
-        ensures too_long { result ≡ Err ValueError.TooLong
-            → list_fits (slice_set self.old index (val_of value)) ≡ false }
-        ensures only { IfErr result (λ e. e ≡ ValueError.TooLong) }
-        ensures err { OnErr result (self.new ≡ self.old) }
-    {
-        let after = value.depth();
-        if after >= MAX_DEPTH {
-            return Err(ValueError::TooLong);
-        }
-        let before = self.items[index].depth();
-        self.items[index] = value;
-        self.depth = depth_of_changed_items(self.items.as_slice(), self.depth, before, after);
-        Ok(())
-    }
-
     /// `list[at] op= value`, in place.
     pub(crate) fn assign_item(
         &mut self,
