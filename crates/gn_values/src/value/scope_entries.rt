@@ -1,6 +1,6 @@
 // Entries in the order of their names, and what is done with those of a scope.
 
-ghost use Rattle.std.specs.Prelude.{◌≡◌, ◌≢◌, ◌↔◌, ◌≤◌, [], IsTrue, IfOk, OnOk, OnErr, IfErr, false, length, map, option_map, ok_or};
+ghost use Rattle.std.specs.Prelude.{◌≡◌, ◌≢◌, ◌↔◌, ◌≤◌, [], IsTrue, IfOk, OnOk, OnErr, IfErr, false, map, option_map, ok_or};
 ghost use Rattle.gn_values.specs.Val.{vscope, vstr, binds_of, entries_of, scope_depth};
 ghost use Rattle.gn_values.specs.Operators.{value_at, with_entry, element_of};
 ghost use Rattle.gn_values.specs.Limits.{max_depth, scope_fits, IsScope};
@@ -39,13 +39,6 @@ impl Entries {
             return Err(ValueError::TooLong);
         }
         Ok(Entries { entries, depth })
-    }
-
-    /// The number of entries.
-    pub fn len(&self) -> usize
-        ensures { result ≡ length self.now }
-    {
-        self.entries.len()
     }
 
     /// Whether the scope has no entries.
