@@ -1,111 +1,112 @@
 // Build arguments: which value a name takes, and which names were given to no effect.
 
+use crate::rows::field;
 use gn_args::{apply, unused};
 use gn_paths::{Text, Texts};
 use gn_values::{Overrides, Value};
 use std::alloc::{AllocError, Global};
 use std::test::Fail;
 
-// A list of overrides: names, each with an integer.
-type Given = &'static [(&'static [u8], i64)];
+// A table of lists of overrides, each with a name, its default, and the value that it takes.
+macro_rules! applied {
+    ($([$({ $($given:literal = $number:literal;)* })*] $name:literal = $default:literal => $value:literal;)+) => {
+        concat!($($($($given, "=", $number, "\x1c",)* "\x1d",)* "\x1f", $name, "\x1f", $default, "\x1f", $value, "\x1f\x1e"),+)
+    };
+}
 
-// Lists of overrides, a name, its default and the value that it takes.
-const APPLIED: [(&[Given], &[u8], i64, i64); 9] = [
-    (&[], b"x", 1, 1),
-    (&[&[]], b"x", 1, 1),
-    (&[&[(b"x", 2)]], b"x", 1, 2),
-    (&[&[(b"y", 2)]], b"x", 1, 1),
-    (&[&[(b"x", 2)], &[(b"x", 3)]], b"x", 1, 3),
-    (&[&[(b"x", 2)], &[(b"y", 3)], &[]], b"x", 1, 2),
-    (&[&[(b"x", 2)], &[(b"x", 3)], &[(b"y", 4)]], b"x", 1, 3),
+const APPLIED: &str = applied! {
+    [] "x" = 1 => 1;
+    [{ }] "x" = 1 => 1;
+    [{ "x" = 2; }] "x" = 1 => 2;
+    [{ "y" = 2; }] "x" = 1 => 1;
+    [{ "x" = 2; } { "x" = 3; }] "x" = 1 => 3;
+    [{ "x" = 2; } { "y" = 3; } { }] "x" = 1 => 2;
+    [{ "x" = 2; } { "x" = 3; } { "y" = 4; }] "x" = 1 => 3;
     // A name that is given twice in one list has its last value.
-    (&[&[(b"x", 2), (b"w", 4), (b"x", 3)]], b"x", 1, 3),
-    (&[&[(b"", 2)]], b"", 1, 2),
-];
+    [{ "x" = 2; "w" = 4; "x" = 3; }] "x" = 1 => 3;
+    [{ "" = 2; }] "" = 1 => 2;
+};
 
-fn overrides(alloc: Global, given: Given) -> Result<Overrides, AllocError> {
+// The integer that a text says; 0 where it says none.
+fn number(text: &str) -> i64 {
+    text.parse::<i64>().unwrap_or(0)
+}
+
+fn set(alloc: Global, list: &mut Overrides, assignment: &str) -> Result<(), AllocError> {
+    let (name, text) = assignment.split_once('=').unwrap_or((assignment, ""));
+    list.set(
+        Text::from_bytes(alloc, name.as_bytes())?,
+        Value::Int(number(text)),
+    )
+}
+
+fn overrides(alloc: Global, given: &str) -> Result<Overrides, AllocError> {
     let mut list = Overrides::new(alloc);
-    for (name, number) in given {
-        list.set(Text::from_bytes(alloc, *name)?, Value::Int(*number))?;
+    for assignment in given.split_terminator('\x1c') {
+        set(alloc, &mut list, assignment)?;
     }
     Ok(list)
 }
 
-fn lists_of(alloc: Global, lists: &[Given]) -> Result<Vec<Overrides>, AllocError> {
-    let mut made = Vec::with_capacity(alloc, lists.len())?;
-    for given in lists {
-        made.push(overrides(alloc, *given)?)?;
+fn put(alloc: Global, lists: &mut Vec<Overrides>, given: &str) -> Result<(), AllocError> {
+    lists.push(overrides(alloc, given)?)?;
+    Ok(())
+}
+
+fn lists_of(alloc: Global, lists: &str) -> Result<Vec<Overrides>, AllocError> {
+    let mut made = Vec::new(alloc);
+    for given in lists.split_terminator('\x1d') {
+        put(alloc, &mut made, given)?;
     }
     Ok(made)
 }
 
-fn integer(value: &Value) -> Option<i64> {
+fn is_integer(value: &Value, wanted: i64) -> bool {
     match value {
-        Value::Int(number) => Some(*number),
-        _ => None,
+        Value::Int(number) => *number == wanted,
+        _ => false,
     }
 }
 
-fn takes(
-    alloc: Global,
-    (lists, name, default, wanted): &(&[Given], &[u8], i64, i64),
-) -> Result<bool, AllocError> {
-    let lists = lists_of(alloc, *lists)?;
-    let value = apply(alloc, lists.as_slice(), *name, Value::Int(*default))?;
-    Ok(integer(&value) == Some(*wanted))
+fn takes(alloc: Global, row: &str) -> Result<bool, AllocError> {
+    let default = Value::Int(number(field(row, 2)));
+    let lists = lists_of(alloc, field(row, 0))?;
+    let value = apply(alloc, lists.as_slice(), field(row, 1).as_bytes(), default)?;
+    Ok(is_integer(&value, number(field(row, 3))))
 }
 
 #[test]
 fn the_last_override_counts(rt: HostRuntime) -> Result<(), Fail> {
-    for row in &APPLIED {
-        assert!(rt; takes(rt.alloc(), row)?);
+    for row in APPLIED.split_terminator('\x1e') {
+        assert!(rt; takes(rt.alloc(), row)?, "at {row}");
     }
     Ok(())
 }
 
-// Names that are given, names that are declared, and those without effect, each with a space behind it.
-const UNUSED: [(Given, &[&[u8]], &[u8]); 6] = [
-    (&[], &[b"a"], b""),
-    (&[(b"b", 1), (b"a", 1), (b"c", 1)], &[], b"a b c "),
-    (
-        &[(b"b", 1), (b"a", 1), (b"c", 1)],
-        &[b"b", b"d", b"b"],
-        b"a c ",
-    ),
-    (&[(b"a", 1)], &[b"a"], b""),
-    (
-        &[
-            (b"host_os", 1),
-            (b"host_cpu", 1),
-            (b"current_os", 1),
-            (b"current_cpu", 1),
-            (b"target_os", 1),
-            (b"target_cpu", 1),
-            (b"host", 1),
-        ],
-        &[],
-        b"host ",
-    ),
-    (
-        &[
-            (b"current_toolchain", 1),
-            (b"default_toolchain", 1),
-            (b"root_build_dir", 1),
-            (b"root_out_dir", 1),
-            (b"root_gen_dir", 1),
-            (b"target_out_dir", 1),
-            (b"target_gen_dir", 1),
-            (b"target_name", 1),
-        ],
-        &[],
-        b"target_name ",
-    ),
-];
+// A table of names that are given, names that are declared, and those without effect, each with a space behind it.
+macro_rules! unused {
+    ($(given [$($given:literal)*] declared [$($declared:literal)*] => $unused:literal;)+) => {
+        concat!($($($given, "=1\x1c",)* "\x1f", $($declared, "\x1d",)* "\x1f", $unused, "\x1f\x1e"),+)
+    };
+}
 
-fn texts(alloc: Global, names: &[&[u8]]) -> Result<Texts, AllocError> {
+const UNUSED: &str = unused! {
+    given [] declared ["a"] => "";
+    given ["b" "a" "c"] declared [] => "a b c ";
+    given ["b" "a" "c"] declared ["b" "d" "b"] => "a c ";
+    given ["a"] declared ["a"] => "";
+    given ["host_os" "host_cpu" "current_os" "current_cpu" "target_os" "target_cpu" "host"] declared [] => "host ";
+    given ["current_toolchain" "default_toolchain" "root_build_dir" "root_out_dir" "root_gen_dir" "target_out_dir" "target_gen_dir" "target_name"] declared [] => "target_name ";
+};
+
+fn declare(alloc: Global, names: &mut Texts, name: &str) -> Result<(), AllocError> {
+    names.push(Text::from_bytes(alloc, name.as_bytes())?)
+}
+
+fn texts(alloc: Global, names: &str) -> Result<Texts, AllocError> {
     let mut texts = Texts::new(alloc);
-    for name in names {
-        texts.push(Text::from_bytes(alloc, *name)?)?;
+    for name in names.split_terminator('\x1d') {
+        declare(alloc, &mut texts, name)?;
     }
     Ok(texts)
 }
@@ -119,20 +120,22 @@ fn spaced(alloc: Global, texts: &Texts) -> Result<Text, AllocError> {
     Ok(spaced)
 }
 
-fn have_no_effect(
-    alloc: Global,
-    (given, declared, wanted): &(Given, &[&[u8]], &[u8]),
-) -> Result<bool, AllocError> {
-    let given = overrides(alloc, *given)?;
-    let declared = texts(alloc, *declared)?;
+fn is_spaced(alloc: Global, texts: &Texts, wanted: &str) -> Result<bool, AllocError> {
+    let spaced = spaced(alloc, texts)?;
+    Ok(spaced.as_bytes() == wanted.as_bytes())
+}
+
+fn have_no_effect(alloc: Global, row: &str) -> Result<bool, AllocError> {
+    let given = overrides(alloc, field(row, 0))?;
+    let declared = texts(alloc, field(row, 1))?;
     let names = unused(alloc, &given, &declared)?;
-    Ok(spaced(alloc, &names)?.as_bytes() == *wanted)
+    is_spaced(alloc, &names, field(row, 2))
 }
 
 #[test]
 fn names_that_nothing_declares_have_no_effect(rt: HostRuntime) -> Result<(), Fail> {
-    for row in &UNUSED {
-        assert!(rt; have_no_effect(rt.alloc(), row)?);
+    for row in UNUSED.split_terminator('\x1e') {
+        assert!(rt; have_no_effect(rt.alloc(), row)?, "at {row}");
     }
     Ok(())
 }

@@ -4,321 +4,94 @@ ghost use Rattle.std.specs.Prelude.{◌≡◌, option_map};
 ghost use Rattle.gn_values.specs.Operators.{value_at};
 ghost use Rattle.gn_values.specs.View.{val_of};
 
-use crate::rows::Argument::{Integer, String, Strings};
-use crate::rows::{Argument, value};
+use crate::rows::{before, field, is_shown, quoted, value};
+use crate::standing::at_root;
 use gn_define::{Block, DefineError, Field, Fields, ItemFault, Where, define};
-use gn_faults::Code;
 use gn_labels::Label;
-use gn_paths::{Path, Text, path_meant};
-use gn_rows::{ItemKind, Variable};
+use gn_paths::{Path, PathError, Text};
+use gn_rows::ItemKind;
 use gn_substs::Subst;
 use gn_values::{Entries, Value};
 use std::alloc::{AllocError, Global};
 use std::test::Fail;
 
-// What is defined.
-#[derive(Clone, Copy)]
-enum Outcome {
-    // An item of which this variable holds the text as one of its items.
-    Holds(Variable, &'static [u8]),
-    // A fault of this code that shows this text.
-    Faulty(Code, &'static [u8]),
+// A table of items with their blocks, each with what it defines: a variable that has a text as one of its items, or the code
+// of a fault, with the text that the fault shows, if any.
+macro_rules! items {
+    ($($kind:ident($name:literal) { $($variable:ident = $value:expr;)* } => $outcome:expr;)+) => {
+        concat!($(stringify!($kind), "\x1f", $name, "\x1f", $(stringify!($variable), " = ", stringify!($value), "\x1d",)* "\x1f", stringify!($outcome), "\x1f\x1e"),+)
+    };
 }
 
-use Outcome::{Faulty, Holds};
+const ITEMS: &str = items! {
+    group("g") { deps = [":b"]; } => deps.has("//:b");
+    group("g") { deps = 1; } => WrongType("deps");
+    group("a:b") { deps = 1; } => BadLabel;
+    group("g") { deps = ["", "a␊"]; } => WrongType("deps");
+    group("g") { deps = [""]; sources = 1; } => BadLabel;
+    group("g") { deps = [":b"]; sources = 1; } => WrongType("sources");
+    group("g") { outputs = ["x"]; } => BadPath;
+    executable("e") { script = ""; } => BadPath;
+    group("g") { testonly = 1; } => WrongType("testonly");
+    group("g") { visibility = "*"; } => visibility.has("*");
+    group("g") { visibility = ["a"]; } => BadPattern;
+    group("g") { libs = ["z"]; } => libs.has("z");
+    group("g") { libs = ["a/b"]; } => libs.has("//a/b");
+    group("g") { libs = ["../b"]; } => AboveRoot;
+    group("g") { args = ["{{x}}"]; } => args.has("{{x}}");
+    group("g") { depfile = "{{x}}"; } => UnknownSubstitution;
+    group("g") { friend = 1; } => friend.has("");
+    action("a") { script = "s.py"; } => Missing("outputs");
+    action("a") { script = ""; outputs = ["//out/x"]; } => Missing("script");
+    action("a") { script = "s.py"; outputs = ["//out/x"]; } => outputs.has("//out/x");
+    action("a") { script = "s.py"; outputs = ["//out"]; } => BadPath;
+    action("a") { script = "s.py"; outputs = ["//out/x"]; depfile = ""; } => BadPath;
+    action("a") { args = ["{{source}}"]; } => UnknownSubstitution;
+    action_foreach("a") { script = "s.py"; outputs = ["//out/x"]; } => Missing("sources");
+    action_foreach("a") { sources = ["a"]; script = "s.py"; outputs = ["//out/{{source_name_part}}"]; } => sources.has("//a");
+    action_foreach("a") { sources = ["a"]; script = "s.py"; outputs = ["//out/x"]; response_file_contents = []; } => Excluded("response_file_contents");
+    copy("c") { sources = ["a", "b"]; outputs = ["{{source_gen_dir}}/x"]; } => sources.has("//b");
+    copy("c") { sources = ["//out/a", "b"]; outputs = ["{{source_dir}}/x"]; } => BadPath;
+    copy("c") { sources = ["a"]; outputs = ["//out/x", "//out/y"]; } => BadArguments("copy");
+    copy("c") { sources = []; outputs = ["x"]; } => Missing("sources");
+    config("c") { cflags = ["-g"]; deps = 1; inputs = 1; } => cflags.has("-g");
+    pool("p") { depth = -1; } => WrongType("depth");
+    pool("p") { } => Missing("depth");
+    pool("p") { depth = 0; } => depth.has("0");
+    toolchain("a/b") { toolchain_args = 1; } => WrongType("toolchain_args");
+    tool("cc") { command = "x"; outputs = ["y"]; } => outputs.has("y");
+    tool("cc") { command = ""; outputs = ["y"]; } => Missing("command");
+    tool("cc") { command = "x"; outputs = []; } => Missing("outputs");
+    tool("stamp") { command = "x"; } => command.has("x");
+    tool("frob") { command = 1; } => Excluded("frob");
+    tool("cc") { depsformat = "msvc"; } => BadArguments("tool");
+    tool("cc") { command = "{{x}}"; } => UnknownSubstitution;
+};
 
-// A block: names and their values.
-type Assigned = &'static [(&'static [u8], Argument)];
-
-type Row = (ItemKind, &'static [u8], Assigned, Outcome);
-
-const ITEMS: [Row; 42] = [
-    (
-        ItemKind::Group,
-        b"g",
-        &[(b"deps", Strings(&[b":b"]))],
-        Holds(Variable::Deps, b"//:b"),
-    ),
-    (
-        ItemKind::Group,
-        b"g",
-        &[(b"deps", Integer(1))],
-        Faulty(Code::WrongType, b"deps"),
-    ),
-    (
-        ItemKind::Group,
-        b"a:b",
-        &[(b"deps", Integer(1))],
-        Faulty(Code::BadLabel, b""),
-    ),
-    (
-        ItemKind::Group,
-        b"g",
-        &[(b"deps", Strings(&[b"", b"a\n"]))],
-        Faulty(Code::WrongType, b"deps"),
-    ),
-    (
-        ItemKind::Group,
-        b"g",
-        &[(b"deps", Strings(&[b""])), (b"sources", Integer(1))],
-        Faulty(Code::BadLabel, b""),
-    ),
-    (
-        ItemKind::Group,
-        b"g",
-        &[(b"deps", Strings(&[b":b"])), (b"sources", Integer(1))],
-        Faulty(Code::WrongType, b"sources"),
-    ),
-    (
-        ItemKind::Group,
-        b"g",
-        &[(b"outputs", Strings(&[b"x"]))],
-        Faulty(Code::BadPath, b""),
-    ),
-    (
-        ItemKind::Executable,
-        b"e",
-        &[(b"script", String(b""))],
-        Faulty(Code::BadPath, b""),
-    ),
-    (
-        ItemKind::Group,
-        b"g",
-        &[(b"testonly", Integer(1))],
-        Faulty(Code::WrongType, b"testonly"),
-    ),
-    (
-        ItemKind::Group,
-        b"g",
-        &[(b"visibility", String(b"*"))],
-        Holds(Variable::Visibility, b"*"),
-    ),
-    (
-        ItemKind::Group,
-        b"g",
-        &[(b"visibility", Strings(&[b"a"]))],
-        Faulty(Code::BadPattern, b""),
-    ),
-    (
-        ItemKind::Group,
-        b"g",
-        &[(b"libs", Strings(&[b"z"]))],
-        Holds(Variable::Libs, b"z"),
-    ),
-    (
-        ItemKind::Group,
-        b"g",
-        &[(b"libs", Strings(&[b"a/b"]))],
-        Holds(Variable::Libs, b"//a/b"),
-    ),
-    (
-        ItemKind::Group,
-        b"g",
-        &[(b"libs", Strings(&[b"../b"]))],
-        Faulty(Code::AboveRoot, b""),
-    ),
-    (
-        ItemKind::Group,
-        b"g",
-        &[(b"args", Strings(&[b"{{x}}"]))],
-        Holds(Variable::Args, b"{{x}}"),
-    ),
-    (
-        ItemKind::Group,
-        b"g",
-        &[(b"depfile", String(b"{{x}}"))],
-        Faulty(Code::UnknownSubstitution, b""),
-    ),
-    (
-        ItemKind::Group,
-        b"g",
-        &[(b"friend", Integer(1))],
-        Holds(Variable::Friend, b""),
-    ),
-    (
-        ItemKind::Action,
-        b"a",
-        &[(b"script", String(b"s.py"))],
-        Faulty(Code::Missing, b"outputs"),
-    ),
-    (
-        ItemKind::Action,
-        b"a",
-        &[
-            (b"script", String(b"")),
-            (b"outputs", Strings(&[b"//out/x"])),
-        ],
-        Faulty(Code::Missing, b"script"),
-    ),
-    (
-        ItemKind::Action,
-        b"a",
-        &[
-            (b"script", String(b"s.py")),
-            (b"outputs", Strings(&[b"//out/x"])),
-        ],
-        Holds(Variable::Outputs, b"//out/x"),
-    ),
-    (
-        ItemKind::Action,
-        b"a",
-        &[
-            (b"script", String(b"s.py")),
-            (b"outputs", Strings(&[b"//out"])),
-        ],
-        Faulty(Code::BadPath, b""),
-    ),
-    (
-        ItemKind::Action,
-        b"a",
-        &[
-            (b"script", String(b"s.py")),
-            (b"outputs", Strings(&[b"//out/x"])),
-            (b"depfile", String(b"")),
-        ],
-        Faulty(Code::BadPath, b""),
-    ),
-    (
-        ItemKind::Action,
-        b"a",
-        &[(b"args", Strings(&[b"{{source}}"]))],
-        Faulty(Code::UnknownSubstitution, b""),
-    ),
-    (
-        ItemKind::ActionForeach,
-        b"a",
-        &[
-            (b"script", String(b"s.py")),
-            (b"outputs", Strings(&[b"//out/x"])),
-        ],
-        Faulty(Code::Missing, b"sources"),
-    ),
-    (
-        ItemKind::ActionForeach,
-        b"a",
-        &[
-            (b"sources", Strings(&[b"a"])),
-            (b"script", String(b"s.py")),
-            (b"outputs", Strings(&[b"//out/{{source_name_part}}"])),
-        ],
-        Holds(Variable::Sources, b"//a"),
-    ),
-    (
-        ItemKind::ActionForeach,
-        b"a",
-        &[
-            (b"sources", Strings(&[b"a"])),
-            (b"script", String(b"s.py")),
-            (b"outputs", Strings(&[b"//out/x"])),
-            (b"response_file_contents", Strings(&[])),
-        ],
-        Faulty(Code::Excluded, b"response_file_contents"),
-    ),
-    (
-        ItemKind::Copy,
-        b"c",
-        &[
-            (b"sources", Strings(&[b"a", b"b"])),
-            (b"outputs", Strings(&[b"{{source_gen_dir}}/x"])),
-        ],
-        Holds(Variable::Sources, b"//b"),
-    ),
-    (
-        ItemKind::Copy,
-        b"c",
-        &[
-            (b"sources", Strings(&[b"//out/a", b"b"])),
-            (b"outputs", Strings(&[b"{{source_dir}}/x"])),
-        ],
-        Faulty(Code::BadPath, b""),
-    ),
-    (
-        ItemKind::Copy,
-        b"c",
-        &[
-            (b"sources", Strings(&[b"a"])),
-            (b"outputs", Strings(&[b"//out/x", b"//out/y"])),
-        ],
-        Faulty(Code::BadArguments, b"copy"),
-    ),
-    (
-        ItemKind::Copy,
-        b"c",
-        &[(b"sources", Strings(&[])), (b"outputs", Strings(&[b"x"]))],
-        Faulty(Code::Missing, b"sources"),
-    ),
-    (
-        ItemKind::Config,
-        b"c",
-        &[
-            (b"cflags", Strings(&[b"-g"])),
-            (b"deps", Integer(1)),
-            (b"inputs", Integer(1)),
-        ],
-        Holds(Variable::Cflags, b"-g"),
-    ),
-    (
-        ItemKind::Pool,
-        b"p",
-        &[(b"depth", Integer(-1))],
-        Faulty(Code::WrongType, b"depth"),
-    ),
-    (ItemKind::Pool, b"p", &[], Faulty(Code::Missing, b"depth")),
-    (
-        ItemKind::Pool,
-        b"p",
-        &[(b"depth", Integer(0))],
-        Holds(Variable::Depth, b"0"),
-    ),
-    (
-        ItemKind::Toolchain,
-        b"a/b",
-        &[(b"toolchain_args", Integer(1))],
-        Faulty(Code::WrongType, b"toolchain_args"),
-    ),
-    (
-        ItemKind::Tool,
-        b"cc",
-        &[(b"command", String(b"x")), (b"outputs", Strings(&[b"y"]))],
-        Holds(Variable::Outputs, b"y"),
-    ),
-    (
-        ItemKind::Tool,
-        b"cc",
-        &[(b"command", String(b"")), (b"outputs", Strings(&[b"y"]))],
-        Faulty(Code::Missing, b"command"),
-    ),
-    (
-        ItemKind::Tool,
-        b"cc",
-        &[(b"command", String(b"x")), (b"outputs", Strings(&[]))],
-        Faulty(Code::Missing, b"outputs"),
-    ),
-    (
-        ItemKind::Tool,
-        b"stamp",
-        &[(b"command", String(b"x"))],
-        Holds(Variable::Command, b"x"),
-    ),
-    (
-        ItemKind::Tool,
-        b"frob",
-        &[(b"command", Integer(1))],
-        Faulty(Code::Excluded, b"frob"),
-    ),
-    (
-        ItemKind::Tool,
-        b"cc",
-        &[(b"depsformat", String(b"msvc"))],
-        Faulty(Code::BadArguments, b"tool"),
-    ),
-    (
-        ItemKind::Tool,
-        b"cc",
-        &[(b"command", String(b"{{x}}"))],
-        Faulty(Code::UnknownSubstitution, b""),
-    ),
+static KINDS: [ItemKind; 13] = [
+    ItemKind::Group,
+    ItemKind::Executable,
+    ItemKind::StaticLibrary,
+    ItemKind::SharedLibrary,
+    ItemKind::SourceSet,
+    ItemKind::LoadableModule,
+    ItemKind::Action,
+    ItemKind::ActionForeach,
+    ItemKind::Copy,
+    ItemKind::Config,
+    ItemKind::Pool,
+    ItemKind::Toolchain,
+    ItemKind::Tool,
 ];
+
+fn kind_named(name: &str) -> Option<ItemKind> {
+    for kind in &KINDS {
+        if kind.name() == name.as_bytes() {
+            return Some(*kind);
+        }
+    }
+    None
+}
 
 // A block whose values stand in a scope. It doesn't count what is read.
 #[derive(Drop)]
@@ -329,7 +102,7 @@ struct Assignments {
 impl Block for Assignments {
     ghost values = { λ t name. value_at name t.entries };
 
-    ghost marked = { λ t name. t };
+    ghost marked = { λ name t. t };
 
     fn mark(&mut self, _name: &[u8]) {}
 
@@ -338,53 +111,48 @@ impl Block for Assignments {
     }
 }
 
-fn set(
-    alloc: Global,
-    block: &mut Assignments,
-    name: &[u8],
-    value: Value,
-) -> Result<(), AllocError> {
-    match block.entries.set(Text::from_bytes(alloc, name)?, value) {
+fn set(alloc: Global, block: &mut Assignments, name: &str, value: Value) -> Result<(), AllocError> {
+    match block
+        .entries
+        .set(Text::from_bytes(alloc, name.as_bytes())?, value)
+    {
         Ok(()) => Ok(()),
         Err(_) => Err(AllocError),
     }
 }
 
-fn block(alloc: Global, assigned: Assigned) -> Result<Assignments, AllocError> {
+fn assign(alloc: Global, block: &mut Assignments, assignment: &str) -> Result<(), AllocError> {
+    let (name, text) = assignment.split_once(" = ").unwrap_or((assignment, ""));
+    set(alloc, block, name, value(alloc, text)?)
+}
+
+fn block(alloc: Global, assignments: &str) -> Result<Assignments, AllocError> {
     let mut made = Assignments {
         entries: Entries::new(alloc),
     };
-    for (name, argument) in assigned {
-        set(alloc, &mut made, *name, value(alloc, argument)?)?;
+    for assignment in assignments.split_terminator('\x1d') {
+        assign(alloc, &mut made, assignment)?;
     }
     Ok(made)
 }
 
-fn path(alloc: Global, bytes: &[u8]) -> Result<Path, AllocError> {
-    let root = Path::root(alloc)?;
-    match path_meant(alloc, &root, bytes)? {
-        Ok(path) => Ok(path),
-        Err(_) => Ok(root),
-    }
-}
-
-fn place(alloc: Global, kind: ItemKind) -> Result<Where, AllocError> {
+fn place(alloc: Global, kind: ItemKind) -> Result<Where, PathError> {
     Ok(Where {
         kind,
-        directory: path(alloc, b"//")?,
+        directory: Path::root(alloc)?,
         toolchain: Text::from_bytes(alloc, b"//t:t")?,
-        build: path(alloc, b"//out")?,
-        out: path(alloc, b"//out")?,
+        build: at_root(alloc, "//out")?,
+        out: at_root(alloc, "//out")?,
     })
 }
 
-fn is_label(alloc: Global, label: &Label, text: &[u8]) -> Result<bool, AllocError> {
+fn is_label(alloc: Global, label: &Label, text: &str) -> Result<bool, AllocError> {
     let default = Text::from_bytes(alloc, b"//t:t")?;
     let printed = label.print(alloc, &default)?;
-    Ok(printed.as_bytes() == text)
+    Ok(printed.as_bytes() == text.as_bytes())
 }
 
-fn has_label(alloc: Global, labels: &[Label], text: &[u8]) -> Result<bool, AllocError> {
+fn has_label(alloc: Global, labels: &[Label], text: &str) -> Result<bool, AllocError> {
     for label in labels {
         if is_label(alloc, label, text)? {
             return Ok(true);
@@ -397,53 +165,87 @@ fn is_plain(subst: &Subst, text: &[u8]) -> bool {
     subst.pieces.as_slice().is_empty() && subst.last.as_bytes() == text
 }
 
-fn holds(
-    alloc: Global,
-    fields: &Fields,
-    variable: Variable,
-    text: &[u8],
-) -> Result<bool, AllocError> {
-    match fields.get(variable) {
-        Some(Field::Count(count)) => Ok(*count == 0 && text == b"0".as_slice()),
-        Some(Field::Texts(texts)) => Ok(texts.iter().any(|held| held.as_bytes() == text)),
-        Some(Field::Paths(paths)) => Ok(paths.iter().any(|held| held.as_bytes() == text)),
-        Some(Field::Labels(labels)) => has_label(alloc, labels.as_slice(), text),
-        Some(Field::Patterns(held)) => Ok(held.iter().any(|one| one.text().as_bytes() == text)),
-        Some(Field::Substs(substs)) => Ok(substs.iter().any(|held| is_plain(held, text))),
-        Some(Field::Unused) => Ok(text.is_empty()),
-        _ => Ok(false),
+// Whether a text is one of the items of a field that has no labels.
+fn has_text(held: &Field, text: &[u8]) -> bool {
+    match held {
+        Field::Count(count) => *count == 0 && text == b"0".as_slice(),
+        Field::Texts(texts) => texts.iter().any(|one| one.as_bytes() == text),
+        Field::Paths(paths) => paths.iter().any(|one| one.as_bytes() == text),
+        Field::Patterns(patterns) => patterns.iter().any(|one| one.text().as_bytes() == text),
+        Field::Substs(substs) => substs.iter().any(|one| is_plain(one, text)),
+        Field::Unused => text.is_empty(),
+        _ => false,
     }
 }
 
-fn is_fault(fault: ItemFault, kind: ItemKind, name: &[u8], code: Code, detail: &[u8]) -> bool {
-    fault.code().number() == code.number() && fault.detail(kind, name).unwrap_or(b"") == detail
+fn has(alloc: Global, held: &Field, text: &str) -> Result<bool, AllocError> {
+    match held {
+        Field::Labels(labels) => has_label(alloc, labels.as_slice(), text),
+        _ => Ok(has_text(held, text.as_bytes())),
+    }
 }
 
-fn is_so(
+// What the variable of this name holds.
+fn field_named<'a>(fields: &'a Fields, name: &str) -> Option<&'a Field> {
+    for entry in &fields.entries {
+        if entry.variable.name() == name.as_bytes() {
+            return fields.get(entry.variable);
+        }
+    }
+    None
+}
+
+fn is_held(alloc: Global, fields: &Fields, wanted: &str) -> Result<bool, AllocError> {
+    match field_named(fields, before(wanted, '.')) {
+        Some(held) => has(alloc, held, quoted(wanted)),
+        None => Ok(false),
+    }
+}
+
+fn is_fault(
     alloc: Global,
-    row: &Row,
+    fault: ItemFault,
+    detail: Option<&[u8]>,
+    wanted: &str,
+) -> Result<bool, AllocError> {
+    let is_detail = detail.unwrap_or(b"") == quoted(wanted).as_bytes();
+    Ok(is_detail && is_shown(alloc, fault.code(), before(wanted, '('))?)
+}
+
+fn is_outcome(
+    alloc: Global,
+    row: &str,
+    kind: ItemKind,
     defined: &Result<Fields, DefineError>,
 ) -> Result<bool, AllocError> {
-    match (defined, row.3) {
-        (Ok(fields), Holds(variable, text)) => holds(alloc, fields, variable, text),
-        (Err(DefineError::Wrong(fault)), Faulty(code, detail)) => {
-            Ok(is_fault(*fault, row.0, row.1, code, detail))
+    match defined {
+        Ok(fields) => is_held(alloc, fields, field(row, 3)),
+        Err(DefineError::Wrong(fault)) => {
+            let detail = fault.detail(kind, field(row, 1).as_bytes());
+            is_fault(alloc, *fault, detail, field(row, 3))
         }
-        _ => Ok(false),
+        Err(DefineError::Memory) => Ok(false),
     }
 }
 
-fn is_defined(alloc: Global, row: &Row) -> Result<bool, AllocError> {
-    let at = place(alloc, row.0)?;
-    let mut block = block(alloc, row.2)?;
-    let defined = define(alloc, &at, row.1, &mut block);
-    is_so(alloc, row, &defined)
+fn defines(alloc: Global, row: &str, kind: ItemKind) -> Result<bool, PathError> {
+    let at = place(alloc, kind)?;
+    let mut block = block(alloc, field(row, 2))?;
+    let defined = define(alloc, &at, field(row, 1).as_bytes(), &mut block);
+    Ok(is_outcome(alloc, row, kind, &defined)?)
+}
+
+fn is_defined(alloc: Global, row: &str) -> Result<bool, PathError> {
+    match kind_named(field(row, 0)) {
+        Some(kind) => defines(alloc, row, kind),
+        None => Ok(false),
+    }
 }
 
 #[test]
 fn items_are_defined(rt: HostRuntime) -> Result<(), Fail> {
-    for row in &ITEMS {
-        assert!(rt; is_defined(rt.alloc(), row)?);
+    for row in ITEMS.split_terminator('\x1e') {
+        assert!(rt; is_defined(rt.alloc(), row)?, "at {row}");
     }
     Ok(())
 }

@@ -1,467 +1,107 @@
 // Calls on paths: each on its happy path and at its bounds, and the order of its faults.
 
-use crate::rows::Answer::{Gives, Refuses};
-use crate::rows::Argument::{Integer, Integers, Long, String, Strings};
-use crate::rows::{FIRST, SECOND, THIRD, TOO_LONG, WRONG_NUMBER};
-use crate::standing::Stand::{Early, Inner, Root};
-use crate::standing::{Row, is_answered};
-use gn_calls_path::PathCall::{GetPathInfo, RebasePath};
-use gn_faults::Code;
+use crate::rows::calls;
+use crate::standing::is_answered;
 use std::test::Fail;
 
-const REBASED: [Row; 39] = [
-    (
-        Root,
-        RebasePath,
-        &[String(b"a/b/"), String(b"//c")],
-        Gives(b"\"../a/b/\""),
-    ),
-    (
-        Root,
-        RebasePath,
-        &[String(b"//c"), String(b"//c")],
-        Gives(b"\".\""),
-    ),
-    (
-        Root,
-        RebasePath,
-        &[String(b"//c/"), String(b"//c")],
-        Gives(b"\"./\""),
-    ),
-    (Root, RebasePath, &[String(b"//.")], Gives(b"\"/src\"")),
-    (
-        Root,
-        RebasePath,
-        &[String(b"/src/a/x"), String(b"//c")],
-        Gives(b"\"../a/x\""),
-    ),
-    (Root, RebasePath, &[String(b"//")], Gives(b"\"/src/\"")),
-    (
-        Root,
-        RebasePath,
-        &[String(b"//"), String(b"//c")],
-        Gives(b"\"../\""),
-    ),
-    (
-        Root,
-        RebasePath,
-        &[String(b"../x")],
-        Refuses(Code::AboveRoot, Some(0)),
-    ),
-    (
-        Root,
-        RebasePath,
-        &[String(b"x"), String(b"//out"), String(b"/src//")],
-        Gives(b"\"../x\""),
-    ),
-    (
-        Root,
-        RebasePath,
-        &[String(b"/u/x"), String(b"/u//")],
-        Gives(b"\"x\""),
-    ),
-    (
-        Root,
-        RebasePath,
-        &[String(b"/src//"), String(b"//")],
-        Gives(b"\"./\""),
-    ),
-    (
-        Root,
-        RebasePath,
-        &[String(b"x"), String(b"//out"), String(b"/src//a")],
-        Gives(b"\"..//a/x\""),
-    ),
-    (
-        Root,
-        RebasePath,
-        &[String(b"../../x"), String(b""), String(b"/u/v")],
-        Gives(b"\"/x\""),
-    ),
-    (
-        Root,
-        RebasePath,
-        &[String(b"../../../x"), String(b""), String(b"/u/v")],
-        Refuses(Code::AboveRoot, Some(0)),
-    ),
-    (
-        Inner,
-        RebasePath,
-        &[String(b"myfile.txt"), String(b"//out")],
-        Gives(b"\"../a/myfile.txt\""),
-    ),
-    (
-        Inner,
-        RebasePath,
-        &[Strings(&[b"a.cc", b"b.cc"]), String(b"//out")],
-        Gives(b"[\"../a/a.cc\", \"../a/b.cc\"]"),
-    ),
-    (
-        Inner,
-        RebasePath,
-        &[String(b"x"), String(b"."), String(b"..")],
-        Gives(b"\"../x\""),
-    ),
-    (
-        Inner,
-        RebasePath,
-        &[String(b"x"), String(b"")],
-        Gives(b"\"/src/a/x\""),
-    ),
-    (
-        Inner,
-        RebasePath,
-        &[String(b"/usr/x"), String(b"")],
-        Gives(b"\"/usr/x\""),
-    ),
-    (
-        Root,
-        RebasePath,
-        &[Strings(&[]), String(b"//c")],
-        Gives(b"[]"),
-    ),
-    (
-        Root,
-        RebasePath,
-        &[Strings(&[b"a"]), String(b"//a")],
-        Gives(b"[\".\"]"),
-    ),
-    (
-        Root,
-        RebasePath,
-        &[Strings(&[b"a", b"../b", b"\0"]), String(b"//c")],
-        Refuses(Code::AboveRoot, Some(0)),
-    ),
-    (
-        Root,
-        RebasePath,
-        &[String(b"x"), String(b"../.."), String(b".")],
-        Refuses(Code::AboveRoot, Some(1)),
-    ),
-    (
-        Root,
-        RebasePath,
-        &[String(b"x"), String(b"//out"), String(b"../..")],
-        Refuses(Code::AboveRoot, Some(2)),
-    ),
-    (
-        Root,
-        RebasePath,
-        &[String(b"../x"), String(b"//out"), String(b"../..")],
-        Refuses(Code::AboveRoot, Some(2)),
-    ),
-    (
-        Root,
-        RebasePath,
-        &[String(b"//../x"), String(b"//.."), String(b"//..")],
-        Refuses(Code::AboveRoot, Some(0)),
-    ),
-    (
-        Root,
-        RebasePath,
-        &[String(b"a\0"), String(b"//.."), String(b"//..")],
-        Refuses(Code::BadPath, Some(0)),
-    ),
-    (
-        Root,
-        RebasePath,
-        &[String(b"x"), String(b"//.."), String(b"//..")],
-        Refuses(Code::AboveRoot, Some(1)),
-    ),
-    (
-        Root,
-        RebasePath,
-        &[String(b"x"), String(b""), String(b"")],
-        Refuses(Code::BadPath, Some(2)),
-    ),
-    (
-        Root,
-        RebasePath,
-        &[String(b"\xff"), String(b"")],
-        Refuses(Code::BadPath, Some(0)),
-    ),
-    (
-        Root,
-        RebasePath,
-        &[String(b"")],
-        Refuses(Code::BadPath, Some(0)),
-    ),
-    (
-        Root,
-        RebasePath,
-        &[Strings(&[b"a", b""]), String(b"//..")],
-        Refuses(Code::BadPath, Some(0)),
-    ),
-    (Root, RebasePath, &[Integers(&[1])], FIRST),
-    (Root, RebasePath, &[Integer(1), Integer(1)], FIRST),
-    (Root, RebasePath, &[String(b"a"), Integer(1)], SECOND),
-    (
-        Root,
-        RebasePath,
-        &[String(b""), Strings(&[b"b"]), Integer(1)],
-        SECOND,
-    ),
-    (
-        Root,
-        RebasePath,
-        &[String(b"a"), String(b"b"), Integer(1)],
-        THIRD,
-    ),
-    (Root, RebasePath, &[], WRONG_NUMBER),
-    (
-        Root,
-        RebasePath,
-        &[String(b"a"), String(b"b"), String(b"c"), String(b"d")],
-        WRONG_NUMBER,
-    ),
-];
+const REBASED: &str = calls! {
+    root: rebase_path("a/b/", "//c") => "../a/b/";
+    root: rebase_path("//c", "//c") => ".";
+    root: rebase_path("//c/", "//c") => "./";
+    root: rebase_path("//.") => "/src";
+    root: rebase_path("/src/a/x", "//c") => "../a/x";
+    root: rebase_path("//") => "/src/";
+    root: rebase_path("//", "//c") => "../";
+    root: rebase_path("../x") => AboveRoot(0);
+    root: rebase_path("x", "//out", "/src//") => "../x";
+    root: rebase_path("/u/x", "/u//") => "x";
+    root: rebase_path("/src//", "//") => "./";
+    root: rebase_path("x", "//out", "/src//a") => "..//a/x";
+    root: rebase_path("../../x", "", "/u/v") => "/x";
+    root: rebase_path("../../../x", "", "/u/v") => AboveRoot(0);
+    inner: rebase_path("myfile.txt", "//out") => "../a/myfile.txt";
+    inner: rebase_path(["a.cc", "b.cc"], "//out") => ["../a/a.cc", "../a/b.cc"];
+    inner: rebase_path("x", ".", "..") => "../x";
+    inner: rebase_path("x", "") => "/src/a/x";
+    inner: rebase_path("/usr/x", "") => "/usr/x";
+    root: rebase_path([], "//c") => [];
+    root: rebase_path(["a"], "//a") => ["."];
+    root: rebase_path(["a", "../b", "␀"], "//c") => AboveRoot(0);
+    root: rebase_path("x", "../..", ".") => AboveRoot(1);
+    root: rebase_path("x", "//out", "../..") => AboveRoot(2);
+    root: rebase_path("../x", "//out", "../..") => AboveRoot(2);
+    root: rebase_path("//../x", "//..", "//..") => AboveRoot(0);
+    root: rebase_path("a␀", "//..", "//..") => BadPath(0);
+    root: rebase_path("x", "//..", "//..") => AboveRoot(1);
+    root: rebase_path("x", "", "") => BadPath(2);
+    root: rebase_path("ÿ", "") => BadPath(0);
+    root: rebase_path("") => BadPath(0);
+    root: rebase_path(["a", ""], "//..") => BadPath(0);
+    root: rebase_path([1]) => BadTypes(0);
+    root: rebase_path(1, 1) => BadTypes(0);
+    root: rebase_path("a", 1) => BadTypes(1);
+    root: rebase_path("", ["b"], 1) => BadTypes(1);
+    root: rebase_path("a", "b", 1) => BadTypes(2);
+    root: rebase_path() => BadArguments;
+    root: rebase_path("a", "b", "c", "d") => BadArguments;
+};
 
 #[test]
 fn paths_are_rebased(rt: HostRuntime) -> Result<(), Fail> {
-    for row in &REBASED {
-        assert!(rt; is_answered(rt.alloc(), row)?);
+    for row in REBASED.split_terminator('\x1e') {
+        assert!(rt; is_answered(rt.alloc(), row)?, "at {row}");
     }
     Ok(())
 }
 
-const PATHS: [Row; 41] = [
-    (
-        Root,
-        GetPathInfo,
-        &[String(b"foo/bar.txt"), String(b"file")],
-        Gives(b"\"bar.txt\""),
-    ),
-    (
-        Root,
-        GetPathInfo,
-        &[String(b"bar.txt"), String(b"file")],
-        Gives(b"\"bar.txt\""),
-    ),
-    (
-        Root,
-        GetPathInfo,
-        &[String(b"foo/"), String(b"file")],
-        Gives(b"\"\""),
-    ),
-    (
-        Root,
-        GetPathInfo,
-        &[String(b"foo/bar.txt"), String(b"name")],
-        Gives(b"\"bar\""),
-    ),
-    (
-        Root,
-        GetPathInfo,
-        &[String(b"foo/bar"), String(b"name")],
-        Gives(b"\"bar\""),
-    ),
-    (
-        Root,
-        GetPathInfo,
-        &[String(b"foo/"), String(b"name")],
-        Gives(b"\"\""),
-    ),
-    (
-        Root,
-        GetPathInfo,
-        &[String(b".x"), String(b"name")],
-        Gives(b"\"\""),
-    ),
-    (
-        Root,
-        GetPathInfo,
-        &[String(b"a.b.c"), String(b"name")],
-        Gives(b"\"a.b\""),
-    ),
-    (
-        Root,
-        GetPathInfo,
-        &[String(b"foo/bar.txt"), String(b"extension")],
-        Gives(b"\"txt\""),
-    ),
-    (
-        Root,
-        GetPathInfo,
-        &[String(b"foo/bar"), String(b"extension")],
-        Gives(b"\"\""),
-    ),
-    (
-        Root,
-        GetPathInfo,
-        &[String(b"foo.d/bar"), String(b"extension")],
-        Gives(b"\"\""),
-    ),
-    (
-        Root,
-        GetPathInfo,
-        &[String(b"foo/bar.txt"), String(b"dir")],
-        Gives(b"\"foo\""),
-    ),
-    (
-        Root,
-        GetPathInfo,
-        &[String(b"bar.txt"), String(b"dir")],
-        Gives(b"\".\""),
-    ),
-    (
-        Root,
-        GetPathInfo,
-        &[String(b"foo/"), String(b"dir")],
-        Gives(b"\"foo\""),
-    ),
-    (
-        Root,
-        GetPathInfo,
-        &[String(b"a/"), String(b"dir")],
-        Gives(b"\"a\""),
-    ),
-    (
-        Root,
-        GetPathInfo,
-        &[String(b"/a"), String(b"dir")],
-        Gives(b"\"/.\""),
-    ),
-    (
-        Root,
-        GetPathInfo,
-        &[String(b"//a"), String(b"dir")],
-        Gives(b"\"//.\""),
-    ),
-    (
-        Root,
-        GetPathInfo,
-        &[String(b"//foo/bar/baz.cc"), String(b"dir")],
-        Gives(b"\"//foo/bar\""),
-    ),
-    (
-        Root,
-        GetPathInfo,
-        &[String(b"//foo/bar/baz.txt"), String(b"out_dir")],
-        Gives(b"\"//out/obj/foo/bar\""),
-    ),
-    (
-        Root,
-        GetPathInfo,
-        &[String(b"//foo/bar/baz.txt"), String(b"gen_dir")],
-        Gives(b"\"//out/gen/foo/bar\""),
-    ),
-    (
-        Root,
-        GetPathInfo,
-        &[String(b"//a/b/"), String(b"out_dir")],
-        Gives(b"\"//out/obj/a/b\""),
-    ),
-    (
-        Root,
-        GetPathInfo,
-        &[String(b"/usr/x"), String(b"gen_dir")],
-        Gives(b"\"//out/gen/usr\""),
-    ),
-    (
-        Root,
-        GetPathInfo,
-        &[String(b"foo/bar.txt"), String(b"abspath")],
-        Gives(b"\"//foo/bar.txt\""),
-    ),
-    (
-        Root,
-        GetPathInfo,
-        &[String(b"./a//b/../c/"), String(b"abspath")],
-        Gives(b"\"//a/c/\""),
-    ),
-    (
-        Root,
-        GetPathInfo,
-        &[String(b"/u/../v"), String(b"abspath")],
-        Gives(b"\"/u/../v\""),
-    ),
-    (
-        Inner,
-        GetPathInfo,
-        &[String(b"foo/bar.txt"), String(b"abspath")],
-        Gives(b"\"//a/foo/bar.txt\""),
-    ),
-    (
-        Inner,
-        GetPathInfo,
-        &[String(b"foo/bar.txt"), String(b"out_dir")],
-        Gives(b"\"//out/u/obj/a/foo\""),
-    ),
-    (
-        Early,
-        GetPathInfo,
-        &[String(b"foo/bar.txt"), String(b"gen_dir")],
-        Gives(b"\"//out/gen/a/foo\""),
-    ),
-    (
-        Root,
-        GetPathInfo,
-        &[Strings(&[b"foo.cc", b"foo.h"]), String(b"abspath")],
-        Gives(b"[\"//foo.cc\", \"//foo.h\"]"),
-    ),
-    (
-        Root,
-        GetPathInfo,
-        &[Strings(&[]), String(b"file")],
-        Gives(b"[]"),
-    ),
-    (
-        Inner,
-        GetPathInfo,
-        &[Long(16777214), String(b"abspath")],
-        TOO_LONG,
-    ),
-    (
-        Root,
-        GetPathInfo,
-        &[String(b""), String(b"nope")],
-        WRONG_NUMBER,
-    ),
-    (
-        Root,
-        GetPathInfo,
-        &[String(b"a"), String(b"")],
-        WRONG_NUMBER,
-    ),
-    (
-        Root,
-        GetPathInfo,
-        &[String(b"../.."), String(b"file")],
-        Refuses(Code::AboveRoot, Some(0)),
-    ),
-    (
-        Root,
-        GetPathInfo,
-        &[String(b""), String(b"dir")],
-        Refuses(Code::BadPath, Some(0)),
-    ),
-    (
-        Root,
-        GetPathInfo,
-        &[Strings(&[b"a", b"b\n"]), String(b"file")],
-        Refuses(Code::BadPath, Some(0)),
-    ),
-    (Root, GetPathInfo, &[Integer(1), Integer(1)], FIRST),
-    (Root, GetPathInfo, &[Integers(&[1]), String(b"nope")], FIRST),
-    (
-        Root,
-        GetPathInfo,
-        &[String(b""), Strings(&[b"file"])],
-        SECOND,
-    ),
-    (Root, GetPathInfo, &[String(b"a")], WRONG_NUMBER),
-    (
-        Root,
-        GetPathInfo,
-        &[String(b"a"), String(b"file"), String(b"b")],
-        WRONG_NUMBER,
-    ),
-];
+const PATHS: &str = calls! {
+    root: get_path_info("foo/bar.txt", "file") => "bar.txt";
+    root: get_path_info("bar.txt", "file") => "bar.txt";
+    root: get_path_info("foo/", "file") => "";
+    root: get_path_info("foo/bar.txt", "name") => "bar";
+    root: get_path_info("foo/bar", "name") => "bar";
+    root: get_path_info("foo/", "name") => "";
+    root: get_path_info(".x", "name") => "";
+    root: get_path_info("a.b.c", "name") => "a.b";
+    root: get_path_info("foo/bar.txt", "extension") => "txt";
+    root: get_path_info("foo/bar", "extension") => "";
+    root: get_path_info("foo.d/bar", "extension") => "";
+    root: get_path_info("foo/bar.txt", "dir") => "foo";
+    root: get_path_info("bar.txt", "dir") => ".";
+    root: get_path_info("foo/", "dir") => "foo";
+    root: get_path_info("a/", "dir") => "a";
+    root: get_path_info("/a", "dir") => "/.";
+    root: get_path_info("//a", "dir") => "//.";
+    root: get_path_info("//foo/bar/baz.cc", "dir") => "//foo/bar";
+    root: get_path_info("//foo/bar/baz.txt", "out_dir") => "//out/obj/foo/bar";
+    root: get_path_info("//foo/bar/baz.txt", "gen_dir") => "//out/gen/foo/bar";
+    root: get_path_info("//a/b/", "out_dir") => "//out/obj/a/b";
+    root: get_path_info("/usr/x", "gen_dir") => "//out/gen/usr";
+    root: get_path_info("foo/bar.txt", "abspath") => "//foo/bar.txt";
+    root: get_path_info("./a//b/../c/", "abspath") => "//a/c/";
+    root: get_path_info("/u/../v", "abspath") => "/u/../v";
+    inner: get_path_info("foo/bar.txt", "abspath") => "//a/foo/bar.txt";
+    inner: get_path_info("foo/bar.txt", "out_dir") => "//out/u/obj/a/foo";
+    early: get_path_info("foo/bar.txt", "gen_dir") => "//out/gen/a/foo";
+    root: get_path_info(["foo.cc", "foo.h"], "abspath") => ["//foo.cc", "//foo.h"];
+    root: get_path_info([], "file") => [];
+    inner: get_path_info(long(16777214), "abspath") => TooLong;
+    root: get_path_info("", "nope") => BadArguments;
+    root: get_path_info("a", "") => BadArguments;
+    root: get_path_info("../..", "file") => AboveRoot(0);
+    root: get_path_info("", "dir") => BadPath(0);
+    root: get_path_info(["a", "b␊"], "file") => BadPath(0);
+    root: get_path_info(1, 1) => BadTypes(0);
+    root: get_path_info([1], "nope") => BadTypes(0);
+    root: get_path_info("", ["file"]) => BadTypes(1);
+    root: get_path_info("a") => BadArguments;
+    root: get_path_info("a", "file", "b") => BadArguments;
+};
 
 #[test]
 fn paths_are_told(rt: HostRuntime) -> Result<(), Fail> {
-    for row in &PATHS {
-        assert!(rt; is_answered(rt.alloc(), row)?);
+    for row in PATHS.split_terminator('\x1e') {
+        assert!(rt; is_answered(rt.alloc(), row)?, "at {row}");
     }
     Ok(())
 }

@@ -1,48 +1,77 @@
-// Rows of tests: the values of a call's arguments, and what it answers to them.
+// Tables of texts. A table is one text, which a macro joins from its rows, since a literal of its own costs the proof as much
+// as a call: the byte 31 ends a field, the byte 30 a row, and within a field the byte 29 ends an argument or an assignment.
+//
+// Values stand in a table as the language writes them, and so do the values that are expected, as they are printed. A string
+// with a backslash that isn't expected has an `r` in front, as in `r"\b"`. Each character stands for the byte that is the last
+// of its number: `ÿ` for the byte 255, and the picture of a control character for that character, as `␀` for the byte 0. A list
+// holds no list, and no string with a comma before a space. `deep(n)` is a list that nests n deep, `long(n)` a string of n bytes.
 
 use gn_calls_text::CallError;
 use gn_faults::Code;
 use gn_paths::Text;
 use gn_values::{Items, Value, print_text};
 use std::alloc::{AllocError, Global};
+use std::fmt::Debug;
 
-// The value of an argument.
-#[derive(Clone, Copy)]
-pub(crate) enum Argument {
-    Integer(i64),
-    String(&'static [u8]),
-    // A list of strings.
-    Strings(&'static [&'static [u8]]),
-    // A list of integers.
-    Integers(&'static [i64]),
-    // A list that nests so deep.
-    Deep(usize),
-    // A string of so many bytes.
-    Long(usize),
+/// A table of calls, each with what it answers: a value, or a code, with the number of the argument behind it if the fault
+/// stands there. Where it matters, the place of the call stands in front of it.
+macro_rules! calls {
+    ($($call:ident($($argument:expr),*) => $answer:expr;)+) => {
+        concat!($(stringify!($call), "\x1f", $(stringify!($argument), "\x1d",)* "\x1f", stringify!($answer), "\x1f\x1e"),+)
+    };
+    ($($place:ident: $call:ident($($argument:expr),*) => $answer:expr;)+) => {
+        concat!($(stringify!($call), "\x1f", $(stringify!($argument), "\x1d",)* "\x1f", stringify!($answer), "\x1f", stringify!($place), "\x1f\x1e"),+)
+    };
 }
 
-use Argument::{Deep, Integer, Integers, Long, String, Strings};
+pub(crate) use calls;
 
-// The text of the value that a call gives, or its code, at an argument or at the call's name.
-#[derive(Clone, Copy)]
-pub(crate) enum Answer {
-    Gives(&'static [u8]),
-    Refuses(Code, Option<u32>),
+/// The field of a row at a place, from 0; nothing where the row has none.
+pub(crate) fn field(row: &str, place: usize) -> &str {
+    row.split('\x1f').nth(place).unwrap_or("")
 }
 
-use Answer::{Gives, Refuses};
+/// What stands between the first two quotes; nothing where there are none.
+pub(crate) fn quoted(text: &str) -> &str {
+    text.split('"').nth(1).unwrap_or("")
+}
 
-pub(crate) const WRONG_NUMBER: Answer = Refuses(Code::BadArguments, None);
+/// What stands in front of the first such character; all where there is none.
+pub(crate) fn before(text: &str, mark: char) -> &str {
+    text.split(mark).next().unwrap_or("")
+}
 
-pub(crate) const TOO_LONG: Answer = Refuses(Code::TooLong, None);
+/// Whether a value is printed so for a programmer.
+pub(crate) fn is_shown<T: Debug + Copy>(
+    alloc: Global,
+    value: T,
+    wanted: &str,
+) -> Result<bool, AllocError> {
+    let text = format!(in alloc; "{value:?}")?;
+    Ok(text.as_str() == wanted)
+}
 
-pub(crate) const FIRST: Answer = Refuses(Code::BadTypes, Some(0));
+// The bytes of a text whose characters stand for the last bytes of their numbers.
+fn bytes_of(alloc: Global, text: &str) -> Result<Vec<u8>, AllocError> {
+    let mut bytes = Vec::with_capacity(alloc, text.len())?;
+    for character in text.chars() {
+        let [last, ..] = u32::from(character).to_le_bytes();
+        bytes.push(last)?;
+    }
+    Ok(bytes)
+}
 
-pub(crate) const SECOND: Answer = Refuses(Code::BadTypes, Some(1));
+fn string(alloc: Global, text: &str) -> Result<Value, AllocError> {
+    Ok(Value::Str(Text::from_vec(bytes_of(alloc, quoted(text))?)))
+}
 
-pub(crate) const THIRD: Answer = Refuses(Code::BadTypes, Some(2));
-
-pub(crate) const FOURTH: Answer = Refuses(Code::BadTypes, Some(3));
+// A string or an integer.
+fn single(alloc: Global, text: &str) -> Result<Value, AllocError> {
+    match text.parse::<i64>() {
+        Ok(number) => Ok(Value::Int(number)),
+        Err(_) => string(alloc, text),
+    }
+}
 
 fn put(items: &mut Items, value: Value) -> Result<(), AllocError> {
     match items.push(value) {
@@ -51,22 +80,14 @@ fn put(items: &mut Items, value: Value) -> Result<(), AllocError> {
     }
 }
 
-fn put_string(alloc: Global, items: &mut Items, bytes: &[u8]) -> Result<(), AllocError> {
-    put(items, Value::Str(Text::from_bytes(alloc, bytes)?))
+fn put_single(alloc: Global, items: &mut Items, text: &str) -> Result<(), AllocError> {
+    put(items, single(alloc, text)?)
 }
 
-fn strings(alloc: Global, texts: &[&[u8]]) -> Result<Value, AllocError> {
+fn list(alloc: Global, text: &str) -> Result<Value, AllocError> {
     let mut items = Items::new(alloc);
-    for text in texts {
-        put_string(alloc, &mut items, *text)?;
-    }
-    Ok(Value::List(items))
-}
-
-fn integers(alloc: Global, numbers: &[i64]) -> Result<Value, AllocError> {
-    let mut items = Items::new(alloc);
-    for number in numbers {
-        put(&mut items, Value::Int(*number))?;
+    for item in text.trim_matches(['[', ']']).split_terminator(", ") {
+        put_single(alloc, &mut items, item)?;
     }
     Ok(Value::List(items))
 }
@@ -85,40 +106,71 @@ fn deep(alloc: Global, depth: usize) -> Result<Value, AllocError> {
     Ok(value)
 }
 
-pub(crate) fn value(alloc: Global, argument: &Argument) -> Result<Value, AllocError> {
-    match argument {
-        Integer(number) => Ok(Value::Int(*number)),
-        String(bytes) => Ok(Value::Str(Text::from_bytes(alloc, *bytes)?)),
-        Strings(texts) => strings(alloc, *texts),
-        Integers(numbers) => integers(alloc, *numbers),
-        Deep(depth) => deep(alloc, *depth),
-        Long(len) => Ok(Value::Str(Text::from_vec(vec![in alloc; b'a'; *len]?))),
+fn long(alloc: Global, len: usize) -> Result<Value, AllocError> {
+    Ok(Value::Str(Text::from_vec(vec![in alloc; b'a'; len]?)))
+}
+
+// The number between brackets.
+fn size(text: &str) -> usize {
+    text.split(['(', ')'])
+        .nth(1)
+        .unwrap_or("")
+        .parse::<usize>()
+        .unwrap_or(0)
+}
+
+/// The value that a table writes so.
+pub(crate) fn value(alloc: Global, text: &str) -> Result<Value, AllocError> {
+    match text.as_bytes() {
+        [b'[', ..] => list(alloc, text),
+        [b'd', ..] => deep(alloc, size(text)),
+        [b'l', ..] => long(alloc, size(text)),
+        _ => single(alloc, text),
     }
 }
 
-pub(crate) fn values(alloc: Global, arguments: &[Argument]) -> Result<Vec<Value>, AllocError> {
-    let mut values = Vec::with_capacity(alloc, arguments.len())?;
-    for argument in arguments {
-        values.push(value(alloc, argument)?)?;
+fn put_value(alloc: Global, values: &mut Vec<Value>, text: &str) -> Result<(), AllocError> {
+    values.push(value(alloc, text)?)?;
+    Ok(())
+}
+
+/// The values of a call's arguments.
+pub(crate) fn values(alloc: Global, arguments: &str) -> Result<Vec<Value>, AllocError> {
+    let mut values = Vec::new(alloc);
+    for argument in arguments.split_terminator('\x1d') {
+        put_value(alloc, &mut values, argument)?;
     }
     Ok(values)
 }
 
-fn gives(alloc: Global, value: &Value, text: &[u8]) -> Result<bool, AllocError> {
+fn is_printed(alloc: Global, value: &Value, wanted: &str) -> Result<bool, AllocError> {
+    let wanted = bytes_of(alloc, wanted)?;
     let printed = print_text(alloc, value, true)?;
-    Ok(printed.as_bytes() == text)
+    Ok(printed.as_bytes() == wanted.as_slice())
 }
 
-pub(crate) fn is(
+fn is_code(
+    alloc: Global,
+    code: Code,
+    argument: Option<u32>,
+    wanted: &str,
+) -> Result<bool, AllocError> {
+    let text = match argument {
+        Some(at) => format!(in alloc; "{code:?}({at})")?,
+        None => format!(in alloc; "{code:?}")?,
+    };
+    Ok(text.as_str() == wanted)
+}
+
+/// Whether a call answers what a table writes so.
+pub(crate) fn is_answer(
     alloc: Global,
     answered: &Result<Value, CallError>,
-    answer: Answer,
+    wanted: &str,
 ) -> Result<bool, AllocError> {
-    match (answered, answer) {
-        (Ok(value), Gives(text)) => gives(alloc, value, text),
-        (Err(CallError::Refused { code, argument }), Refuses(other, at)) => {
-            Ok(code.number() == other.number() && *argument == at)
-        }
-        _ => Ok(false),
+    match answered {
+        Ok(value) => is_printed(alloc, value, wanted),
+        Err(CallError::Refused { code, argument }) => is_code(alloc, *code, *argument, wanted),
+        Err(CallError::Memory) => Ok(false),
     }
 }

@@ -1,59 +1,63 @@
-// Where the tests' calls on paths and labels stand, and whether one answers as it should.
+// Where the tests' calls on paths and labels stand, and whether one answers as it should. A call at `root` stands in the root
+// directory under the default toolchain `//t:t`, one at `inner` in `//a` under the toolchain `//t:u`, and one at `early` in
+// `//a` while no toolchain is known.
 
-use crate::rows::{Answer, Argument, is, values};
+use crate::rows::{field, is_answer, values};
 use gn_calls_path::{PathCall, Where, call_path};
-use gn_paths::{Path, Text, path_meant};
-use std::alloc::{AllocError, Global};
+use gn_paths::{Path, PathError, Text, resolve};
+use std::alloc::Global;
 
-// Where a call stands.
-#[derive(Clone, Copy)]
-pub(crate) enum Stand {
-    // In the root directory, under the default toolchain `//t:t`.
-    Root,
-    // In `//a`, under the toolchain `//t:u`.
-    Inner,
-    // In `//a`, while no toolchain is known.
-    Early,
-}
-
-use Stand::{Early, Inner, Root};
-
-pub(crate) type Row = (Stand, PathCall, &'static [Argument], Answer);
-
-fn path(alloc: Global, bytes: &[u8]) -> Result<Path, AllocError> {
+/// What a text means at the root.
+pub(crate) fn at_root(alloc: Global, text: &str) -> Result<Path, PathError> {
     let root = Path::root(alloc)?;
-    match path_meant(alloc, &root, bytes)? {
-        Ok(path) => Ok(path),
-        Err(_) => Ok(root),
-    }
+    resolve(alloc, &root, text.as_bytes())
 }
 
 fn standing(
     alloc: Global,
-    directory: &[u8],
-    toolchain: &[u8],
-    default_toolchain: &[u8],
-) -> Result<Where, AllocError> {
+    directory: &str,
+    toolchain: &str,
+    default_toolchain: &str,
+) -> Result<Where, PathError> {
     Ok(Where {
-        directory: path(alloc, directory)?,
-        toolchain: Text::from_bytes(alloc, toolchain)?,
-        default_toolchain: Text::from_bytes(alloc, default_toolchain)?,
-        build: path(alloc, b"//out")?,
+        directory: at_root(alloc, directory)?,
+        toolchain: Text::from_bytes(alloc, toolchain.as_bytes())?,
+        default_toolchain: Text::from_bytes(alloc, default_toolchain.as_bytes())?,
+        build: at_root(alloc, "//out")?,
         root: Text::from_bytes(alloc, b"/src")?,
     })
 }
 
-fn place(alloc: Global, stand: Stand) -> Result<Where, AllocError> {
-    match stand {
-        Root => standing(alloc, b"//", b"//t:t", b"//t:t"),
-        Inner => standing(alloc, b"//a", b"//t:u", b"//t:t"),
-        Early => standing(alloc, b"//a", b"", b""),
+fn place_named(alloc: Global, name: &str) -> Result<Where, PathError> {
+    match name {
+        "root" => standing(alloc, "//", "//t:t", "//t:t"),
+        "inner" => standing(alloc, "//a", "//t:u", "//t:t"),
+        _ => standing(alloc, "//a", "", ""),
     }
 }
 
-pub(crate) fn is_answered(alloc: Global, row: &Row) -> Result<bool, AllocError> {
-    let at = place(alloc, row.0)?;
-    let values = values(alloc, row.2)?;
-    let answered = call_path(alloc, row.1, values.as_slice(), &at);
-    is(alloc, &answered, row.3)
+fn call_named(name: &str) -> Option<PathCall> {
+    match name {
+        "get_label_info" => Some(PathCall::GetLabelInfo),
+        "get_path_info" => Some(PathCall::GetPathInfo),
+        "label_matches" => Some(PathCall::LabelMatches),
+        "process_file_template" => Some(PathCall::ProcessFileTemplate),
+        "rebase_path" => Some(PathCall::RebasePath),
+        _ => None,
+    }
+}
+
+fn answers(alloc: Global, row: &str, call: PathCall) -> Result<bool, PathError> {
+    let at = place_named(alloc, field(row, 3))?;
+    let values = values(alloc, field(row, 1))?;
+    let answered = call_path(alloc, call, values.as_slice(), &at);
+    Ok(is_answer(alloc, &answered, field(row, 2))?)
+}
+
+/// Whether the call of a row answers what the row expects.
+pub(crate) fn is_answered(alloc: Global, row: &str) -> Result<bool, PathError> {
+    match call_named(field(row, 0)) {
+        Some(call) => answers(alloc, row, call),
+        None => Ok(false),
+    }
 }
