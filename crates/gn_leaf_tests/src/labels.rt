@@ -1,85 +1,128 @@
 // Labels and patterns, with values that the language's rules give.
 
-use crate::rows::{field, table};
+use crate::rows::{calls, field, is_shown};
 use gn_labels::{Label, LabelError, Pattern, PatternError, is_name};
 use gn_paths::{Path, PathError, Text, resolve};
-use std::alloc::Global;
+use std::alloc::{AllocError, Global};
 use std::test::Fail;
+
+// Calls on labels, each with what it answers or why it doesn't. Where a label is an argument, its directory, its name and its
+// toolchain stand there. Labels are read in a file of `//c/d` whose toolchain is `//t:u`, and printed where `//t:t` is the
+// default toolchain.
+const LABELS: &str = calls! {
+    print("//", "g", "//t:t") => "//:g";
+    print("//", "k", "//t:t") => "//:k";
+    print("//", "k", "//a:a") => "//:k(//a:a)";
+    print("//", "k", "//t:u") => "//:k(//t:u)";
+    print("//a", "a", "//t:t") => "//a:a";
+    before("//", "", "//t:t", "//", "g", "//t:t") => true;
+    before("//", "g", "//t:t", "//", "k", "//t:t") => true;
+    before("//", "k", "//t:t", "//", "k", "//a:a") => true;
+    before("//", "k", "//a:a", "//", "k", "//t:u") => true;
+    before("//", "k", "//t:u", "//a", "a", "//t:t") => true;
+    read(":k(//t:t)") => "//c/d:k";
+    read(":k") => "//c/d:k(//t:u)";
+    read(":b(:t)") => "//c/d:b(//c/d:t)";
+    read("//a/(//t)") => "//a:a";
+    read("../x:y(//t:t)") => "//c/x:y";
+    read("//a*:b(//t:t)") => "//a*:b";
+    read("//:g(//t:t)") => "//:g";
+    read("x") => "BadLabel";
+    read("../x") => "BadLabel";
+    read("//") => "BadLabel";
+    read("/s:a") => "BadLabel";
+    read("//a:b()") => "BadLabel";
+    read("//a:b(c)") => "BadLabel";
+    read("//a:b(//t:t") => "BadLabel";
+    read("//..") => "AboveRoot";
+    read("//../.") => "AboveRoot";
+    read("//./") => "BadLabel";
+    read("//a/..") => "BadLabel";
+    read("//a\0") => "BadLabel";
+    read("//a\0//") => "BadLabel";
+    read("//a\0/.") => "BadLabel";
+    read("//a\0/b") => "BadPath";
+    read("//../a)") => "BadLabel";
+    read("//../a)//") => "BadLabel";
+    read("//../a)/.") => "BadLabel";
+    read("//..:b(c)") => "BadLabel";
+    is_name("a/b") => true;
+    is_name("a*") => false;
+};
+
+// Calls on patterns, which are read in a file of `//c/d`.
+const PATTERNS: &str = calls! {
+    matches("//a:*", "//a:a") => true;
+    matches("//a", "//a:a") => true;
+    matches("//a/*", "//a:a") => true;
+    matches("//a/*", "//a/b:a") => true;
+    matches("//*(//t:u)", "//a:a") => true;
+    matches("../*", "//c/x:a") => true;
+    matches(":*", ":a") => true;
+    matches("*", "//a:a") => true;
+    matches("//a:*(//t*:t)", "//a:x(//t*:t)") => true;
+    matches("//a:*", "//a/b:a") => false;
+    matches("//a", "//a:b") => false;
+    matches("//a/*", "//ab:a") => false;
+    matches("//a/*", "//:a") => false;
+    matches("//*(//t:u)", "//a:a(//t:t)") => false;
+    matches("../*", "//:a") => false;
+    matches(":*", "//c:a") => false;
+    matches("//a:*(//t*:t)", "//a:x(//t:t)") => false;
+    read("//a*") => "BadPattern";
+    read("//a*:b") => "BadPattern";
+    read("a") => "BadPattern";
+    read("/s/*") => "BadPattern";
+    read("//../*(x)") => "BadPattern";
+    read("//../*") => "AboveRoot";
+    read("//../a)//") => "BadPattern";
+    read("//../a)/.") => "BadPattern";
+    read("//a\0//") => "BadPattern";
+    read("//a\0/.") => "BadPattern";
+    read("//a:b(//t*:t)") => "BadPattern";
+};
 
 fn at_root(alloc: Global, text: &[u8]) -> Result<Path, PathError> {
     let root = Path::root(alloc)?;
     resolve(alloc, &root, text)
 }
 
-fn label(alloc: Global, directory: &str, name: &str, toolchain: &str) -> Result<Label, Fail> {
+// The label whose directory stands at this place of a row, with its name and its toolchain behind it.
+fn label(alloc: Global, row: &str, place: usize) -> Result<Label, Fail> {
     Ok(Label {
-        dir: at_root(alloc, directory.as_bytes())?,
-        name: Text::from_bytes(alloc, name.as_bytes())?,
-        toolchain: Text::from_bytes(alloc, toolchain.as_bytes())?,
+        dir: at_root(alloc, field(row, place).as_bytes())?,
+        name: Text::from_bytes(alloc, field(row, place.saturating_add(1)).as_bytes())?,
+        toolchain: Text::from_bytes(alloc, field(row, place.saturating_add(2)).as_bytes())?,
     })
 }
 
-// Whether the label is printed so where `//t:t` is the default toolchain.
-fn prints_as(alloc: Global, label: &Label, shown: &[u8]) -> Result<bool, Fail> {
+fn prints_as(alloc: Global, label: &Label, wanted: &str) -> Result<bool, AllocError> {
     let default = Text::from_bytes(alloc, b"//t:t")?;
     let text = label.print(alloc, &default)?;
-    Ok(text.as_bytes() == shown)
+    Ok(text.as_bytes() == wanted.as_bytes())
 }
-
-// The directory, the name and the toolchain of a label, and the label as it is printed.
-const PRINTED: &str = table! {
-    "//", "g", "//t:t", "//:g";
-    "//", "k", "//t:t", "//:k";
-    "//", "k", "//a:a", "//:k(//a:a)";
-    "//", "k", "//t:u", "//:k(//t:u)";
-    "//a", "a", "//t:t", "//a:a";
-};
 
 // A copy of the first label of a row.
 fn first_label(alloc: Global, row: &str) -> Result<Label, Fail> {
-    let label = label(alloc, field(row, 0), field(row, 1), field(row, 2))?;
+    let label = label(alloc, row, 2)?;
     Ok(label.copy(alloc)?)
 }
 
 fn is_printed(alloc: Global, row: &str) -> Result<bool, Fail> {
     let label = first_label(alloc, row)?;
-    prints_as(alloc, &label, field(row, 3).as_bytes())
+    Ok(prints_as(alloc, &label, field(row, 1))?)
 }
 
-#[test]
-fn labels_are_printed(rt: HostRuntime) -> Result<(), Fail> {
-    for row in PRINTED.split_terminator('\x1e') {
-        assert!(rt; is_printed(rt.alloc(), row)?, "at {row}");
-    }
-    Ok(())
-}
-
-// Two labels, of which the first stands before the second.
-const ORDERED: &str = table! {
-    "//", "", "//t:t", "//", "g", "//t:t";
-    "//", "g", "//t:t", "//", "k", "//t:t";
-    "//", "k", "//t:t", "//", "k", "//a:a";
-    "//", "k", "//a:a", "//", "k", "//t:u";
-    "//", "k", "//t:u", "//a", "a", "//t:t";
-};
-
-fn stands_before(alloc: Global, first: &Label, second: &Label) -> Result<bool, Fail> {
+fn stands_before(alloc: Global, first: &Label, second: &Label) -> Result<bool, AllocError> {
     let default = Text::from_bytes(alloc, b"//t:t")?;
     Ok(first.before(second, &default) && !second.before(first, &default))
 }
 
 fn is_ordered(alloc: Global, row: &str) -> Result<bool, Fail> {
     let first = first_label(alloc, row)?;
-    let second = label(alloc, field(row, 3), field(row, 4), field(row, 5))?;
-    stands_before(alloc, &first, &second)
-}
-
-#[test]
-fn labels_are_ordered(rt: HostRuntime) -> Result<(), Fail> {
-    for row in ORDERED.split_terminator('\x1e') {
-        assert!(rt; is_ordered(rt.alloc(), row)?, "at {row}");
-    }
-    Ok(())
+    let second = label(alloc, row, 5)?;
+    let is_before = stands_before(alloc, &first, &second)?;
+    Ok(is_shown(alloc, is_before, field(row, 1))?)
 }
 
 // What a file of `//c/d` means by the text, where its toolchain is `//t:u`.
@@ -97,87 +140,48 @@ fn read_there(alloc: Global, text: &str, directory: &Path) -> Result<Label, Labe
     }
 }
 
-// A text, and the label that is meant, as it is printed.
-const READ: &str = table! {
-    ":k(//t:t)", "//c/d:k";
-    ":k", "//c/d:k(//t:u)";
-    ":b(:t)", "//c/d:b(//c/d:t)";
-    "//a/(//t)", "//a:a";
-    "../x:y(//t:t)", "//c/x:y";
-    "//a*:b(//t:t)", "//a*:b";
-    "//:g(//t:t)", "//:g";
-};
-
-fn is_read(alloc: Global, row: &str) -> Result<bool, Fail> {
-    let label = read(alloc, field(row, 0))?;
-    prints_as(alloc, &label, field(row, 1).as_bytes())
-}
-
-#[test]
-fn labels_are_read(rt: HostRuntime) -> Result<(), Fail> {
-    for row in READ.split_terminator('\x1e') {
-        assert!(rt; is_read(rt.alloc(), row)?, "at {row}");
-    }
-    Ok(())
-}
-
-// A text, and why it is no label.
-const REFUSED: &str = table! {
-    "x", "BadLabel";
-    "../x", "BadLabel";
-    "//", "BadLabel";
-    "/s:a", "BadLabel";
-    "//a:b()", "BadLabel";
-    "//a:b(c)", "BadLabel";
-    "//a:b(//t:t", "BadLabel";
-    "//..", "AboveRoot";
-    "//../.", "AboveRoot";
-    "//./", "BadLabel";
-    "//a/..", "BadLabel";
-    "//a\0", "BadLabel";
-    "//a\0//", "BadLabel";
-    "//a\0/.", "BadLabel";
-    "//a\0/b", "BadPath";
-    "//../a)", "BadLabel";
-    "//../a)//", "BadLabel";
-    "//../a)/.", "BadLabel";
-    "//..:b(c)", "BadLabel";
-};
-
-fn path_error_name(error: &PathError) -> &'static [u8] {
+fn path_error_name(error: &PathError) -> &'static str {
     match error {
-        PathError::AboveRoot => b"AboveRoot",
-        PathError::BadPath => b"BadPath",
-        PathError::Memory => b"Memory",
+        PathError::AboveRoot => "AboveRoot",
+        PathError::BadPath => "BadPath",
+        PathError::Memory => "Memory",
     }
 }
 
-fn error_name(error: &LabelError) -> &'static [u8] {
+fn error_name(error: &LabelError) -> &'static str {
     match error {
-        LabelError::BadLabel => b"BadLabel",
+        LabelError::BadLabel => "BadLabel",
         LabelError::Path(error) => path_error_name(error),
-        LabelError::Memory => b"Memory",
+        LabelError::Memory => "Memory",
     }
 }
 
-fn is_refused(alloc: Global, row: &str) -> bool {
-    match &read(alloc, field(row, 0)) {
-        Ok(_) => false,
-        Err(error) => error_name(error) == field(row, 1).as_bytes(),
+fn is_read(alloc: Global, row: &str) -> Result<bool, AllocError> {
+    match &read(alloc, field(row, 2)) {
+        Ok(label) => prints_as(alloc, label, field(row, 1)),
+        Err(error) => Ok(error_name(error) == field(row, 1)),
+    }
+}
+
+fn is_known(alloc: Global, row: &str) -> Result<bool, AllocError> {
+    is_shown(alloc, is_name(field(row, 2).as_bytes()), field(row, 1))
+}
+
+fn is_label_answered(alloc: Global, row: &str) -> Result<bool, Fail> {
+    match field(row, 0) {
+        "print" => is_printed(alloc, row),
+        "before" => is_ordered(alloc, row),
+        "read" => Ok(is_read(alloc, row)?),
+        "is_name" => Ok(is_known(alloc, row)?),
+        _ => Ok(false),
     }
 }
 
 #[test]
-fn bad_labels_are_refused(rt: HostRuntime) -> Result<(), Fail> {
-    for row in REFUSED.split_terminator('\x1e') {
-        assert!(rt; is_refused(rt.alloc(), row), "at {row}");
+fn calls_on_labels_answer(rt: HostRuntime) -> Result<(), Fail> {
+    for row in LABELS.split_terminator('\x1e') {
+        assert!(rt; is_label_answered(rt.alloc(), row)?, "at {row}");
     }
-    Ok(())
-}
-
-#[test]
-fn names_are_known(rt: HostRuntime) -> Result<(), Fail> {
-    assert!(rt; is_name(b"a/b") && !is_name(b"a*"));
     Ok(())
 }
 
@@ -188,91 +192,31 @@ fn pattern(alloc: Global, text: &str) -> Result<Pattern, PatternError> {
     }
 }
 
-// Patterns, each with a label that it matches.
-const MATCHED: &str = table! {
-    "//a:*", "//a:a";
-    "//a", "//a:a";
-    "//a/*", "//a:a";
-    "//a/*", "//a/b:a";
-    "//*(//t:u)", "//a:a";
-    "../*", "//c/x:a";
-    ":*", ":a";
-    "*", "//a:a";
-    "//a:*(//t*:t)", "//a:x(//t*:t)";
-};
-
-// Patterns, each with a label that it doesn't match.
-const PASSED_BY: &str = table! {
-    "//a:*", "//a/b:a";
-    "//a", "//a:b";
-    "//a/*", "//ab:a";
-    "//a/*", "//:a";
-    "//*(//t:u)", "//a:a(//t:t)";
-    "../*", "//:a";
-    ":*", "//c:a";
-    "//a:*(//t*:t)", "//a:x(//t:t)";
-};
-
-fn matches(alloc: Global, pattern: &Pattern, text: &str) -> Result<bool, Fail> {
-    let label = read(alloc, text)?;
-    Ok(pattern.matches(&label))
-}
-
-fn is_matched(alloc: Global, row: &str) -> Result<bool, Fail> {
-    let pattern = pattern(alloc, field(row, 0))?;
-    matches(alloc, &pattern, field(row, 1))
-}
-
-#[test]
-fn patterns_match_labels(rt: HostRuntime) -> Result<(), Fail> {
-    for row in MATCHED.split_terminator('\x1e') {
-        assert!(rt; is_matched(rt.alloc(), row)?, "at {row}");
-    }
-    Ok(())
-}
-
-#[test]
-fn patterns_pass_labels_by(rt: HostRuntime) -> Result<(), Fail> {
-    for row in PASSED_BY.split_terminator('\x1e') {
-        assert!(rt; !is_matched(rt.alloc(), row)?, "at {row}");
-    }
-    Ok(())
-}
-
-// A text, and why it is no pattern.
-const BAD_PATTERNS: &str = table! {
-    "//a*", "BadPattern";
-    "//a*:b", "BadPattern";
-    "a", "BadPattern";
-    "/s/*", "BadPattern";
-    "//../*(x)", "BadPattern";
-    "//../*", "AboveRoot";
-    "//../a)//", "BadPattern";
-    "//../a)/.", "BadPattern";
-    "//a\0//", "BadPattern";
-    "//a\0/.", "BadPattern";
-    "//a:b(//t*:t)", "BadPattern";
-};
-
-fn pattern_error_name(error: &PatternError) -> &'static [u8] {
+fn pattern_error_name(error: &PatternError) -> &'static str {
     match error {
-        PatternError::BadPattern => b"BadPattern",
+        PatternError::BadPattern => "BadPattern",
         PatternError::Path(error) => path_error_name(error),
-        PatternError::Memory => b"Memory",
+        PatternError::Memory => "Memory",
     }
 }
 
-fn is_bad_pattern(alloc: Global, row: &str) -> bool {
-    match &pattern(alloc, field(row, 0)) {
-        Ok(_) => false,
-        Err(error) => pattern_error_name(error) == field(row, 1).as_bytes(),
+fn matches(alloc: Global, pattern: &Pattern, row: &str) -> Result<bool, Fail> {
+    let label = read(alloc, field(row, 3))?;
+    Ok(is_shown(alloc, pattern.matches(&label), field(row, 1))?)
+}
+
+// Whether a pattern has the answer of a row: what it says of a label, or why it is none.
+fn is_pattern_answered(alloc: Global, row: &str) -> Result<bool, Fail> {
+    match &pattern(alloc, field(row, 2)) {
+        Ok(pattern) => matches(alloc, pattern, row),
+        Err(error) => Ok(pattern_error_name(error) == field(row, 1)),
     }
 }
 
 #[test]
-fn bad_patterns_are_refused(rt: HostRuntime) -> Result<(), Fail> {
-    for row in BAD_PATTERNS.split_terminator('\x1e') {
-        assert!(rt; is_bad_pattern(rt.alloc(), row), "at {row}");
+fn calls_on_patterns_answer(rt: HostRuntime) -> Result<(), Fail> {
+    for row in PATTERNS.split_terminator('\x1e') {
+        assert!(rt; is_pattern_answered(rt.alloc(), row)?, "at {row}");
     }
     Ok(())
 }

@@ -1,30 +1,39 @@
 // What an execution leaves.
 
+use crate::rows::{field, is_shown, number, table};
 use gn_items::{Item, ItemKind, Outcome, Question};
 use gn_labels::Label;
-use gn_paths::{Path, Place, Text, resolve};
+use gn_paths::{Path, PathError, Place, Text, resolve};
 use std::alloc::{AllocError, Global};
 use std::test::Fail;
 
 // The name of an item, and its line.
-const ADDED: [(&[u8], u32); 3] = [(b"k", 1), (b"g", 2), (b"k", 3)];
+const ADDED: &str = table! {
+    "k", 1;
+    "g", 2;
+    "k", 3;
+};
 
 // A name, a toolchain, and whether the label is known.
-const KNOWN: [(&[u8], &[u8], bool); 4] = [
-    (b"k", b"", true),
-    (b"g", b"", true),
-    (b"k", b"//t:t", false),
-    (b"h", b"", false),
-];
+const KNOWN: &str = table! {
+    "k", "", "true";
+    "g", "", "true";
+    "k", "//t:t", "false";
+    "h", "", "false";
+};
 
-// A path, and whether what its import leaves is asked for, or else its content.
-const ASKED: [(&[u8], bool); 3] = [(b"//a", false), (b"//b", false), (b"//b", true)];
+// What is asked for, the content of a file or what its import leaves, and the path.
+const ASKED: &str = table! {
+    "content", "//a";
+    "content", "//b";
+    "import", "//b";
+};
 
-fn label(alloc: Global, name: &[u8], toolchain: &[u8]) -> Result<Label, AllocError> {
+fn label(alloc: Global, name: &str, toolchain: &str) -> Result<Label, AllocError> {
     Ok(Label {
         dir: Path::root(alloc)?,
-        name: Text::from_bytes(alloc, name)?,
-        toolchain: Text::from_bytes(alloc, toolchain)?,
+        name: Text::from_bytes(alloc, name.as_bytes())?,
+        toolchain: Text::from_bytes(alloc, toolchain.as_bytes())?,
     })
 }
 
@@ -36,42 +45,47 @@ fn place(alloc: Global, line: u32) -> Result<Place, AllocError> {
     })
 }
 
-fn item(alloc: Global, row: &(&[u8], u32)) -> Result<Item, AllocError> {
-    let label = label(alloc, row.0, b"")?;
+// The line of a row.
+fn line(row: &str) -> u32 {
+    u32::try_from(number(row, 1)).unwrap_or(0)
+}
+
+fn item(alloc: Global, row: &str) -> Result<Item, AllocError> {
+    let label = label(alloc, field(row, 0), "")?;
     Ok(Item {
         kind: ItemKind::Group,
         label,
-        place: place(alloc, row.1)?,
+        place: place(alloc, line(row))?,
     })
 }
 
-fn add(alloc: Global, outcome: &mut Outcome, row: &(&[u8], u32)) -> Result<(), AllocError> {
+fn add(alloc: Global, outcome: &mut Outcome, row: &str) -> Result<(), AllocError> {
     outcome.add_item(item(alloc, row)?)?;
-    outcome.print(Text::from_bytes(alloc, row.0)?)
+    outcome.print(Text::from_bytes(alloc, field(row, 0).as_bytes())?)
 }
 
 fn outcome(alloc: Global) -> Result<Outcome, AllocError> {
     let mut outcome = Outcome::new(alloc);
-    for row in &ADDED {
+    for row in ADDED.split_terminator('\x1e') {
         add(alloc, &mut outcome, row)?;
     }
     Ok(outcome)
 }
 
-fn has(alloc: Global, outcome: &Outcome, row: &(&[u8], &[u8], bool)) -> Result<bool, AllocError> {
-    let label = label(alloc, row.0, row.1)?;
-    Ok(outcome.has(&label) == row.2)
+fn has(alloc: Global, outcome: &Outcome, row: &str) -> Result<bool, AllocError> {
+    let label = label(alloc, field(row, 0), field(row, 1))?;
+    is_shown(alloc, outcome.has(&label), field(row, 2))
 }
 
-fn is_known(alloc: Global, row: &(&[u8], &[u8], bool)) -> Result<bool, AllocError> {
+fn is_known(alloc: Global, row: &str) -> Result<bool, AllocError> {
     let outcome = outcome(alloc)?;
     has(alloc, &outcome, row)
 }
 
 #[test]
 fn labels_are_known(rt: HostRuntime) -> Result<(), Fail> {
-    for (number, row) in KNOWN.iter().enumerate() {
-        assert!(rt; is_known(rt.alloc(), row)?, "row {number}");
+    for row in KNOWN.split_terminator('\x1e') {
+        assert!(rt; is_known(rt.alloc(), row)?, "at {row}");
     }
     Ok(())
 }
@@ -115,40 +129,50 @@ fn items_and_lines_come_in_order(rt: HostRuntime) -> Result<(), Fail> {
     Ok(())
 }
 
-fn ask(alloc: Global, outcome: &mut Outcome, row: &(&[u8], bool)) -> Result<(), Fail> {
+fn path(alloc: Global, row: &str) -> Result<Path, PathError> {
     let root = Path::root(alloc)?;
-    let path = resolve(alloc, &root, row.0)?;
-    if row.1 {
-        outcome.ask_import(&path)?;
-    } else {
-        outcome.ask_content(&path)?;
-    }
-    Ok(())
+    resolve(alloc, &root, field(row, 1).as_bytes())
 }
 
-fn is_question(question: &Question, row: &(&[u8], bool)) -> bool {
+fn ask(alloc: Global, outcome: &mut Outcome, row: &str) -> Result<(), PathError> {
+    let path = path(alloc, row)?;
+    let asked = match field(row, 0) {
+        "import" => outcome.ask_import(&path),
+        _ => outcome.ask_content(&path),
+    };
+    Ok(asked?)
+}
+
+fn is_question(question: Option<&Question>, row: &str) -> bool {
     match question {
-        Question::Content(path) => !row.1 && path.as_text().as_bytes() == row.0,
-        Question::Import(path) => row.1 && path.as_text().as_bytes() == row.0,
+        Some(Question::Content(path)) => {
+            field(row, 0) == "content" && path.as_str() == field(row, 1)
+        }
+        Some(Question::Import(path)) => field(row, 0) == "import" && path.as_str() == field(row, 1),
+        None => false,
     }
 }
 
 fn are_asked(asked: &[Question]) -> bool {
-    match asked {
-        [first, second, third] => {
-            is_question(first, &ASKED[0])
-                && is_question(second, &ASKED[1])
-                && is_question(third, &ASKED[2])
+    let mut questions = asked.iter();
+    for row in ASKED.split_terminator('\x1e') {
+        if !is_question(questions.next(), row) {
+            return false;
         }
-        _ => false,
     }
+    questions.next().is_none()
 }
 
-fn are_asked_in_order(alloc: Global) -> Result<bool, Fail> {
-    let mut outcome = outcome(alloc)?;
-    for row in &ASKED {
-        ask(alloc, &mut outcome, row)?;
+fn ask_all(alloc: Global, outcome: &mut Outcome) -> Result<(), PathError> {
+    for row in ASKED.split_terminator('\x1e') {
+        ask(alloc, outcome, row)?;
     }
+    Ok(())
+}
+
+fn are_asked_in_order(alloc: Global) -> Result<bool, PathError> {
+    let mut outcome = outcome(alloc)?;
+    ask_all(alloc, &mut outcome)?;
     let kept = are_items(outcome.items()) && are_asked(outcome.asked());
     Ok(kept && are_asked(&outcome.into_asked()))
 }

@@ -1,17 +1,17 @@
 // Trees in memory, and the source and the sink over them.
 
+use crate::rows::{field, is_shown, number, table};
 use gn_outside::{ReadStop, Sink, SinkStop, Source, Tree, TreeFile, TreeSink, TreeSource};
 use std::alloc::{AllocError, Global};
 use std::test::Fail;
 
-const LIMIT: usize = 16_777_216;
-
-const FILES: [(&str, Option<TreeFile<'static>>); 4] = [
-    ("//BUILD.gn", Some(TreeFile::Bytes(b"new"))),
-    ("//a", Some(TreeFile::Bytes(b""))),
-    ("//big", Some(TreeFile::TooBig)),
-    ("//b", None),
-];
+// A path, and the bytes that the tree has there, or that it has none.
+const FILES: &str = table! {
+    "//BUILD.gn", "new";
+    "//a", "";
+    "//big", "TooBig";
+    "//b", "None";
+};
 
 fn tree(alloc: Global) -> Result<Tree, AllocError> {
     let mut tree = Tree::new(alloc);
@@ -22,24 +22,32 @@ fn tree(alloc: Global) -> Result<Tree, AllocError> {
     Ok(tree)
 }
 
-fn is_there(alloc: Global, row: &(&str, Option<TreeFile<'static>>)) -> Result<bool, AllocError> {
+fn is_file(found: Option<TreeFile<'_>>, wanted: &str) -> bool {
+    match found {
+        Some(TreeFile::Bytes(bytes)) => bytes == wanted.as_bytes(),
+        Some(TreeFile::TooBig) => wanted == "TooBig",
+        None => wanted == "None",
+    }
+}
+
+fn is_there(alloc: Global, row: &str) -> Result<bool, AllocError> {
     let tree = tree(alloc)?;
-    Ok(tree.get(row.0) == row.1)
+    Ok(is_file(tree.get(field(row, 0)), field(row, 1)))
 }
 
 #[test]
 fn a_tree_has_what_was_put_last(rt: HostRuntime) -> Result<(), Fail> {
-    for row in &FILES {
-        assert!(rt; is_there(rt.alloc(), row)?, "{}", row.0);
+    for row in FILES.split_terminator('\x1e') {
+        assert!(rt; is_there(rt.alloc(), row)?, "at {row}");
     }
     Ok(())
 }
 
 // How long a file is, and what its read answers: how long it is, or why there is none.
-const LENGTHS: [(usize, Result<Option<usize>, ReadStop>); 2] = [
-    (LIMIT, Ok(Some(LIMIT))),
-    (LIMIT + 1, Err(ReadStop::TooBig(16_777_217))),
-];
+const LENGTHS: &str = table! {
+    16777216, "Ok(Some(16777216))";
+    16777217, "Err(TooBig(16777217))";
+};
 
 fn file_of(alloc: Global, len: usize) -> Result<Tree, AllocError> {
     let mut tree = Tree::new(alloc);
@@ -56,36 +64,34 @@ fn length(source: &mut TreeSource, alloc: Global) -> Result<Option<usize>, ReadS
     }
 }
 
-fn is_long(
-    alloc: Global,
-    row: &(usize, Result<Option<usize>, ReadStop>),
-) -> Result<bool, AllocError> {
-    let mut source = TreeSource::new(alloc, file_of(alloc, row.0)?, Vec::new(alloc));
-    Ok(length(&mut source, alloc) == row.1)
+fn is_long(alloc: Global, row: &str) -> Result<bool, AllocError> {
+    let tree = file_of(alloc, number(row, 0))?;
+    let mut source = TreeSource::new(alloc, tree, Vec::new(alloc));
+    is_shown(alloc, length(&mut source, alloc), field(row, 1))
 }
 
 #[test]
 fn a_file_above_the_limit_is_too_big(rt: HostRuntime) -> Result<(), Fail> {
-    for row in &LENGTHS {
-        assert!(rt; is_long(rt.alloc(), row)?, "{}", row.0);
+    for row in LENGTHS.split_terminator('\x1e') {
+        assert!(rt; is_long(rt.alloc(), row)?, "at {row}");
     }
     Ok(())
 }
 
-// The reads from a source that fails at the second, in order, with their answers.
-const READS: [(&str, Result<Option<&[u8]>, ReadStop>); 3] = [
-    ("//a", Ok(Some(b"1"))),
-    ("//b", Err(ReadStop::Failed)),
-    ("//c", Ok(None)),
-];
+// The reads from a source that fails at the second, in order, with the bytes that each answers, or why there are none.
+const READS: &str = table! {
+    "//a", "1";
+    "//b", "Failed";
+    "//c", "None";
+};
 
 // The path of each read by its number.
-const READ_PATHS: [(usize, Option<&str>); 4] = [
-    (0, Some("//a")),
-    (1, Some("//b")),
-    (2, Some("//c")),
-    (3, None),
-];
+const READ_PATHS: &str = table! {
+    0, "Some(\"//a\")";
+    1, "Some(\"//b\")";
+    2, "Some(\"//c\")";
+    3, "None";
+};
 
 // A source may go to a thread.
 fn sent<S: Source + Send>(source: S) -> S {
@@ -103,89 +109,90 @@ fn failing_source(alloc: Global) -> Result<TreeSource, AllocError> {
     Ok(sent(TreeSource::new(alloc, one_file(alloc)?, failing)))
 }
 
-fn answers(
-    source: &mut TreeSource,
-    alloc: Global,
-    row: &(&str, Result<Option<&[u8]>, ReadStop>),
-) -> bool {
-    match source.read(alloc, row.0) {
-        Ok(Some(bytes)) => row.1 == Ok(Some(bytes.as_slice())),
-        Ok(None) => row.1 == Ok(None),
-        Err(stop) => row.1 == Err(stop),
+fn is_read(read: &Result<Option<Vec<u8>>, ReadStop>, wanted: &str) -> bool {
+    match read {
+        Ok(Some(bytes)) => bytes.as_slice() == wanted.as_bytes(),
+        Ok(None) => wanted == "None",
+        Err(ReadStop::Failed) => wanted == "Failed",
+        Err(_) => false,
     }
 }
 
 fn answers_all(source: &mut TreeSource, alloc: Global) -> bool {
-    for row in &READS {
-        if !answers(source, alloc, row) {
+    for row in READS.split_terminator('\x1e') {
+        if !is_read(&source.read(alloc, field(row, 0)), field(row, 1)) {
             return false;
         }
     }
     true
 }
 
-fn has_read(alloc: Global, row: &(usize, Option<&str>)) -> Result<bool, AllocError> {
+fn has_read(alloc: Global, row: &str) -> Result<bool, AllocError> {
     let mut source = failing_source(alloc)?;
-    Ok(answers_all(&mut source, alloc) && source.read_path(row.0) == row.1)
+    let answers = answers_all(&mut source, alloc);
+    Ok(answers && is_shown(alloc, source.read_path(number(row, 0)), field(row, 1))?)
 }
 
 #[test]
 fn a_source_fails_at_the_calls_listed(rt: HostRuntime) -> Result<(), Fail> {
-    for row in &READ_PATHS {
-        assert!(rt; has_read(rt.alloc(), row)?, "{}", row.0);
+    for row in READ_PATHS.split_terminator('\x1e') {
+        assert!(rt; has_read(rt.alloc(), row)?, "at {row}");
     }
     Ok(())
 }
 
-// A call of a sink.
-enum Call {
-    Say(&'static [u8]),
-    Put(&'static str, &'static [u8]),
-}
+// The calls of a sink that fails at the second and the fifth, in order, with their answers: bytes that are said, and then
+// bytes that are put at a path.
+const CALLS: &str = table! {
+    "say", "a", "Ok(())";
+    "say", "b", "Err(Failed)";
+    "say", "c", "Ok(())";
+    "x", "1", "Ok(())";
+    "y", "2", "Err(Failed)";
+    "z", "3", "Ok(())";
+};
 
-// The calls of a sink that fails at the second and the fifth, in order, with their answers.
-const CALLS: [(Call, Result<(), SinkStop>); 6] = [
-    (Call::Say(b"a"), Ok(())),
-    (Call::Say(b"b"), Err(SinkStop::Failed)),
-    (Call::Say(b"c"), Ok(())),
-    (Call::Put("x", b"1"), Ok(())),
-    (Call::Put("y", b"2"), Err(SinkStop::Failed)),
-    (Call::Put("z", b"3"), Ok(())),
-];
+// The files of the sink then by their numbers: a path and its bytes.
+const PUT: &str = table! {
+    0, "x", "1";
+    1, "z", "3";
+    2, "None", "";
+};
 
-// The files of the sink then by their numbers.
-const PUT: [(usize, Option<(&str, &[u8])>); 3] = [
-    (0, Some(("x", b"1"))),
-    (1, Some(("z", b"3"))),
-    (2, None),
-];
-
-fn made(sink: &mut TreeSink, call: &Call) -> Result<(), SinkStop> {
-    match call {
-        Call::Say(bytes) => sink.say(bytes),
-        Call::Put(path, bytes) => sink.put(path, bytes),
+fn made(sink: &mut TreeSink, row: &str) -> Result<(), SinkStop> {
+    match field(row, 0) {
+        "say" => sink.say(field(row, 1).as_bytes()),
+        path => sink.put(path, field(row, 1).as_bytes()),
     }
 }
 
-fn takes_all(sink: &mut TreeSink) -> bool {
-    for row in &CALLS {
-        if made(sink, &row.0) != row.1 {
-            return false;
+fn takes_all(alloc: Global, sink: &mut TreeSink) -> Result<bool, AllocError> {
+    for row in CALLS.split_terminator('\x1e') {
+        if !is_shown(alloc, made(sink, row), field(row, 2))? {
+            return Ok(false);
         }
     }
-    true
+    Ok(true)
 }
 
-fn has_taken(alloc: Global, row: &(usize, Option<(&str, &[u8])>)) -> Result<bool, AllocError> {
+fn is_put(found: Option<(&str, &[u8])>, row: &str) -> bool {
+    match found {
+        Some((path, bytes)) => path == field(row, 1) && bytes == field(row, 2).as_bytes(),
+        None => field(row, 1) == "None",
+    }
+}
+
+fn has_taken(alloc: Global, row: &str) -> Result<bool, AllocError> {
     let failing = [2, 5].to_vec(alloc)?;
     let mut sink = TreeSink::new(alloc, failing);
-    Ok(takes_all(&mut sink) && sink.said() == b"ac".as_slice() && sink.file(row.0) == row.1)
+    let takes = takes_all(alloc, &mut sink)?;
+    Ok(takes && sink.said() == b"ac".as_slice() && is_put(sink.file(number(row, 0)), row))
 }
 
 #[test]
 fn a_sink_fails_at_the_calls_listed(rt: HostRuntime) -> Result<(), Fail> {
-    for row in &PUT {
-        assert!(rt; has_taken(rt.alloc(), row)?, "{}", row.0);
+    for row in PUT.split_terminator('\x1e') {
+        assert!(rt; has_taken(rt.alloc(), row)?, "at {row}");
     }
     Ok(())
 }

@@ -26,6 +26,15 @@ macro_rules! table {
     };
 }
 
+/// A table of calls that have literals as arguments, each with what it answers. The fields of a row are the name of the call, the
+/// answer, and then the arguments.
+macro_rules! calls {
+    ($($call:ident($($argument:literal),*) => $answer:literal;)+) => {
+        concat!($(stringify!($call), "\x1f", $answer, "\x1f", $($argument, "\x1f",)* "\x1e"),+)
+    };
+}
+
+pub(crate) use calls;
 pub(crate) use table;
 
 /// The field of a row at a place, from 0; nothing where the row has none.

@@ -10,6 +10,7 @@ mod trees;
 
 use crate::rows::is_shown;
 use gn_syntax::{SyntaxError, parse};
+pub(crate) use nesting::push_deepest_left;
 use std::alloc::{AllocError, Global};
 
 /// The first error of a file, none where it parses.

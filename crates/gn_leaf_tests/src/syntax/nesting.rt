@@ -64,7 +64,7 @@ fn nests_200_deep_and_no_deeper(rt: HostRuntime) -> Result<(), Fail> {
 }
 
 /// 200 brackets, each the left operand of as many operators as the limit leaves.
-fn push_deepest_left(bytes: &mut Vec<u8>) -> Result<(), AllocError> {
+pub(crate) fn push_deepest_left(bytes: &mut Vec<u8>) -> Result<(), AllocError> {
     push_times(bytes, "(", 200)?;
     push_times(bytes, "a", 1)?;
     for operators in 1..201 {
