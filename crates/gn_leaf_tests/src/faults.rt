@@ -1,6 +1,6 @@
 // Faults: every text, the details that are missing, the places, and the order.
 
-use crate::rows::{field, is_shown, table};
+use crate::rows::{field, is_shown, number, table};
 use gn_faults::{Code, Fault, Stage};
 use gn_paths::{Place, Text, Texts};
 use std::alloc::{AllocError, Global};
@@ -207,57 +207,64 @@ fn details_may_be_missing_or_too_many(rt: HostRuntime) -> Result<(), Fail> {
     Ok(())
 }
 
-// The file, the line and the column of a place.
-type At = (&'static str, u32, u32);
+// A fault: its stage, its code, its details, its toolchain, and the file, the line and the column of its place. It has no place
+// where no file stands.
+const PLACED: &str = table! {
+    "Loading", "BadByte", "", "", "//a/BUILD.gn", 12, 4294967295;
+};
 
-// The stage of a fault, its place, its toolchain and its code.
-type Standing = (Stage, Option<At>, &'static str, Code);
+// Faults, each before the next. The one for a file that is missing names it.
+const IN_ORDER: &str = table! {
+    "Arguments", "BadByte", "", "", "//z", 9, 9;
+    "Loading", "TooLarge", "", "", "", 0, 0;
+    "Loading", "NoFile", "//a", "", "", 0, 0;
+    "Loading", "BadByte", "", "", "//a", 1, 1;
+    "Loading", "BadNumber", "", "", "//a", 1, 1;
+    "Loading", "BadByte", "", "", "//a", 1, 2;
+    "Loading", "BadByte", "", "", "//a", 2, 1;
+    "Loading", "BadByte", "", "//t:t", "//a", 1, 1;
+    "Loading", "BadByte", "", "", "//a/b", 1, 1;
+    "Graph", "BadByte", "", "", "", 0, 0;
+};
 
-fn place(alloc: Global, at: &At) -> Result<Place, AllocError> {
-    let file = Text::from_bytes(alloc, at.0.as_bytes())?;
-    Ok(Place {
-        file,
-        line: at.1,
-        column: at.2,
-    })
-}
-
-fn place_if_any(alloc: Global, at: &Option<At>) -> Result<Option<Place>, AllocError> {
-    match at {
-        Some(at) => Ok(Some(place(alloc, at)?)),
-        None => Ok(None),
+fn stage_named(name: &str) -> Stage {
+    match name {
+        "Arguments" => Stage::Arguments,
+        "Loading" => Stage::Loading,
+        _ => Stage::Graph,
     }
 }
 
-fn put_place(
-    alloc: Global,
-    fault: &mut Fault,
-    at: &Option<At>,
-    toolchain: &str,
-) -> Result<(), AllocError> {
-    fault.place = place_if_any(alloc, at)?;
-    fault.toolchain = Text::from_bytes(alloc, toolchain.as_bytes())?;
-    Ok(())
+// The line or the column of a row.
+fn coordinate(row: &str, place: usize) -> u32 {
+    u32::try_from(number(row, place)).unwrap_or(0)
 }
 
-fn standing(alloc: Global, row: &Standing) -> Result<Fault, AllocError> {
-    let detail = if matches!(row.3, Code::NoFile) {
-        "//a"
-    } else {
-        ""
-    };
-    let mut fault = fault(alloc, row.3, detail)?;
-    fault.stage = row.0;
-    put_place(alloc, &mut fault, &row.1, row.2)?;
-    Ok(fault)
+fn place_of(alloc: Global, row: &str) -> Result<Option<Place>, AllocError> {
+    if field(row, 4).is_empty() {
+        return Ok(None);
+    }
+    let file = Text::from_bytes(alloc, field(row, 4).as_bytes())?;
+    Ok(Some(Place {
+        file,
+        line: coordinate(row, 5),
+        column: coordinate(row, 6),
+    }))
 }
 
-static PLACED: Standing = (
-    Stage::Loading,
-    Some(("//a/BUILD.gn", 12, 4294967295)),
-    "",
-    Code::BadByte,
-);
+fn standing(alloc: Global, row: &str) -> Result<Fault, AllocError> {
+    let code = code_named(alloc, field(row, 1))?.unwrap_or(Code::FileTooBig);
+    let place = place_of(alloc, row)?;
+    let detail = texts(alloc, field(row, 2))?;
+    let toolchain = Text::from_bytes(alloc, field(row, 3).as_bytes())?;
+    Ok(Fault {
+        stage: stage_named(field(row, 0)),
+        place,
+        toolchain,
+        code,
+        detail,
+    })
+}
 
 fn is_placed(alloc: Global, fault: &Fault) -> Result<bool, AllocError> {
     let line = fault.print(alloc)?;
@@ -274,7 +281,7 @@ fn is_copied(alloc: Global, fault: &Fault) -> Result<bool, AllocError> {
 }
 
 fn is_placed_and_copied(alloc: Global) -> Result<bool, AllocError> {
-    let fault = standing(alloc, &PLACED)?;
+    let fault = standing(alloc, PLACED)?;
     Ok(is_placed(alloc, &fault)? && is_copied(alloc, &fault)?)
 }
 
@@ -284,28 +291,14 @@ fn a_place_is_printed_and_copied(rt: HostRuntime) -> Result<(), Fail> {
     Ok(())
 }
 
-// Faults, each before the next. The one for a file that is missing names it.
-static IN_ORDER: [Standing; 10] = [
-    (Stage::Arguments, Some(("//z", 9, 9)), "", Code::BadByte),
-    (Stage::Loading, None, "", Code::TooLarge),
-    (Stage::Loading, None, "", Code::NoFile),
-    (Stage::Loading, Some(("//a", 1, 1)), "", Code::BadByte),
-    (Stage::Loading, Some(("//a", 1, 1)), "", Code::BadNumber),
-    (Stage::Loading, Some(("//a", 1, 2)), "", Code::BadByte),
-    (Stage::Loading, Some(("//a", 2, 1)), "", Code::BadByte),
-    (Stage::Loading, Some(("//a", 1, 1)), "//t:t", Code::BadByte),
-    (Stage::Loading, Some(("//a/b", 1, 1)), "", Code::BadByte),
-    (Stage::Graph, None, "", Code::BadByte),
-];
-
-fn is_before(alloc: Global, fault: &Fault, other: &Standing) -> Result<bool, AllocError> {
+fn is_before(alloc: Global, fault: &Fault, other: &str) -> Result<bool, AllocError> {
     let other = standing(alloc, other)?;
     Ok(fault.before(&other))
 }
 
 // Whether the fault stands before the later ones alone.
 fn is_at(alloc: Global, place: usize, fault: &Fault) -> Result<bool, AllocError> {
-    for (number, other) in IN_ORDER.iter().enumerate() {
+    for (number, other) in IN_ORDER.split_terminator('\x1e').enumerate() {
         if is_before(alloc, fault, other)? != (place < number) {
             return Ok(false);
         }
@@ -313,15 +306,15 @@ fn is_at(alloc: Global, place: usize, fault: &Fault) -> Result<bool, AllocError>
     Ok(true)
 }
 
-fn is_in_order(alloc: Global, place: usize, row: &Standing) -> Result<bool, AllocError> {
+fn is_in_order(alloc: Global, place: usize, row: &str) -> Result<bool, AllocError> {
     let fault = standing(alloc, row)?;
     is_at(alloc, place, &fault)
 }
 
 #[test]
 fn faults_are_ordered(rt: HostRuntime) -> Result<(), Fail> {
-    for (number, row) in IN_ORDER.iter().enumerate() {
-        assert!(rt; is_in_order(rt.alloc(), number, row)?, "row {number}");
+    for (number, row) in IN_ORDER.split_terminator('\x1e').enumerate() {
+        assert!(rt; is_in_order(rt.alloc(), number, row)?, "at {row}");
     }
     Ok(())
 }
