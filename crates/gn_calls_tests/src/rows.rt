@@ -1,10 +1,10 @@
 // Tables of texts. A table is one text, which a macro joins from its rows, since a literal of its own costs the proof as much
 // as a call: the byte 31 ends a field, the byte 30 a row, and within a field the byte 29 ends an argument or an assignment.
 //
-// Values stand in a table as the language writes them, and so do the values that are expected, as they are printed. A string
-// with a backslash that isn't expected has an `r` in front, as in `r"\b"`. Each character stands for the byte that is the last
-// of its number: `ÿ` for the byte 255, and the picture of a control character for that character, as `␀` for the byte 0. A list
-// holds no list, and no string with a comma before a space. `deep(n)` is a list that nests n deep, `long(n)` a string of n bytes.
+// Values stand in a table as the language writes them, and the values that are expected as they are printed. A string
+// that is an argument and has a backslash is written raw, as `r"\b"`. A character stands for the low byte of its number: `ÿ` for
+// the byte 255, and the picture of a control character for that character, as `␀` for the byte 0. A list that is an argument holds
+// no list, and no string with a comma before a space. `deep(n)` is a list that nests n deep, `long(n)` a string of n bytes.
 
 use gn_calls_text::CallError;
 use gn_faults::Code;
@@ -51,12 +51,12 @@ pub(crate) fn is_shown<T: Debug + Copy>(
     Ok(text.as_str() == wanted)
 }
 
-// The bytes of a text whose characters stand for the last bytes of their numbers.
+// The bytes of a text whose characters stand for the low bytes of their numbers.
 fn bytes_of(alloc: Global, text: &str) -> Result<Vec<u8>, AllocError> {
     let mut bytes = Vec::with_capacity(alloc, text.len())?;
     for character in text.chars() {
-        let [last, ..] = u32::from(character).to_le_bytes();
-        bytes.push(last)?;
+        let [low, ..] = u32::from(character).to_le_bytes();
+        bytes.push(low)?;
     }
     Ok(bytes)
 }
