@@ -102,7 +102,7 @@ struct Assignments {
 impl Block for Assignments {
     ghost values = { λ t name. value_at name t.entries };
 
-    ghost marked = { λ name t. t };
+    ghost marked = { λ t name. t };
 
     fn mark(&mut self, _name: &[u8]) {}
 
