@@ -1,6 +1,11 @@
 pub mod Standing
 pub mod Keeping
 pub mod Steps
+pub mod Tasks
+pub mod Rostering
+pub mod Nexts
+pub mod NextRules
+pub mod Orders
 pub mod Numbering
 pub mod Walks
 pub mod Back

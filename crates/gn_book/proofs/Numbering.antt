@@ -1,25 +1,26 @@
 -- A key gets a number: nothing else changes.
-use Rattle.std.proofs.Common.{◌≡◌, ℕ, zero, suc, ◌<◌, ◌+◌, List, [], ◌∷◌, ◌++◌, length, map, Option, Some, None, option_map, unwrap_or, slice_get, if◌then◌else◌, ◌⊎◌, inl, inr, Bool, true, false, not, cond, ◌||◌, refl, sym, ◌∙◌, ap, subst, arith, true≢false}
+use Rattle.std.proofs.Common.{◌≡◌, ℕ, zero, suc, ◌<◌, ◌+◌, List, [], ◌∷◌, ◌++◌, length, map, Option, Some, None, option_map, unwrap_or, slice_get, if◌then◌else◌, get_or, ◌⊎◌, inl, inr, Bool, true, false, cond, Result, Ok, Err, OnOk, OnErr, ◌||◌, refl, sym, ◌∙◌, ap, subst, arith, true≢false}
 use Rattle.std.specs.List.{list_any}
 use Rattle.std.proofs.lemmas.Bool.{cases_lt}
-use Rattle.std.proofs.lemmas.List.{length-append}
-use Rattle.std.proofs.lemmas.Option.{slice_get_past}
+use Rattle.std.proofs.lemmas.List.{length-append, map-append}
+use Rattle.std.proofs.lemmas.List.Quantifiers.{position-Some}
+use Rattle.std.proofs.lemmas.Option.{slice_get_past, slice_get-get_or}
+use Rattle.std.specs.Prelude.{is_some, position}
 use Rattle.indexmap.specs.IndexSet.{insert_key}
-use Rattle.gn_core.specs.Keys.{Key, Read, Answer, record_is, same_key}
+use Rattle.gn_core.specs.Keys.{Key, Read, record_is, same_key}
 use Rattle.gn_core.specs.Machine.{Event, Claim, Block, File, Stop, failed, replay}
 use Rattle.gn_core.proofs.Puts.{same_key_is, key_own}
-use Rattle.gn_book.specs.declared.key.Key.{Key as Named}
-use Rattle.gn_book.specs.declared.key.Key.TheVariants.{Read as read_key, Import as import_key, Setup as setup_key, Load as load_key, Resolve as resolve_key}
-use Rattle.gn_book.specs.declared.key.When.TheVariants.{Early, Usual}
-use Rattle.gn_book.specs.contracts.key.KeyPartialEq.TheImpl.{eq-value}
+use Rattle.gn_items.specs.declared.key.Key.{Key as Named}
+use Rattle.gn_items.specs.declared.key.Key.TheVariants.{Read as read_key, Import as import_key, Setup as setup_key, Load as load_key, Resolve as resolve_key}
+use Rattle.gn_items.specs.declared.key.When.TheVariants.{Early, Usual}
+use Rattle.gn_items.specs.contracts.key.KeyPartialEq.TheImpl.{eq-value}
 use Rattle.gn_book.specs.declared.event.Event.{Event as Logged}
 use Rattle.gn_book.specs.declared.event.Event.TheVariants as logged
 use Rattle.gn_book.specs.declared.event.Cause.{Cause as Reason}
 use Rattle.gn_book.specs.declared.event.Cause.TheVariants as reason
-use Rattle.gn_book.specs.declared.status.Status.{Status}
-use Rattle.gn_book.specs.declared.status.Status.TheVariants as status
 use Rattle.gn_book.specs.Keys.{key_of}
-use Rattle.gn_book.specs.Standings.{Standing, standing_of, is_open, seat_in, on_in, answer_in, standing_at, named, told, Tied, IsTable}
+use Rattle.gn_book.specs.Rosters.{Table, with_key as with_more, with_number, IsNumberOf}
+use Rattle.gn_book.specs.Standings.{Standing, is_open, seat_in, on_in, answer_in, standing_at, named, told, Tied, IsTable}
 use Rattle.gn_book.specs.Logs.{Log, opening, event_in, with_key}
 use Rattle.gn_book.specs.Books.{events_in, log_in, HasAnswer, IsKnown, AllKnown, IsBook, HasRoom, IsWhole}
 
@@ -58,17 +59,9 @@ pub any_named : (keys : List Named) (k : Named) → list_any (eq-value.it k) key
 any_named [] k = refl
 any_named (x ∷ keys) k = (λ i. same_named k x i || any_named keys k i)
 
-pub keys_after : (keys new : List Named) (k : Named) → new ≡ insert_key eq-value.it keys k
-    → map key_of new ≡ (if list_any (same_key (key_of k)) (map key_of keys) then map key_of keys else map key_of keys ++ key_of k ∷ [])
-keys_after keys new k e = ap (map key_of) e ∙ by (list_any (eq-value.it k) keys) ∙ ap (λ b. if b then map key_of keys else map key_of keys ++ key_of k ∷ []) (any_named keys k)
-  where
-    behind : (ks : List Named) → map key_of (ks ++ k ∷ []) ≡ map key_of ks ++ key_of k ∷ []
-    behind [] = refl
-    behind (x ∷ ks) = ap (λ z. key_of x ∷ z) (behind ks)
-
-    by : (b : Bool) → map key_of (if b then keys else keys ++ k ∷ []) ≡ (if b then map key_of keys else map key_of keys ++ key_of k ∷ [])
-    by true = refl
-    by false = behind keys
+-- one more key behind the others
+pub key_behind : (keys new : List Named) (k : Named) → new ≡ insert_key eq-value.it keys k → list_any (same_key (key_of k)) (map key_of keys) ≡ false → map key_of new ≡ map key_of keys ++ key_of k ∷ []
+key_behind keys new k e fresh = ap (map key_of) e ∙ ap (λ b. map key_of (if b then keys else keys ++ k ∷ [])) (any_named keys k ∙ fresh) ∙ map-append key_of keys (k ∷ [])
 
 -- the key that is stored at a number is the one asked for
 pub stored : (keys : List Named) (k : Named) (n : ℕ) (x : Named) → slice_get keys n ≡ Some x → eq-value.it k x ≡ true → slice_get (map key_of keys) n ≡ Some (key_of k)
@@ -76,12 +69,12 @@ stored [] k n x e f = absurd (cc e)
 stored (y ∷ keys) k zero x e f = let same : y ≡ x = cc e in ap Some (ap key_of same ∙ sym (same_key_is (key_of k) (key_of x) (sym (same_named k x) ∙ f)))
 stored (y ∷ keys) k (suc n) x e f = stored keys k n x e f
 
-get_more : {A : Type 0} (xs ys : List A) (n : ℕ) → n < length xs → slice_get (xs ++ ys) n ≡ slice_get xs n
+pub get_more : {A : Type 0} (xs ys : List A) (n : ℕ) → n < length xs → slice_get (xs ++ ys) n ≡ slice_get xs n
 get_more [] ys n l = absurd (omega (arith, l))
 get_more (x ∷ xs) ys zero l = refl
 get_more (x ∷ xs) ys (suc n) l = get_more xs ys n (omega (arith, l))
 
-get_last : (ks : List Key) (k q : Key) (i : ℕ) → slice_get (ks ++ k ∷ []) i ≡ Some q → (slice_get ks i ≡ Some q) ⊎ ((i ≡ length ks) × (q ≡ k))
+pub get_last : (ks : List Key) (k q : Key) (i : ℕ) → slice_get (ks ++ k ∷ []) i ≡ Some q → (slice_get ks i ≡ Some q) ⊎ ((i ≡ length ks) × (q ≡ k))
 get_last [] k q zero e = inr (refl, cc e)
 get_last [] k q (suc i) e = absurd (cc e)
 get_last (x ∷ ks) k q zero e = inl e
@@ -91,12 +84,12 @@ or_true : (b : Bool) → (b || true) ≡ true
 or_true true = refl
 or_true false = refl
 
-found : (ks : List Key) (k : Key) (i : ℕ) → slice_get ks i ≡ Some k → list_any (same_key k) ks ≡ true
+pub found : (ks : List Key) (k : Key) (i : ℕ) → slice_get ks i ≡ Some k → list_any (same_key k) ks ≡ true
 found [] k i e = absurd (cc e)
 found (x ∷ ks) k zero e = let same : x ≡ k = cc e in ap (λ b. b || list_any (same_key k) ks) (ap (same_key k) same ∙ key_own k)
 found (x ∷ ks) k (suc i) e = ap (λ b. same_key k x || b) (found ks k i e) ∙ or_true (same_key k x)
 
-table_more : (ks : List Key) (k : Key) → list_any (same_key k) ks ≡ false → IsTable ks → IsTable (ks ++ k ∷ [])
+pub table_more : (ks : List Key) (k : Key) → list_any (same_key k) ks ≡ false → IsTable ks → IsTable (ks ++ k ∷ [])
 table_more ks k fresh table i j q a b = by (get_last ks k q i a) (get_last ks k q j b)
   where
     absent : (n : ℕ) → slice_get ks n ≡ Some q → q ≡ k → ⊥
@@ -176,48 +169,66 @@ book_more ks xs es k fresh book = record {
     ons (Some on) f = ap Some (named_more ks k on (f on refl))
 
 -- a whole book stays whole, and contracts see one more key, unless it has a number
-pub number_step : (seats remaining : ℕ) (stop : Option Reason) (ks : List Key) (xs : List Standing) (es : List Logged) (used capacity : ℕ) (old : Log)
-    → IsWhole seats remaining stop ks xs es used capacity → log_in seats ks xs es ≡ old
-    → (k : Key) (qs : List Key) (zs : List Standing) → qs ≡ (if list_any (same_key k) ks then ks else ks ++ k ∷ []) → zs ≡ (if list_any (same_key k) ks then xs else xs ++ is_open ∷ [])
-    → IsWhole seats remaining stop qs zs es used capacity × (log_in seats qs zs es ≡ with_key old k)
-number_step seats remaining stop ks xs es used capacity old whole view_is k qs zs keys standings =
-    let done = by (list_any (same_key k) ks) refl keys standings in
+pub number_step : (seats remaining : ℕ) (stop : Option Reason) (t : Table) (es : List Logged) (used capacity : ℕ) (old : Log)
+    → IsWhole seats remaining stop t.keys t.standings es used capacity → log_in seats t.keys t.standings es ≡ old
+    → (k : Key) (now : Table) → now ≡ with_number t k
+    → IsWhole seats remaining stop now.keys now.standings es used capacity × (log_in seats now.keys now.standings es ≡ with_key old k)
+number_step seats remaining stop t es used capacity old whole view_is k now set =
+    let done = by (list_any (same_key k) t.keys) refl set in
     (done.0, done.1 ∙ ap (λ (l : Log). with_key l k) view_is)
   where
     with_keys : Bool → Log → Log
     with_keys b l = record { seats = l.seats; keys = if b then l.keys else l.keys ++ k ∷ []; events = l.events }
 
-    by : (b : Bool) → list_any (same_key k) ks ≡ b → qs ≡ (if b then ks else ks ++ k ∷ []) → zs ≡ (if b then xs else xs ++ is_open ∷ [])
-        → IsWhole seats remaining stop qs zs es used capacity × (log_in seats qs zs es ≡ with_key (log_in seats ks xs es) k)
-    by true e a b = (
-      subst (λ (z : List Key). IsWhole seats remaining stop z zs es used capacity) (sym a) (subst (λ (z : List Standing). IsWhole seats remaining stop ks z es used capacity) (sym b) whole),
-      (λ i. log_in seats (a i) (b i) es) ∙ ap (λ c. with_keys c (log_in seats ks xs es)) (sym e),
+    log_of : List Key → List Event → Log
+    log_of z v = record { seats = seats; keys = z; events = v }
+
+    by : (b : Bool) → list_any (same_key k) t.keys ≡ b → now ≡ (if b then t else with_more t k)
+        → IsWhole seats remaining stop now.keys now.standings es used capacity × (log_in seats now.keys now.standings es ≡ with_key (log_in seats t.keys t.standings es) k)
+    by true e a = (
+      subst (λ (z : Table). IsWhole seats remaining stop z.keys z.standings es used capacity) (sym a) whole,
+      ap (λ (z : Table). log_in seats z.keys z.standings es) a ∙ ap (λ c. with_keys c (log_in seats t.keys t.standings es)) (sym e),
     )
-    by false e a b =
-        let same : events_in (ks ++ k ∷ []) (xs ++ is_open ∷ []) es ≡ events_in ks xs es = events_more ks xs k es whole.0.known in (
-          subst (λ (z : List Key). IsWhole seats remaining stop z zs es used capacity) (sym a) (subst (λ (z : List Standing). IsWhole seats remaining stop (ks ++ k ∷ []) z es used capacity) (sym b)
-              (book_more ks xs es k e whole.0, whole.1, subst (λ (z : List Event). HasRoom seats remaining z used capacity) (sym same) whole.2)),
-          (λ i. log_in seats (a i) (b i) es) ∙ (λ i. log_of (ks ++ k ∷ []) (same i)) ∙ ap (λ c. with_keys c (log_in seats ks xs es)) (sym e),
+    by false e a =
+        let same : events_in (t.keys ++ k ∷ []) (t.standings ++ is_open ∷ []) es ≡ events_in t.keys t.standings es = events_more t.keys t.standings k es whole.0.known in (
+          subst (λ (z : Table). IsWhole seats remaining stop z.keys z.standings es used capacity) (sym a)
+              (book_more t.keys t.standings es k e whole.0, whole.1, subst (λ (z : List Event). HasRoom seats remaining z used capacity) (sym same) whole.2),
+          ap (λ (z : Table). log_in seats z.keys z.standings es) a ∙ ap (log_of (t.keys ++ k ∷ [])) same ∙ ap (λ c. with_keys c (log_in seats t.keys t.standings es)) (sym e),
         )
-      where
-        log_of : List Key → List Event → Log
-        log_of z v = record { seats = seats; keys = z; events = v }
 
--- the standings after a new key
-pub opens_after : {A : Type 0} (meaning : A → Answer) (b is_new : Bool) (ys zs : List (Status A)) → is_new ≡ not b → zs ≡ (if is_new then ys ++ status.Open ∷ [] else ys)
-    → map (standing_of meaning) zs ≡ (if b then map (standing_of meaning) ys else map (standing_of meaning) ys ++ is_open ∷ [])
-opens_after {A} meaning b is_new ys zs e f = ap (map (standing_of meaning)) (f ∙ ap (λ c. if c then ys ++ status.Open ∷ [] else ys) e) ∙ by b
-  where
-    behind : (qs : List (Status A)) → map (standing_of meaning) (qs ++ status.Open ∷ []) ≡ map (standing_of meaning) qs ++ is_open ∷ []
-    behind [] = refl
-    behind (q ∷ qs) = ap (λ z. standing_of meaning q ∷ z) (behind qs)
+-- whatever comes of it
+pub number_kept : {E : Type 0} (seats remaining : ℕ) (stop : Option Reason) (t : Table) (es : List Logged) (used capacity : ℕ) (old : Log)
+    → IsWhole seats remaining stop t.keys t.standings es used capacity → log_in seats t.keys t.standings es ≡ old
+    → (k : Key) (now : Table) (r : Result ℕ E) → OnOk r (now ≡ with_number t k) → OnErr r (now ≡ t)
+    → IsWhole seats remaining stop now.keys now.standings es used capacity
+number_kept seats remaining stop t es used capacity old whole view_is k now (Ok n) ok err = (number_step seats remaining stop t es used capacity old whole view_is k now ok).0
+number_kept seats remaining stop t es used capacity old whole view_is k now (Err e) ok err = subst (λ (z : Table). IsWhole seats remaining stop z.keys z.standings es used capacity) (sym err) whole
 
-    by : (c : Bool) → map (standing_of meaning) (if not c then ys ++ status.Open ∷ [] else ys) ≡ (if c then map (standing_of meaning) ys else map (standing_of meaning) ys ++ is_open ∷ [])
-    by true = refl
-    by false = behind ys
+pub number_seen : {E : Type 0} (seats remaining : ℕ) (stop : Option Reason) (t : Table) (es : List Logged) (used capacity : ℕ) (old : Log)
+    → IsWhole seats remaining stop t.keys t.standings es used capacity → log_in seats t.keys t.standings es ≡ old
+    → (k : Key) (now : Table) (r : Result ℕ E) → OnOk r (now ≡ with_number t k) → OnOk r (log_in seats now.keys now.standings es ≡ with_key old k)
+number_seen seats remaining stop t es used capacity old whole view_is k now (Ok n) ok = (number_step seats remaining stop t es used capacity old whole view_is k now ok).1
+number_seen seats remaining stop t es used capacity old whole view_is k now (Err e) ok = tt
 
--- the same keys and standings
-pub same_whole : (seats remaining : ℕ) (stop : Option Reason) (ks : List Key) (xs : List Standing) (es : List Logged) (used capacity : ℕ) → IsWhole seats remaining stop ks xs es used capacity
-    → (qs : List Key) (zs : List Standing) → qs ≡ ks → zs ≡ xs → IsWhole seats remaining stop qs zs es used capacity
-same_whole seats remaining stop ks xs es used capacity whole qs zs a b =
-    subst (λ (z : List Key). IsWhole seats remaining stop z zs es used capacity) (sym a) (subst (λ (z : List Standing). IsWhole seats remaining stop ks z es used capacity) (sym b) whole)
+pub number_lost : {E : Type 0} (seats : ℕ) (t : Table) (es : List Logged) (old : Log) → log_in seats t.keys t.standings es ≡ old
+    → (now : Table) (r : Result ℕ E) → OnErr r (now ≡ t) → OnErr r (log_in seats now.keys now.standings es ≡ old)
+number_lost seats t es old view_is now (Ok n) err = tt
+number_lost seats t es old view_is now (Err e) err = ap (λ (z : Table). log_in seats z.keys z.standings es) err ∙ view_is
+
+-- the number of a key
+pub number_by : (keys : List Named) (k : Named) (o : Option ℕ) → o ≡ position (eq-value.it k) keys → is_some o ≡ list_any (eq-value.it k) keys → IsNumberOf (map key_of keys) (key_of k) o
+number_by keys k None e f = sym (any_named keys k) ∙ sym f
+number_by keys k (Some n) e f =
+    let at = position-Some (eq-value.it k) keys n k (sym e) in
+    stored keys k n (get_or keys n k) (slice_get-get_or keys n k at.0) at.1
+
+-- a list after a key got a number, or none
+pub number_same : (t : Table) (k : Key) (n : ℕ) → slice_get t.keys n ≡ Some k → t ≡ with_number t k
+number_same t k n at = ap (λ (b : Bool). if b then t else with_more t k) (sym (found t.keys k n at))
+
+pub number_new : (t : Table) (k : Key) → list_any (same_key k) t.keys ≡ false → with_more t k ≡ with_number t k
+number_new t k fresh = ap (λ (b : Bool). if b then t else with_more t k) (sym fresh)
+
+pub number_after : {E : Type 0} (t now : Table) (k : Key) → list_any (same_key k) t.keys ≡ false → (r : Result ℕ E) → OnOk r (now ≡ with_more t k) → OnOk r (now ≡ with_number t k)
+number_after t now k fresh (Ok n) is = is ∙ number_new t k fresh
+number_after t now k fresh (Err e) is = tt

@@ -1,5 +1,5 @@
 -- What each event makes of a whole book.
-use Rattle.std.proofs.Common.{◌≡◌, ◌↔◌, ℕ, suc, ◌<◌, ◌≤◌, ◌+◌, List, [], ◌∷◌, ◌++◌, length, map, Option, Some, None, option_map, unwrap_or, slice_get, slice_set, ◌⊎◌, inl, inr, Bool, true, false, ◌||◌, nat_eq, eqb-true, refl, sym, ◌∙◌, ap, subst, arith}
+use Rattle.std.proofs.Common.{◌≡◌, ◌↔◌, ℕ, suc, ◌<◌, ◌≤◌, ◌+◌, List, [], ◌∷◌, ◌++◌, length, map, Option, Some, None, option_map, unwrap_or, slice_get, slice_set, ◌⊎◌, inl, inr, Bool, true, false, ◌||◌, nat_eq, eqb-true, Result, Ok, Err, OnErr, refl, sym, ◌∙◌, ap, subst, arith}
 use Rattle.std.specs.List.{IsDistinct, list_any}
 use Rattle.std.proofs.lemmas.Bool.{cases_lt}
 use Rattle.std.proofs.lemmas.Cmp.{nat_eq_equiv}
@@ -7,8 +7,8 @@ use Rattle.std.proofs.lemmas.List.{map-append, length-append}
 use Rattle.std.proofs.lemmas.List.Folds.{list_any-append}
 use Rattle.std.proofs.lemmas.Map.Keys.{IsDistinct-push}
 use Rattle.std.proofs.lemmas.Map.Steps.{length-le_from_distinct_below}
-use Rattle.std.proofs.lemmas.Option.{slice_get_past, slice_get-map}
-use Rattle.gn_core.specs.Keys.{Key, Answer, record_is}
+use Rattle.std.proofs.lemmas.Option.{slice_get_past, slice_get-get_or}
+use Rattle.gn_core.specs.Keys.{Key, Read, Answer, record_is}
 use Rattle.gn_core.specs.Machine.{State, Event, Claim, Block, File, Stop, Cause, Leads, here, onward, happens, replay}
 use Rattle.gn_paths.specs.declared.place.Place.{Place}
 use Rattle.gn_book.specs.declared.event.Block.{Block as Waiting}
@@ -16,14 +16,14 @@ use Rattle.gn_book.specs.declared.event.Event.{Event as Logged}
 use Rattle.gn_book.specs.declared.event.Event.TheVariants as logged
 use Rattle.gn_book.specs.declared.event.Cause.{Cause as Reason}
 use Rattle.gn_book.specs.declared.event.Cause.TheVariants as reason
-use Rattle.gn_book.specs.declared.status.Status.{Status}
-use Rattle.gn_book.specs.Standings.{Standing, standing_of, is_open, is_claimed, is_blocked, is_filed, answer_in, seat_in, standing_at, named, next_of, on_of, told, Tied, IsTable}
+use Rattle.gn_book.specs.Standings.{Standing, is_open, is_claimed, is_blocked, is_filed, answer_in, seat_in, named, next_of, on_of, told, Tied, IsTable}
 use Rattle.gn_book.specs.Logs.{Log, state_of, with_event, opening, key_at, block_event, IsFree, HasKeys, has_stopped, stopped_seat, stopped_seats, event_in, events_by, answer_by, cause_in, first_cause, earlier}
+use Rattle.gn_book.specs.Rosters.{Table, table_of}
 use Rattle.gn_book.specs.Books.{log_in, events_in, IsBook, IsReason, HasRoom, IsWhole, reason_of, first_stop}
 use Rattle.gn_book.specs.Holders.{has_answer}
 use Rattle.gn_book.specs.Blocks.{LeadsBack}
 use Rattle.gn_book.specs.Chains.{LeadsTo}
-use Rattle.gn_book.proofs.Standing.{named_at, standing_here, unblocked}
+use Rattle.gn_book.proofs.Standing.{named_at, standing_here, get_other, unblocked}
 use Rattle.gn_book.proofs.Chains.{leads_same}
 use Rattle.gn_book.proofs.Keeping.{IsNext, next_claim, next_file, next_block, next_free_block, whole_next, log_next, known_push, replay_push, first_push, seats_push}
 
@@ -35,76 +35,77 @@ pub record Before (seats remaining : ℕ) (stop : Option Reason) (ks : List Key)
 step : (seats remaining : ℕ) (stop : Option Reason) (ks : List Key) (xs : List Standing) (es : List Logged) (used capacity : ℕ) (old : Log)
     → Before seats remaining stop ks xs es used capacity old
     → (zs : List Standing) (e : Logged) (f : Event) → IsNext ks xs zs es e f → reason_of e ≡ None → stopped_seat f ≡ []
-    → (ys : List Standing) (fs : List Logged) (taken room : ℕ) → ys ≡ zs → fs ≡ es ++ e ∷ [] → taken + remaining ≤ room
-    → IsWhole seats remaining stop ks ys fs taken room × (log_in seats ks ys fs ≡ with_event old f)
-step seats remaining stop ks xs es used capacity old before zs e f next no_reason no_seat ys fs taken room set pushed fits = (
-  whole_next seats remaining stop ks xs es used capacity before.whole zs e f next no_reason no_seat ys fs taken room set pushed fits,
-  log_next seats ks xs zs es e f next ys fs set pushed ∙ ap (λ (l : Log). with_event l f) before.view_is,
-)
+    → (now : Table) (fs : List Logged) (taken room : ℕ) → now ≡ table_of ks zs → fs ≡ es ++ e ∷ [] → taken + remaining ≤ room
+    → IsWhole seats remaining stop now.keys now.standings fs taken room × (log_in seats now.keys now.standings fs ≡ with_event old f)
+step seats remaining stop ks xs es used capacity old before zs e f next no_reason no_seat now fs taken room set pushed fits =
+    subst (λ (t : Table). IsWhole seats remaining stop t.keys t.standings fs taken room × (log_in seats t.keys t.standings fs ≡ with_event old f)) (sym set) (
+      whole_next seats remaining stop ks xs es used capacity before.whole zs e f next no_reason no_seat zs fs taken room refl pushed fits,
+      log_next seats ks xs zs es e f next zs fs refl pushed ∙ ap (λ (l : Log). with_event l f) before.view_is,
+    )
 
 pub claim_step : (seats remaining : ℕ) (stop : Option Reason) (ks : List Key) (xs : List Standing) (es : List Logged) (used capacity : ℕ) (old : Log)
     → Before seats remaining stop ks xs es used capacity old
     → (n seat : ℕ) → n < length old.keys → IsFree (state_of old) (key_at old n)
-    → (zs : List Standing) (fs : List Logged) (taken room : ℕ) → zs ≡ slice_set xs n (is_claimed seat) → fs ≡ es ++ logged.Claim seat n ∷ [] → taken + remaining ≤ room
-    → IsWhole seats remaining stop ks zs fs taken room × (log_in seats ks zs fs ≡ with_event old (Claim seat (key_at old n)))
-claim_step seats remaining stop ks xs es used capacity old before n seat l free zs fs taken room set pushed fits =
-    let now : IsNext ks xs (slice_set xs n (is_claimed seat)) es (logged.Claim seat n) (Claim seat (named ks n)) =
+    → (now : Table) (fs : List Logged) (taken room : ℕ) → now ≡ table_of ks (slice_set xs n (is_claimed seat)) → fs ≡ es ++ logged.Claim seat n ∷ [] → taken + remaining ≤ room
+    → IsWhole seats remaining stop now.keys now.standings fs taken room × (log_in seats now.keys now.standings fs ≡ with_event old (Claim seat (key_at old n)))
+claim_step seats remaining stop ks xs es used capacity old before n seat l free now fs taken room set pushed fits =
+    let next : IsNext ks xs (slice_set xs n (is_claimed seat)) es (logged.Claim seat n) (Claim seat (named ks n)) =
     next_claim ks xs es n seat before.whole.0 (subst (λ (z : Log). n < length z.keys) (sym before.view_is) l)
     (subst (λ (z : Log). IsFree (state_of z) (key_at z n)) (sym before.view_is) free) in
-    let done = step seats remaining stop ks xs es used capacity old before (slice_set xs n (is_claimed seat)) (logged.Claim seat n) (Claim seat (named ks n)) now refl refl zs fs taken room set pushed fits in
+    let done = step seats remaining stop ks xs es used capacity old before (slice_set xs n (is_claimed seat)) (logged.Claim seat n) (Claim seat (named ks n)) next refl refl now fs taken room set pushed fits in
     (done.0, done.1 ∙ ap (λ (z : Log). with_event old (Claim seat (key_at z n))) before.view_is)
 
 pub file_step : (seats remaining : ℕ) (stop : Option Reason) (ks : List Key) (xs : List Standing) (es : List Logged) (used capacity : ℕ) (old : Log)
     → Before seats remaining stop ks xs es used capacity old
     → (n seat : ℕ) (v : Answer) → n < length old.keys → (state_of old).claims (key_at old n) ≡ Some seat
-    → (zs : List Standing) (fs : List Logged) (taken room : ℕ) → zs ≡ slice_set xs n (is_filed v) → fs ≡ es ++ logged.File seat n ∷ [] → taken + remaining ≤ room
-    → IsWhole seats remaining stop ks zs fs taken room × (log_in seats ks zs fs ≡ with_event old (File seat (key_at old n) v))
-file_step seats remaining stop ks xs es used capacity old before n seat v l claimed zs fs taken room set pushed fits =
-    let now : IsNext ks xs (slice_set xs n (is_filed v)) es (logged.File seat n) (File seat (named ks n) v) =
+    → (now : Table) (fs : List Logged) (taken room : ℕ) → now ≡ table_of ks (slice_set xs n (is_filed v)) → fs ≡ es ++ logged.File seat n ∷ [] → taken + remaining ≤ room
+    → IsWhole seats remaining stop now.keys now.standings fs taken room × (log_in seats now.keys now.standings fs ≡ with_event old (File seat (key_at old n) v))
+file_step seats remaining stop ks xs es used capacity old before n seat v l claimed now fs taken room set pushed fits =
+    let next : IsNext ks xs (slice_set xs n (is_filed v)) es (logged.File seat n) (File seat (named ks n) v) =
     next_file ks xs es n seat v before.whole.0 (subst (λ (z : Log). n < length z.keys) (sym before.view_is) l)
     (subst (λ (z : Log). (state_of z).claims (key_at z n) ≡ Some seat) (sym before.view_is) claimed) in
-    let done = step seats remaining stop ks xs es used capacity old before (slice_set xs n (is_filed v)) (logged.File seat n) (File seat (named ks n) v) now refl refl zs fs taken room set pushed fits in
+    let done = step seats remaining stop ks xs es used capacity old before (slice_set xs n (is_filed v)) (logged.File seat n) (File seat (named ks n) v) next refl refl now fs taken room set pushed fits in
     (done.0, done.1 ∙ ap (λ (z : Log). with_event old (File seat (key_at z n) v)) before.view_is)
 
 pub block_step : (seats remaining : ℕ) (stop : Option Reason) (ks : List Key) (xs : List Standing) (es : List Logged) (used capacity : ℕ) (old : Log)
     → Before seats remaining stop ks xs es used capacity old
     → (n on seat other : ℕ) (place : Place) (closes : Bool) → n < length old.keys → on < length old.keys
     → (state_of old).claims (key_at old n) ≡ Some seat → (state_of old).claims (key_at old on) ≡ Some other
-    → (zs : List Standing) (fs : List Logged) (taken room : ℕ) → zs ≡ slice_set xs n (is_blocked seat on)
+    → (now : Table) (fs : List Logged) (taken room : ℕ) → now ≡ table_of ks (slice_set xs n (is_blocked seat on))
     → fs ≡ es ++ logged.Block seat n (record { on = on; place = place; closes = closes }) ∷ [] → taken + remaining ≤ room
-    → IsWhole seats remaining stop ks zs fs taken room × (log_in seats ks zs fs ≡ with_event old (block_event old seat n on place closes))
-block_step seats remaining stop ks xs es used capacity old before n on seat other place closes l m claimed held zs fs taken room set pushed fits =
+    → IsWhole seats remaining stop now.keys now.standings fs taken room × (log_in seats now.keys now.standings fs ≡ with_event old (block_event old seat n on place closes))
+block_step seats remaining stop ks xs es used capacity old before n on seat other place closes l m claimed held now fs taken room set pushed fits =
     let b : Waiting = record { on = on; place = place; closes = closes } in
-    let now : IsNext ks xs (slice_set xs n (is_blocked seat on)) es (logged.Block seat n b) (Block seat (named ks n) (named ks on) place closes) =
+    let next : IsNext ks xs (slice_set xs n (is_blocked seat on)) es (logged.Block seat n b) (Block seat (named ks n) (named ks on) place closes) =
     next_block ks xs es n on seat other b before.whole.0 (subst (λ (z : Log). n < length z.keys) (sym before.view_is) l) refl (subst (λ (z : Log). on < length z.keys) (sym before.view_is) m)
     (subst (λ (z : Log). (state_of z).claims (key_at z n) ≡ Some seat) (sym before.view_is) claimed)
     (subst (λ (z : Log). (state_of z).claims (key_at z on) ≡ Some other) (sym before.view_is) held) in
-    let done = step seats remaining stop ks xs es used capacity old before (slice_set xs n (is_blocked seat on)) (logged.Block seat n b) (Block seat (named ks n) (named ks on) place closes) now refl refl zs fs taken room set pushed fits in
+    let done = step seats remaining stop ks xs es used capacity old before (slice_set xs n (is_blocked seat on)) (logged.Block seat n b) (Block seat (named ks n) (named ks on) place closes) next refl refl now fs taken room set pushed fits in
     (done.0, done.1 ∙ ap (λ (z : Log). with_event old (block_event z seat n on place closes)) before.view_is)
 
 pub free_block_step : (seats remaining : ℕ) (stop : Option Reason) (ks : List Key) (xs : List Standing) (es : List Logged) (used capacity : ℕ) (old : Log)
     → Before seats remaining stop ks xs es used capacity old
     → (n on seat : ℕ) (place : Place) (closes : Bool) → n < length old.keys → on < length old.keys
     → (state_of old).claims (key_at old n) ≡ Some seat → IsFree (state_of old) (key_at old on)
-    → (zs : List Standing) (fs : List Logged) (taken room : ℕ) → zs ≡ slice_set (slice_set xs on (is_claimed seat)) n (is_blocked seat on)
+    → (now : Table) (fs : List Logged) (taken room : ℕ) → now ≡ table_of ks (slice_set (slice_set xs on (is_claimed seat)) n (is_blocked seat on))
     → fs ≡ es ++ logged.Block seat n (record { on = on; place = place; closes = closes }) ∷ [] → taken + remaining ≤ room
-    → IsWhole seats remaining stop ks zs fs taken room × (log_in seats ks zs fs ≡ with_event old (block_event old seat n on place closes))
-free_block_step seats remaining stop ks xs es used capacity old before n on seat place closes l m claimed free zs fs taken room set pushed fits =
+    → IsWhole seats remaining stop now.keys now.standings fs taken room × (log_in seats now.keys now.standings fs ≡ with_event old (block_event old seat n on place closes))
+free_block_step seats remaining stop ks xs es used capacity old before n on seat place closes l m claimed free now fs taken room set pushed fits =
     let b : Waiting = record { on = on; place = place; closes = closes } in
-    let now : IsNext ks xs (slice_set (slice_set xs on (is_claimed seat)) n (is_blocked seat on)) es (logged.Block seat n b) (Block seat (named ks n) (named ks on) place closes) =
+    let next : IsNext ks xs (slice_set (slice_set xs on (is_claimed seat)) n (is_blocked seat on)) es (logged.Block seat n b) (Block seat (named ks n) (named ks on) place closes) =
     next_free_block ks xs es n on seat b before.whole.0 (subst (λ (z : Log). n < length z.keys) (sym before.view_is) l) refl (subst (λ (z : Log). on < length z.keys) (sym before.view_is) m)
     (subst (λ (z : Log). (state_of z).claims (key_at z n) ≡ Some seat) (sym before.view_is) claimed)
     (subst (λ (z : Log). IsFree (state_of z) (key_at z on)) (sym before.view_is) free) in
-    let done = step seats remaining stop ks xs es used capacity old before (slice_set (slice_set xs on (is_claimed seat)) n (is_blocked seat on)) (logged.Block seat n b) (Block seat (named ks n) (named ks on) place closes) now refl refl zs fs taken room set pushed fits in
+    let done = step seats remaining stop ks xs es used capacity old before (slice_set (slice_set xs on (is_claimed seat)) n (is_blocked seat on)) (logged.Block seat n b) (Block seat (named ks n) (named ks on) place closes) next refl refl now fs taken room set pushed fits in
     (done.0, done.1 ∙ ap (λ (z : Log). with_event old (block_event z seat n on place closes)) before.view_is)
 
 -- a new book is whole
-pub new_whole : (seats : ℕ) (ks : List Key) (xs : List Standing) (es : List Logged) (taken room : ℕ) → ks ≡ [] → xs ≡ [] → es ≡ [] → taken ≡ 0 → seats ≤ room → IsWhole seats seats None ks xs es taken room
+pub new_whole : (seats : ℕ) (now : Table) (es : List Logged) (taken room : ℕ) → now ≡ table_of [] [] → es ≡ [] → taken ≡ 0 → seats ≤ room
+    → IsWhole seats seats None now.keys now.standings es taken room
 unfolding IsDistinct
-new_whole seats ks xs es taken room no_keys no_standings no_events none fits =
-    subst (λ (z : List Key). IsWhole seats seats None z xs es taken room) (sym no_keys)
-    (subst (λ (z : List Standing). IsWhole seats seats None [] z es taken room) (sym no_standings)
-    (subst (λ (z : List Logged). IsWhole seats seats None [] [] z taken room) (sym no_events) whole))
+new_whole seats now es taken room no_keys no_events none fits =
+    subst (λ (t : Table). IsWhole seats seats None t.keys t.standings es taken room) (sym no_keys)
+    (subst (λ (z : List Logged). IsWhole seats seats None [] [] z taken room) (sym no_events) whole)
   where
     whole : IsWhole seats seats None [] [] [] taken room
     whole = (
@@ -153,23 +154,56 @@ events_same seats remaining stop ks xs es used capacity old before =
     ∙ (λ i. map (event_in (named ks) (λ n. sym (answer_same ks xs (state_of l) book.table book.sized book.tied n) i)) es)
     ∙ ap (λ (z : Log). z.events) before.view_is
 
--- the answer of a key, by how it stands
-pub answer_there : {A : Type 0} (meaning : A → Answer) (seats remaining : ℕ) (stop : Option Reason) (ks : List Key) (ys : List (Status A)) (es : List Logged) (used capacity : ℕ) (old : Log)
-    → Before seats remaining stop ks (map (standing_of meaning) ys) es used capacity old → (n : ℕ) → n < length old.keys → (y : Status A) → slice_get ys n ≡ Some y
-    → answer_in (Some (standing_of meaning y)) ≡ (state_of old).filed (key_at old n)
-answer_there meaning seats remaining stop ks ys es used capacity old before n l y at =
-    ap answer_in (sym (slice_get-map (standing_of meaning) ys n ∙ ap (option_map (standing_of meaning)) at))
-    ∙ answer_here seats remaining stop ks (map (standing_of meaning) ys) es used capacity old before n l
-
 pub map_length : {A B : Type 0} (f : A → B) (xs : List A) → length (map f xs) ≡ length xs
 map_length f [] = refl
 map_length f (x ∷ xs) = ap suc (map_length f xs)
 
--- as many keys stand as have numbers
-pub many : {A : Type 0} (meaning : A → Answer) (seats remaining : ℕ) (stop : Option Reason) (ks : List Key) (ys : List (Status A)) (es : List Logged) (used capacity : ℕ) (old : Log)
-    → Before seats remaining stop ks (map (standing_of meaning) ys) es used capacity old → length ys ≡ length old.keys
-many meaning seats remaining stop ks ys es used capacity old before =
-    sym (map_length (standing_of meaning) ys) ∙ before.whole.0.sized ∙ ap (λ (z : Log). length z.keys) before.view_is
+-- a number of a key
+pub within : (seats remaining : ℕ) (stop : Option Reason) (ks : List Key) (xs : List Standing) (es : List Logged) (used capacity : ℕ) (old : Log)
+    → Before seats remaining stop ks xs es used capacity old → (n : ℕ) → n < length old.keys → n < length ks
+within seats remaining stop ks xs es used capacity old before n l = subst (λ (z : Log). n < length z.keys) (sym before.view_is) l
+
+-- the seat that has claimed the key of a number
+pub seat_here : (seats remaining : ℕ) (stop : Option Reason) (ks : List Key) (xs : List Standing) (es : List Logged) (used capacity : ℕ) (old : Log)
+    → Before seats remaining stop ks xs es used capacity old → (n : ℕ) → n < length old.keys → seat_in (slice_get xs n) ≡ (state_of old).claims (key_at old n)
+seat_here seats remaining stop ks xs es used capacity old before n l =
+    let book = before.whole.0 in
+    ap seat_in (sym (standing_here ks xs n (named ks n) book.table book.sized (named_at ks n (subst (λ (z : Log). n < length z.keys) (sym before.view_is) l))))
+    ∙ book.tied.claims (named ks n) ∙ ap (λ (z : Log). (state_of z).claims (key_at z n)) before.view_is
+
+open_by : (o : Option Standing) → (o ≡ None → ⊥) → seat_in o ≡ None → answer_in o ≡ None → o ≡ Some is_open
+open_by None lacks a b = absurd (lacks refl)
+open_by (Some is_open) lacks a b = refl
+open_by (Some (is_claimed seat)) lacks a b = absurd (cc a)
+open_by (Some (is_blocked seat on)) lacks a b = absurd (cc a)
+open_by (Some (is_filed v)) lacks a b = absurd (cc b)
+
+-- a key that nobody has claimed and that has no answer stands open
+pub free_open : (seats remaining : ℕ) (stop : Option Reason) (ks : List Key) (xs : List Standing) (es : List Logged) (used capacity : ℕ) (old : Log)
+    → Before seats remaining stop ks xs es used capacity old → (n : ℕ) → n < length old.keys → IsFree (state_of old) (key_at old n) → slice_get xs n ≡ Some is_open
+free_open seats remaining stop ks xs es used capacity old before n l free =
+    open_by (slice_get xs n) lacks (seat_here seats remaining stop ks xs es used capacity old before n l ∙ free.unclaimed)
+    (answer_here seats remaining stop ks xs es used capacity old before n l ∙ free.unfiled)
+  where
+    inside : n < length xs
+    inside = subst (λ z. n < z) (sym before.whole.0.sized) (within seats remaining stop ks xs es used capacity old before n l)
+
+    lacks : slice_get xs n ≡ None → ⊥
+    lacks none = cc (none, slice_get-get_or xs n is_open inside)
+
+-- a seat that claims a free key keeps the one that it has
+pub still_seated : (seats remaining : ℕ) (stop : Option Reason) (ks : List Key) (xs : List Standing) (es : List Logged) (used capacity : ℕ) (old : Log)
+    → Before seats remaining stop ks xs es used capacity old → (n on seat : ℕ) → n < length old.keys → on < length old.keys
+    → (state_of old).claims (key_at old n) ≡ Some seat → IsFree (state_of old) (key_at old on)
+    → (now : Table) → now ≡ table_of ks (slice_set xs on (is_claimed seat)) → (n < length now.keys) × (seat_in (slice_get now.standings n) ≡ Some seat)
+still_seated seats remaining stop ks xs es used capacity old before n on seat l m claimed free now set =
+    subst (λ (t : Table). (n < length t.keys) × (seat_in (slice_get t.standings n) ≡ Some seat)) (sym set) (
+      within seats remaining stop ks xs es used capacity old before n l,
+      ap seat_in (get_other xs on (is_claimed seat) n other) ∙ seat_here seats remaining stop ks xs es used capacity old before n l ∙ claimed,
+    )
+  where
+    other : n ≡ on → ⊥
+    other same = let none : (state_of old).claims (key_at old n) ≡ None = ap (λ z. (state_of old).claims (key_at old z)) same ∙ free.unclaimed in cc (none, claimed)
 
 -- the first cause of the stops
 cause_later : (o : Option Cause) → earlier o None ≡ o
@@ -312,42 +346,55 @@ leads_not seats remaining stop ks xs es used capacity old before n on seat claim
     by j k a b here = cc (a, b)
     by j k a b (onward x e rest) = let none : on_of (s.blocks j) ≡ None = unblocked ks xs s j before.whole.0.tied b in let some : on_of (s.blocks j) ≡ Some x.on = ap on_of e in cc (none, some)
 
--- the key of a number stands as its number does
-standing_of_number : (seats remaining : ℕ) (stop : Option Reason) (ks : List Key) (xs : List Standing) (es : List Logged) (used capacity : ℕ) (old : Log)
-    → Before seats remaining stop ks xs es used capacity old → (n : ℕ) → n < length old.keys → (y : Standing) → slice_get xs n ≡ Some y → standing_at ks xs (named ks n) ≡ Some y
-standing_of_number seats remaining stop ks xs es used capacity old before n l y at =
-    let book = before.whole.0 in
-    standing_here ks xs n (named ks n) book.table book.sized (named_at ks n (subst (λ (z : Log). n < length z.keys) (sym before.view_is) l)) ∙ at
-
 -- who has the key of a number
 pub holder_free : (seats remaining : ℕ) (stop : Option Reason) (ks : List Key) (xs : List Standing) (es : List Logged) (used capacity : ℕ) (old : Log)
-    → Before seats remaining stop ks xs es used capacity old → (n : ℕ) → n < length old.keys → (y : Standing) → slice_get xs n ≡ Some y
-    → (seat_in (Some y) ≡ None) × (answer_in (Some y) ≡ None) → IsFree (state_of old) (key_at old n)
-holder_free seats remaining stop ks xs es used capacity old before n l y at none =
-    subst (λ (z : Log). IsFree (state_of z) (key_at z n)) before.view_is (record {
-      unclaimed = sym (before.whole.0.tied.claims (named ks n)) ∙ ap seat_in (standing_of_number seats remaining stop ks xs es used capacity old before n l y at) ∙ none.0;
-      unfiled = sym (before.whole.0.tied.filed (named ks n)) ∙ ap answer_in (standing_of_number seats remaining stop ks xs es used capacity old before n l y at) ∙ none.1;
-    })
+    → Before seats remaining stop ks xs es used capacity old → (n : ℕ) → n < length old.keys
+    → (seat_in (slice_get xs n) ≡ None) × (answer_in (slice_get xs n) ≡ None) → IsFree (state_of old) (key_at old n)
+holder_free seats remaining stop ks xs es used capacity old before n l none = record {
+  unclaimed = sym (seat_here seats remaining stop ks xs es used capacity old before n l) ∙ none.0;
+  unfiled = sym (answer_here seats remaining stop ks xs es used capacity old before n l) ∙ none.1;
+}
 
 pub holder_seat : (seats remaining : ℕ) (stop : Option Reason) (ks : List Key) (xs : List Standing) (es : List Logged) (used capacity : ℕ) (old : Log)
-    → Before seats remaining stop ks xs es used capacity old → (n : ℕ) → n < length old.keys → (y : Standing) → slice_get xs n ≡ Some y
-    → (seat : ℕ) → seat_in (Some y) ≡ Some seat → (state_of old).claims (key_at old n) ≡ Some seat
-holder_seat seats remaining stop ks xs es used capacity old before n l y at seat some =
-    subst (λ (z : Log). (state_of z).claims (key_at z n) ≡ Some seat) before.view_is
-    (sym (before.whole.0.tied.claims (named ks n)) ∙ ap seat_in (standing_of_number seats remaining stop ks xs es used capacity old before n l y at) ∙ some)
+    → Before seats remaining stop ks xs es used capacity old → (n : ℕ) → n < length old.keys
+    → (seat : ℕ) → seat_in (slice_get xs n) ≡ Some seat → (state_of old).claims (key_at old n) ≡ Some seat
+holder_seat seats remaining stop ks xs es used capacity old before n l seat some = sym (seat_here seats remaining stop ks xs es used capacity old before n l) ∙ some
 
-answer_of_one : (y : Standing) → has_answer (Some y) ≡ true → (v : Answer) × (answer_in (Some y) ≡ Some v)
-answer_of_one is_open e = absurd (cc e)
-answer_of_one (is_claimed seat) e = absurd (cc e)
-answer_of_one (is_blocked seat on) e = absurd (cc e)
-answer_of_one (is_filed v) e = (v, refl)
+answer_of_one : (o : Option Standing) → has_answer o ≡ true → (v : Answer) × (answer_in o ≡ Some v)
+answer_of_one None e = absurd (cc e)
+answer_of_one (Some is_open) e = absurd (cc e)
+answer_of_one (Some (is_claimed seat)) e = absurd (cc e)
+answer_of_one (Some (is_blocked seat on)) e = absurd (cc e)
+answer_of_one (Some (is_filed v)) e = (v, refl)
 
 pub holder_done : (seats remaining : ℕ) (stop : Option Reason) (ks : List Key) (xs : List Standing) (es : List Logged) (used capacity : ℕ) (old : Log)
-    → Before seats remaining stop ks xs es used capacity old → (n : ℕ) → n < length old.keys → (y : Standing) → slice_get xs n ≡ Some y
-    → has_answer (Some y) ≡ true → (v : Answer) × ((state_of old).filed (key_at old n) ≡ Some v)
-holder_done seats remaining stop ks xs es used capacity old before n l y at has =
-    let some = answer_of_one y has in (
-      some.0,
-      subst (λ (z : Log). (state_of z).filed (key_at z n) ≡ Some some.0) before.view_is
-          (sym (before.whole.0.tied.filed (named ks n)) ∙ ap answer_in (standing_of_number seats remaining stop ks xs es used capacity old before n l y at) ∙ some.1),
-    )
+    → Before seats remaining stop ks xs es used capacity old → (n : ℕ) → n < length old.keys
+    → has_answer (slice_get xs n) ≡ true → (v : Answer) × ((state_of old).filed (key_at old n) ≡ Some v)
+holder_done seats remaining stop ks xs es used capacity old before n l has =
+    let some = answer_of_one (slice_get xs n) has in
+    (some.0, sym (answer_here seats remaining stop ks xs es used capacity old before n l) ∙ some.1)
+
+-- the same book, with more room
+pub kept_whole : (seats remaining : ℕ) (stop : Option Reason) (ks : List Key) (xs : List Standing) (es : List Logged) (used capacity : ℕ) → IsWhole seats remaining stop ks xs es used capacity
+    → (now : Table) (fs : List Logged) (taken room : ℕ) → now ≡ table_of ks xs → fs ≡ es → taken ≡ used → capacity ≤ room → IsWhole seats remaining stop now.keys now.standings fs taken room
+kept_whole seats remaining stop ks xs es used capacity whole now fs taken room same events filled more =
+    subst (λ (t : Table). IsWhole seats remaining stop t.keys t.standings fs taken room) (sym same)
+    (subst (λ (z : List Logged). IsWhole seats remaining stop ks xs z taken room) (sym events) (
+      whole.0,
+      whole.1,
+      record { once = whole.2.once; below = whole.2.below; counted = whole.2.counted; room = omega (arith, whole.2.room, filled, more) },
+    ))
+
+-- the key of a number that was looked up
+pub named_key : (seats remaining : ℕ) (stop : Option Reason) (ks : List Key) (xs : List Standing) (es : List Logged) (used capacity : ℕ) (old : Log)
+    → Before seats remaining stop ks xs es used capacity old → (n : ℕ) (k : Key) → slice_get ks n ≡ Some k → k ≡ key_at old n
+named_key seats remaining stop ks xs es used capacity old before n k at = sym (ap (λ (o : Option Key). unwrap_or o (Read [])) at) ∙ ap (λ (z : Log). key_at z n) before.view_is
+
+-- what holds of a call that fails
+pub err_says : {A E : Type 0} (r : Result A E) (P : Type 0) → P → OnErr r P
+err_says (Ok a) P p = tt
+err_says (Err e) P p = p
+
+-- contracts see the same book
+pub kept_log : (seats : ℕ) (t now : Table) (es fs : List Logged) (old : Log) → log_in seats t.keys t.standings es ≡ old → now ≡ t → fs ≡ es → log_in seats now.keys now.standings fs ≡ old
+kept_log seats t now es fs old view_is same events = (λ i. log_in seats (same i).keys (same i).standings (events i)) ∙ view_is

@@ -1,10 +1,10 @@
 -- Keys of the code, as the core of loading has them.
 use Rattle.gn_closure.specs.Reach.{Setup, Load}
 use Rattle.gn_core.specs.Keys.{Layer, early, usual, Key, Read, Import, Unit_of, Resolve}
-use Rattle.gn_book.specs.declared.key.Key.{Key as Named}
-use Rattle.gn_book.specs.declared.key.Key.TheVariants.{Read as read_key, Import as import_key, Setup as setup_key, Load as load_key, Resolve as resolve_key}
-use Rattle.gn_book.specs.declared.key.When.{When}
-use Rattle.gn_book.specs.declared.key.When.TheVariants.{Early, Usual}
+use Rattle.gn_items.specs.declared.key.Key.{Key as Named}
+use Rattle.gn_items.specs.declared.key.Key.TheVariants.{Read as read_key, Import as import_key, Setup as setup_key, Load as load_key, Resolve as resolve_key}
+use Rattle.gn_items.specs.declared.key.When.{When}
+use Rattle.gn_items.specs.declared.key.When.TheVariants.{Early, Usual}
 use Rattle.std.specs.Prelude.{ℕ, List}
 
 abbrev pub layer_at : When → List ℕ → Layer

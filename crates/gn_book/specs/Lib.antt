@@ -5,4 +5,8 @@ pub mod Books
 pub mod Chains
 pub mod Holders
 pub mod Blocks
+pub mod Tasks
+pub mod Rosters
+pub mod Next
+pub mod NextLaws
 pub mod Runs

@@ -1,24 +1,21 @@
 // The book: what is claimed, blocked and filed.
 
-ghost use Rattle.std.specs.Prelude.{◌≡◌, ◌<◌, ◌≤◌, ◌+◌, [], ◌∷◌, ◌++◌, None, Some, IfOk, IfErr, OnOk, OnErr, length, slice_get, slice_set, option_map, ◌↔◌, Bool, true, if◌then◌else◌, false, not, map, vec_len, vec_capacity};
-ghost use Rattle.std.specs.List.{list_any};
-ghost use Rattle.indexmap.specs.IndexSet.{spare};
-ghost use Rattle.gn_core.specs.Keys.{same_key};
+ghost use Rattle.std.specs.Prelude.{◌≡◌, ◌<◌, ◌≤◌, ◌+◌, [], ◌∷◌, ◌++◌, None, Some, IfOk, IfErr, OnOk, OnErr, length, slice_get, option_map, ◌↔◌, Bool, true, if◌then◌else◌, false, vec_len, vec_capacity};
 ghost use Rattle.gn_core.specs.Machine.{Claim as claimed, File as filed, Stop as stopping};
 ghost use Rattle.gn_book.specs.declared.book.Claim.{Claim};
 ghost use Rattle.gn_book.specs.declared.book.Blocked.TheVariants.{Work, Wait, Cyclic};
 ghost use Rattle.gn_book.specs.Blocks.{LeadsBack, BlocksAs};
 ghost use Rattle.gn_book.specs.Keys.{key_of};
 ghost use Rattle.gn_book.specs.Logs.{Log, state_of, with_key, with_event, block_event, key_at, events_by, IsFree, cause_in, HasKeys, has_stopped, earlier, first_cause};
-ghost use Rattle.gn_book.specs.declared.status.Status.TheVariants.{Open};
+ghost use Rattle.gn_book.specs.Next.{HasNoClaim, NextIs};
 
 use crate::answer::Answer;
-use crate::chain::leads_to;
 use crate::event::{Block, Cause, Event, KeyId};
-use crate::key::Key;
-use crate::status::{Holder, Status, status_at};
+use crate::next::{Next, next_by};
+use crate::roster::Roster;
+use crate::status::Holder;
+use gn_items::Key;
 use gn_paths::Place;
-use indexmap::IndexSet;
 use std::alloc::{AllocError, Global};
 use std::marker::Model;
 
@@ -51,48 +48,6 @@ fn note(log: &mut Vec<Event>, event: Event)
     ensures capacity { vec_capacity log.old ≤ vec_capacity log.new }
 {
     let _ = log.push(event);
-}
-
-// A key stands otherwise.
-fn stand<A: Drop>(statuses: &mut Vec<Status<A>>, key: KeyId, status: Status<A>)
-    requires { key < length statuses.old.items }
-    ensures { statuses.new.items ≡ slice_set statuses.old.items key status }
-{
-    statuses[key] = status;
-}
-
-// Makes room for one more key.
-fn make_places<A>(keys: &mut IndexSet<Key>, statuses: &mut Vec<Status<A>>) -> Result<(), AllocError>
-    ensures keys { keys.new.keys ≡ keys.old.keys }
-    ensures statuses { statuses.new.items ≡ statuses.old.items }
-    ensures spare { OnOk result (0 < spare keys.new) }
-    ensures room { OnOk result (vec_len statuses.new < vec_capacity statuses.new) }
-{
-    statuses.reserve(1)?;
-    keys.reserve(1)
-}
-
-// The number of a key, and whether it is new; there is room for it.
-fn put_key(keys: &mut IndexSet<Key>, key: Key) -> (KeyId, bool)
-    requires { 0 < spare keys.old }
-    ensures keys { map key_of keys.new.keys ≡ (if list_any (same_key (key_of key)) (map key_of keys.old.keys) then map key_of keys.old.keys else map key_of keys.old.keys ++ key_of key ∷ []) }
-    ensures number { slice_get (map key_of keys.new.keys) result.0 ≡ Some (key_of key) }
-    ensures is_new { result.1 ≡ not (list_any (same_key (key_of key)) (map key_of keys.old.keys)) }
-{
-    match keys.insert_full(key) {
-        Ok(place) => place,
-        Err(_) => unreachable!(),
-    }
-}
-
-// A new key is open; there is room for it.
-fn add_open<A: Drop>(statuses: &mut Vec<Status<A>>, is_new: bool)
-    requires { vec_len statuses.old < vec_capacity statuses.old }
-    ensures { statuses.new.items ≡ (if is_new then statuses.old.items ++ Open ∷ [] else statuses.old.items) }
-{
-    if is_new {
-        let _ = statuses.push(Status::Open);
-    }
 }
 
 // The first cause stays.
@@ -136,23 +91,19 @@ fn wait_or_cycle(closes: bool, seat: u32) -> Blocked
 /// blocked and filed is what that log leaves.
 #[derive(Drop)]
 pub struct Book<A: Answer> {
-    alloc: Global,
     seats: u32,
     // How many seats haven't stopped.
     left: u32,
-    keys: IndexSet<Key>,
-    // How each key stands, by its number.
-    statuses: Vec<Status<A>>,
+    // The keys, and how each stands.
+    roster: Roster<A>,
     log: Vec<Event>,
     // The cause of the first stop.
     stop: Option<Cause>,
 }
 
 impl<A: Answer> Model for Book<A> {
-    ghost use Rattle.std.specs.Prelude.{map, vec_len, vec_capacity};
-    ghost use Rattle.gn_book.specs.Keys.{key_of};
+    ghost use Rattle.std.specs.Prelude.{vec_len, vec_capacity};
     ghost use Rattle.gn_book.specs.Logs.{Log};
-    ghost use Rattle.gn_book.specs.Standings.{standing_of};
     ghost use Rattle.gn_book.specs.Books.{log_in, IsWhole};
     ghost use Rattle.std.specs.Coded.{codes};
     ghost use Rattle.gn_values.specs.ImportedCode.{import_code};
@@ -161,9 +112,9 @@ impl<A: Answer> Model for Book<A> {
 
     ghost coded = { Prim.hlevel (codes, import_code) };
 
-    ghost view = { λ b. log_in b.seats (map key_of b.keys.keys) (map (standing_of A.meaning) b.statuses.items) b.log.items };
+    ghost view = { λ b. log_in b.seats b.roster.keys b.roster.standings b.log.items };
 
-    ghost invariant = { λ b. IsWhole b.seats b.left b.stop (map key_of b.keys.keys) (map (standing_of A.meaning) b.statuses.items) b.log.items (vec_len b.log) (vec_capacity b.log) };
+    ghost invariant = { λ b. IsWhole b.seats b.left b.stop b.roster.keys b.roster.standings b.log.items (vec_len b.log) (vec_capacity b.log) };
 }
 
 impl<A: Answer> Book<A> {
@@ -174,11 +125,9 @@ impl<A: Answer> Book<A> {
         let mut log = Vec::new(alloc);
         log.reserve(seats as usize)?;
         Ok(Book {
-            alloc,
             seats,
             left: seats,
-            keys: IndexSet::new(alloc),
-            statuses: Vec::new(alloc),
+            roster: Roster::new(alloc),
             log,
             stop: None,
         })
@@ -189,10 +138,7 @@ impl<A: Answer> Book<A> {
         requires { key < length self.now.keys }
         ensures { slice_get self.now.keys key ≡ Some (key_of result.now) }
     {
-        match self.keys.get_index(key) {
-            Some(named) => named,
-            None => unreachable!(),
-        }
+        self.roster.key(key)
     }
 
     /// The answer of the key of a number. None comes exactly where none is filed. It takes no memory.
@@ -200,7 +146,7 @@ impl<A: Answer> Book<A> {
         requires { key < length self.now.keys }
         ensures { option_map (λ answer. A.meaning answer.now) result ≡ (state_of self.now).filed (key_at self.now key) }
     {
-        status_at(&self.statuses, key).answer()
+        self.roster.answer(key)
     }
 
     /// All events, the first one first. The answer of a key that was filed is that of `answer`. It takes no memory.
@@ -217,17 +163,29 @@ impl<A: Answer> Book<A> {
         self.stop
     }
 
-    /// The number of a key. A key that has none gets the next one. After want of memory nothing is changed, and the key is
-    /// dropped.
+    /// What a seat that has no claim does next. `Stopped` comes exactly where a seat has stopped, with the cause of the first
+    /// stop; `Work` exactly where else a key is ready: a unit or a label that has a number, that nobody has claimed and that has
+    /// no answer. It is the first of them: build configurations come before build files, these before records, and each kind
+    /// goes by path or label, then by toolchain. `Later` comes exactly where no key is ready and one is claimed: this one, by
+    /// this other seat; `Quiet` where none is. It takes no memory.
+    pub fn next(&self, seat: u32) -> Next
+        requires { HasNoClaim self.now seat }
+        ensures { NextIs self.now seat result }
+    {
+        match self.stop {
+            Some(cause) => Next::Stopped(cause),
+            None => next_by(self.roster.first_ready(), self.roster.first_held()),
+        }
+    }
+
+    /// The number of a key. A key that has none gets the next one; a unit or a label is ready from then on. After want of memory
+    /// nothing is changed, and the key is dropped.
     pub fn number(&mut self, key: Key) -> Result<KeyId, AllocError>
         ensures number { IfOk result (λ number. slice_get self.new.keys number ≡ Some (key_of key)) }
         ensures ok { OnOk result (self.new ≡ with_key self.old (key_of key)) }
         ensures err { OnErr result (self.new ≡ self.old) }
     {
-        make_places(&mut self.keys, &mut self.statuses)?;
-        let (number, is_new) = put_key(&mut self.keys, key);
-        add_open(&mut self.statuses, is_new);
-        Ok(number)
+        self.roster.number(key)
     }
 
     /// The seat claims a key that has no answer and that nobody has claimed. After want of memory nothing is changed.
@@ -238,9 +196,8 @@ impl<A: Answer> Book<A> {
         ensures ok { OnOk result (self.new ≡ with_event self.old (claimed seat (key_at self.old key))) }
         ensures err { OnErr result (self.new ≡ self.old) }
     {
-        let named = self.key(key).copy(self.alloc)?;
         make_room(&mut self.log, self.left)?;
-        stand(&mut self.statuses, key, Status::Claimed(seat));
+        let named = self.roster.claim(key, seat)?;
         note(&mut self.log, Event::Claim(seat, key));
         Ok(Claim {
             key: named,
@@ -263,7 +220,7 @@ impl<A: Answer> Book<A> {
                 let seat = claim.seat;
                 let number = claim.number;
                 claim.spend();
-                stand(&mut self.statuses, number, Status::Filed(answer));
+                self.roster.file(number, answer);
                 note(&mut self.log, Event::File(seat, number));
                 Ok(())
             }
@@ -290,19 +247,14 @@ impl<A: Answer> Book<A> {
         ensures ok { OnOk result (self.new ≡ with_event self.old (block_event self.old claim.now.seat claim.now.number on place false)) }
         ensures err { OnErr result (self.new ≡ self.old) }
     {
-        let named = self.key(on).copy(self.alloc)?;
         make_room(&mut self.log, self.left)?;
+        let named = self.roster.claim(on, claim.seat)?;
+        self.roster.block(claim.number, claim.seat, on);
         let block = Block {
             on,
             place,
             closes: false,
         };
-        stand(&mut self.statuses, on, Status::Claimed(claim.seat));
-        stand(
-            &mut self.statuses,
-            claim.number,
-            Status::Blocked(claim.seat, on),
-        );
         note(&mut self.log, Event::Block(claim.seat, claim.number, block));
         Ok(Blocked::Work(Claim {
             key: named,
@@ -328,13 +280,9 @@ impl<A: Answer> Book<A> {
         ensures err { OnErr result (self.new ≡ self.old) }
     {
         make_room(&mut self.log, self.left)?;
-        let closes = leads_to(&self.statuses, on, claim.number);
+        let closes = self.roster.leads(on, claim.number);
         let block = Block { on, place, closes };
-        stand(
-            &mut self.statuses,
-            claim.number,
-            Status::Blocked(claim.seat, on),
-        );
+        self.roster.block(claim.number, claim.seat, on);
         note(&mut self.log, Event::Block(claim.seat, claim.number, block));
         Ok(wait_or_cycle(closes, seat))
     }
@@ -348,7 +296,7 @@ impl<A: Answer> Book<A> {
         ensures ok { IfOk result (BlocksAs self.old self.new claim.now.seat claim.now.number on place) }
         ensures err { OnErr result (self.new ≡ self.old) }
     {
-        match status_at(&self.statuses, on).holder() {
+        match self.roster.holder(on) {
             Holder::Done => Ok(Blocked::Ready),
             Holder::Nobody => self.block_free(claim, on, place),
             Holder::Seat(seat) => self.block_held(claim, on, place, seat),

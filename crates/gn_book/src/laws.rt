@@ -1,5 +1,6 @@
-// What the log of a book is to the rules of loading.
+// What a book is to the rules of loading.
 
+ghost use Rattle.gn_book.specs.NextLaws.{KindsAreInOrder, TasksHaveNoTies, NextIsByRules, ReadyMeansWork, QuietMeansQuiet};
 ghost use Rattle.gn_book.specs.Runs.{IsOpenAtFirst, EventsExtendRuns, AsksNoMore};
 
 /// The log of a book is a run of loading as long as each event is allowed, whatever the evaluator: it begins at the opening
@@ -8,4 +9,20 @@ pub fn logs_are_runs()
     ensures opening { IsOpenAtFirst }
     ensures more { EventsExtendRuns }
     ensures asks { AsksNoMore }
+{}
+
+/// Keys that are given out by themselves have one order: build configurations come before build files, these before records,
+/// and of two keys one comes later.
+pub fn tasks_are_in_order()
+    ensures kinds { KindsAreInOrder }
+    ensures ties { TasksHaveNoTies }
+{}
+
+/// What comes next is what the rules of loading say, whatever the evaluator, where the units and labels that have numbers are
+/// those that these rules let be claimed: a key that is ready is given out, the first one; a state is called quiet that is.
+/// Where a key is ready there is work, and in a quiet state nothing but quiet is told.
+pub fn next_is_by_the_rules()
+    ensures says { NextIsByRules }
+    ensures work { ReadyMeansWork }
+    ensures quiet { QuietMeansQuiet }
 {}
