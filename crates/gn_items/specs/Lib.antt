@@ -1,3 +1,4 @@
 pub mod Effects
 pub mod Labels
+pub mod Names
 pub mod Questions

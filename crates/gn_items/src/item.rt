@@ -2,13 +2,7 @@
 
 use gn_labels::Label;
 use gn_paths::Place;
-
-/// The kind of an item.
-#[derive(Clone, Copy, Debug, PartialEq, Eq)]
-pub enum ItemKind {
-    /// A target that stands for others: `group`.
-    Group,
-}
+use gn_rows::ItemKind;
 
 /// An item that a build file defines.
 #[derive(Debug, Drop)]

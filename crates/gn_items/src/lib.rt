@@ -3,10 +3,15 @@
 
 mod item;
 mod key;
+mod laws;
+mod names;
 mod outcome;
 mod question;
 
-pub use item::{Item, ItemKind};
+pub use gn_rows::ItemKind;
+pub use item::Item;
 pub use key::{Claim, Key, When};
+pub use laws::executions_of_different_keys_differ;
+pub use names::{import_name, load_name};
 pub use outcome::Outcome;
 pub use question::Question;
