@@ -30,18 +30,18 @@ module _ (value : List ℕ → Option Val) where
   one_of_entries entries n ns rest env None = rest env
   one_of_entries entries n ns rest env (Some v) = rest (given n v env)
 
-  one_of_invoker : (n : List ℕ) (ns : List (List ℕ)) → ((env : Environment) → names_given value from_invoker ns env ≡ forwarding value from_invoker ns env) → (env : Environment) (o : Option Val) → names_given value from_invoker ns (given_if n o (after_caller_read n env)) ≡ record (giving (found_before n o (entries_at value ns)) env) { callers = read_at ns (with_caller (chain_read n) env.callers) }
+  one_of_invoker : (outer : Option Val) (n : List ℕ) (ns : List (List ℕ)) → ((env : Environment) → names_given value (from_invoker outer) ns env ≡ forwarding value (from_invoker outer) ns env) → (env : Environment) (o : Option Val) → names_given value (from_invoker outer) ns (given_if n o (after_caller_read n env)) ≡ record (giving (found_before n o (entries_at value ns)) env) { callers = read_at ns (with_caller (chain_read n) env.callers) }
   unfolding given restored after_caller_read
-  one_of_invoker n ns rest env None = rest (after_caller_read n env)
-  one_of_invoker n ns rest env (Some v) = rest (given n v (after_caller_read n env))
+  one_of_invoker outer n ns rest env None = rest (after_caller_read n env)
+  one_of_invoker outer n ns rest env (Some v) = rest (given n v (after_caller_read n env))
 
   pub names_given_is : (origin : Origin) (ns : List (List ℕ)) (env : Environment) → names_given value origin ns env ≡ forwarding value origin ns env
   names_given_is (from_entries entries) [] env = refl
   names_given_is (from_entries entries) (n ∷ ns) env =
       one_of_entries entries n ns (names_given_is (from_entries entries) ns) env (value n)
-  names_given_is from_invoker [] env = refl
-  names_given_is from_invoker (n ∷ ns) env =
-      one_of_invoker n ns (names_given_is from_invoker ns) env (value n)
+  names_given_is (from_invoker outer) [] env = refl
+  names_given_is (from_invoker outer) (n ∷ ns) env =
+      one_of_invoker outer n ns (names_given_is (from_invoker outer) ns) env (value n)
 
 -- forwarding with `"*"`
 module _ (except : List (List ℕ)) (given : Table Val) (env new : Environment) where
@@ -50,12 +50,12 @@ module _ (except : List (List ℕ)) (given : Table Val) (env new : Environment) 
   forwards_entries entries copied is =
       is ∙ ap (λ (g : Table Val). giving g env) copied ∙ sym (entries_given_is (target_name ∷ except) entries env)
 
-  pub forwards_invoker : given ≡ entries_but (target_name ∷ except) (entries_by env.callers) → new ≡ after_invoker_read (giving given env) → new ≡ all_forwarded from_invoker except env
+  pub forwards_invoker : (outer : Option Val) → given ≡ entries_but (target_name ∷ except) (entries_by env.callers) → new ≡ after_invoker_read (giving given env) → new ≡ all_forwarded (from_invoker outer) except env
   unfolding all_forwarded after_invoker_read invoker_entries
-  forwards_invoker copied is =
+  forwards_invoker outer copied is =
       is ∙ ap (λ (g : Table Val). after_invoker_read (giving g env)) copied ∙ sym (entries_given_is (target_name ∷ except) (entries_by env.callers) (after_invoker_read env))
 
   pub forwards_all : (origin : Origin) → given ≡ entries_but (target_name ∷ except) (origin_entries origin env.callers) → new ≡ record (giving given env) { callers = read_all_at origin env.callers } → new ≡ all_forwarded origin except env
   unfolding after_invoker_read
   forwards_all (from_entries entries) copied is = forwards_entries entries copied is
-  forwards_all from_invoker copied is = forwards_invoker copied is
+  forwards_all (from_invoker outer) copied is = forwards_invoker outer copied is

@@ -2,3 +2,4 @@ pub mod Forwarded
 pub mod Merging
 pub mod InScope
 pub mod Searched
+pub mod OuterInvoker

@@ -4,7 +4,7 @@ ghost use types.Logic.{sem};
 ghost use Rattle.std.specs.Prelude.{◌≡◌, ◌≢◌, ◌++◌, OnOk, OnErr, IfOk, IfErr, IfSome, true, false, map, option_map};
 ghost use Rattle.gn_values.specs.Limits.{scope_fits};
 ghost use Rattle.gn_values.specs.View.{val_of};
-ghost use Rattle.gn_environment.specs.Environment.{new_environment, fixed_value, kept_by, value_of, after_read, after_assignment, after_assignment_over, after_element_assignment, after_element_assignment_over, entered, left, entries_here, reported_here, variable_here, restored, given, in_item};
+ghost use Rattle.gn_environment.specs.Environment.{new_environment, fixed_value, kept_by, value_of, after_read, after_assignment, after_assignment_over, after_element_assignment, after_element_assignment_over, entered, left, entries_here, reported_here, variable_here, restored, given, with_open};
 ghost use Rattle.gn_environment.specs.Faults.{fault_in};
 ghost use Rattle.gn_layers.specs.Errors.{refusal_of, element_refusal_of};
 ghost use Rattle.gn_environment.specs.Lending.{Ends};
@@ -12,7 +12,8 @@ ghost use Rattle.gn_layers.specs.View.{variable_state};
 ghost use Rattle.gn_env.specs.contracts.env.Env.{the_row};
 
 use crate::caller::Caller;
-use gn_faults::{Code, Fault, FileKind, Stage};
+use gn_environment::{Context, OpenBlock};
+use gn_faults::{Code, Fault};
 use gn_layers::{AssignError, ElementAssignError, Variable};
 use gn_paths::{Path, Place, Text, Texts};
 use gn_scopes::NamedScopes;
@@ -30,12 +31,10 @@ use std::sync::Arc;
 /// innermost scope. Looking a name up takes a number of comparisons that is logarithmic in the names of each layer.
 #[derive(Drop)]
 pub struct Env {
-    pub(crate) stage: Stage,
-    pub(crate) toolchain: Text,
+    pub(crate) context: Arc<Context>,
     pub(crate) file: Text,
     pub(crate) directory: Path,
-    pub(crate) kind: FileKind,
-    pub(crate) in_item: bool,
+    pub(crate) inside: OpenBlock,
     pub(crate) scopes: NamedScopes,
     pub(crate) body: Option<Arc<Definition>>,
     pub(crate) callers: VecDeque<Caller>,
@@ -56,7 +55,7 @@ impl Model for Env {
     ghost coded = { environment_code };
 
     ghost view = { λ a. record {
-      setting = record { stage = a.stage; toolchain = a.toolchain; file = a.file; directory = a.directory; kind = a.kind; in_item = a.in_item };
+      setting = record { context = a.context.value; file = a.file; directory = a.directory; inside = a.inside };
       chain = a.scopes;
       body = option_map (λ d. d.value) a.body;
       callers = a.callers.items;
@@ -69,51 +68,48 @@ impl Model for Env {
 }
 
 impl Env {
-    /// An environment of one scope, in which nothing is set, no block of an item is open and no template's body runs.
-    /// `file` is the file that its places name, `directory` the current directory, `kind` as what the file is evaluated,
-    /// `execution` the name of this execution, by which the definitions that it makes are named, `checked` says whether
-    /// the scope's end reports a name that nothing reads, and `beneath` is what a read searches behind the scopes. It
-    /// takes no memory.
+    /// An environment of one scope, in which nothing is set, no block is open that says what may be called in it, and no
+    /// template's body runs. `file` is the file that its places name, `directory` the current directory, `execution` the
+    /// name of this execution, by which the definitions that it makes are named, `checked` says whether the scope's end
+    /// reports a name that nothing reads, and `beneath` is what a read searches behind the scopes, with the `definitions`
+    /// of its templates. It takes no memory.
     #[tactic(auto, unfolding(gn_environment::specs::Environment::new_environment))]
     pub fn new(
         alloc: Global,
-        stage: Stage,
-        toolchain: Text,
+        context: Arc<Context>,
         file: Text,
         directory: Path,
-        kind: FileKind,
         execution: Text,
         checked: bool,
         beneath: Vec<Arc<KeptScope>>,
+        definitions: MadeBy,
     ) -> Env
         ensures { result
             ≡ new_environment
-            (record { stage = stage; toolchain = toolchain; file = file; directory = directory; kind = kind; in_item = false })
-            execution checked (map (λ f. f.value) beneath.items) }
+            (record { context = context.value; file = file; directory = directory; inside = OpenBlock.Nothing })
+            execution checked (map (λ f. f.value) beneath.items) definitions }
     {
         Env {
-            stage,
-            toolchain,
+            context,
             file,
             directory,
-            kind,
-            in_item: false,
+            inside: OpenBlock::Nothing,
             scopes: NamedScopes::new(alloc, checked),
             body: None,
             callers: VecDeque::new(alloc),
             beneath,
             execution,
             made: Definitions::new(alloc),
-            definitions: MadeBy::new(alloc),
+            definitions,
             depth: 0,
         }
     }
 
-    /// The toolchain that the faults of the evaluation have: its label, or the empty text for the default one.
-    pub fn toolchain(&self) -> &Text
-        ensures { result.now ≡ self.now.setting.toolchain }
+    /// What never changes in the evaluation.
+    pub fn context(&self) -> &Context
+        ensures { result.now ≡ self.now.setting.context }
     {
-        &self.toolchain
+        &self.context
     }
 
     /// The file that places of the evaluation name.
@@ -130,25 +126,18 @@ impl Env {
         &self.directory
     }
 
-    /// As what the file is evaluated.
-    pub fn kind(&self) -> FileKind
-        ensures { result ≡ self.now.setting.kind }
+    /// The block that is open and says what may be called in it.
+    pub fn open_block(&self) -> OpenBlock
+        ensures { result ≡ self.now.setting.inside }
     {
-        self.kind
+        self.inside
     }
 
-    /// Whether the block of an item is open.
-    pub fn in_item(&self) -> bool
-        ensures { result ≡ self.now.setting.in_item }
+    /// Says which block is open: one that begins, or the one around that which ends.
+    pub fn set_open_block(&mut self, block: OpenBlock)
+        ensures new { self.new ≡ with_open block self.old }
     {
-        self.in_item
-    }
-
-    /// Says whether the block of an item is open.
-    pub fn set_in_item(&mut self, inside: bool)
-        ensures new { self.new ≡ in_item inside self.old }
-    {
-        self.in_item = inside;
+        self.inside = block;
     }
 
     /// The depth of the evaluation: the sum over the template calls that are open.
@@ -165,8 +154,28 @@ impl Env {
             (λ env. env ≡ after_read name.now self.old)) }
         ensures value { option_map (λ v. val_of v.now) result ≡ value_of name.now self.old }
     {
+        let name = name.as_bytes();
         self.mark(name);
         self.value(name)
+    }
+
+    /// Counts a name as read from then on. It takes no memory.
+    #[tactic(auto, unfolding(gn_environment::specs::Environment::after_read))]
+    pub fn mark(&mut self, name: &[u8])
+        ensures { self.new ≡ after_read name.now self.old }
+    {
+        self.scopes.mark(name);
+    }
+
+    /// The value of a name, which doesn't count as read by this. None comes exactly where it has none. It takes no memory.
+    #[tactic(auto, unfolding(gn_environment::specs::Environment::value_of))]
+    pub fn value(&self, name: &[u8]) -> Option<&Value>
+        ensures { option_map (λ v. val_of v.now) result ≡ value_of name.now self.now }
+    {
+        match self.scopes.value(name) {
+            Some(value) => Some(value),
+            None => behind_value(&self.body, &self.beneath, name),
+        }
     }
 
     /// `name = value`, `name += value` or `name -= value`, whose operator stands at the position. `Overwrite` comes
@@ -190,7 +199,7 @@ impl Env {
             (λ r. after_assignment name.now op (val_of value) position self.old ≡ Err r)) }
         ensures err { OnErr result (self.new ≡ self.old) }
     {
-        let behind = behind_value(&self.body, &self.beneath, name);
+        let behind = behind_value(&self.body, &self.beneath, name.as_bytes());
         self.scopes.assign(alloc, name, op, value, position, behind)
     }
 
@@ -241,7 +250,7 @@ impl Env {
             ≡ Err r)) }
         ensures err { OnErr result (self.new ≡ self.old) }
     {
-        let behind = behind_value(&self.body, &self.beneath, name);
+        let behind = behind_value(&self.body, &self.beneath, name.as_bytes());
         self.scopes
             .assign_element(alloc, name, at, op, value, position, behind)
     }
@@ -369,9 +378,9 @@ impl Env {
         ensures { IfOk result (λ f. f ≡ fault_in self.now.setting position code detail) }
     {
         let place = self.place(alloc, position)?;
-        let toolchain = self.toolchain.copy(alloc)?;
+        let toolchain = self.context.fault_toolchain.copy(alloc)?;
         Ok(Fault {
-            stage: self.stage,
+            stage: self.context.stage,
             place: Some(place),
             toolchain,
             code,
@@ -391,32 +400,13 @@ impl Env {
             column: position.column,
         })
     }
-
-    // A read of a name that it may have.
-    #[tactic(auto, unfolding(gn_environment::specs::Environment::after_read))]
-    fn mark(&mut self, name: &Text)
-        ensures { self.new ≡ after_read name.now self.old }
-    {
-        self.scopes.mark(name);
-    }
-
-    // The value of a name in the scopes, or else behind them.
-    #[tactic(auto, unfolding(gn_environment::specs::Environment::value_of))]
-    fn value(&self, name: &Text) -> Option<&Value>
-        ensures { option_map (λ v. val_of v.now) result ≡ value_of name.now self.now }
-    {
-        match self.scopes.value(name) {
-            Some(value) => Some(value),
-            None => behind_value(&self.body, &self.beneath, name),
-        }
-    }
 }
 
 // What a name has behind the scopes: in what the body keeps, or else in the first of the scopes beneath that has it.
 fn behind_value<'a>(
     body: &'a Option<Arc<Definition>>,
     beneath: &'a [Arc<KeptScope>],
-    name: &Text,
+    name: &[u8],
 ) -> Option<&'a Value>
     ensures { option_map (λ v. val_of v.now) result
         ≡ fixed_value name.now
@@ -425,19 +415,19 @@ fn behind_value<'a>(
     let Some(definition) = body else {
         return fixed_value(beneath, name);
     };
-    match definition.scope().variables().get(name.as_bytes()) {
+    match definition.scope().variables().get(name) {
         Some(value) => Some(value),
         None => fixed_value(beneath, name),
     }
 }
 
 // The value that the first of the scopes that has the name has at it.
-fn fixed_value<'a>(scopes: &'a [Arc<KeptScope>], name: &Text) -> Option<&'a Value>
+fn fixed_value<'a>(scopes: &'a [Arc<KeptScope>], name: &[u8]) -> Option<&'a Value>
     ensures { option_map (λ v. val_of v.now) result
         ≡ fixed_value name.now (map (λ f. f.value) scopes.now) }
 {
     for scope in scopes {
-        if let Some(value) = scope.variables().get(name.as_bytes()) {
+        if let Some(value) = scope.variables().get(name) {
             return Some(value);
         }
     }

@@ -24,8 +24,9 @@ use std::collections::VecDeque;
 pub enum Origin<'a> {
     /// The entries of a scope.
     Entries(&'a Entries),
-    /// The invoker. With names, what stands around the block of the call is forwarded too.
-    Invoker,
+    /// The invoker. With names, what stands around the block of the call is forwarded too, and the invoker around the call
+    /// as this value, if it is looked for.
+    Invoker(Option<&'a Value>),
 }
 
 /// Why variables aren't forwarded.
@@ -128,7 +129,7 @@ impl Env {
     {
         match from {
             Origin::Entries(entries) => entries.get(name.as_bytes()),
-            Origin::Invoker => caller_value(&self.callers, name),
+            Origin::Invoker(outer) => caller_value(&self.callers, name, outer),
         }
     }
 
@@ -287,7 +288,7 @@ fn copies_but(
     let except = NameSet::new(alloc, except)?;
     match from {
         Origin::Entries(entries) => copied_but(alloc, entries.as_slice(), &except),
-        Origin::Invoker => block_but(alloc, callers, &except),
+        Origin::Invoker(_) => block_but(alloc, callers, &except),
     }
 }
 
@@ -297,7 +298,7 @@ fn read_all_at(callers: &mut VecDeque<Caller>, from: Origin<'_>)
 {
     match from {
         Origin::Entries(_) => {}
-        Origin::Invoker => read_block(callers),
+        Origin::Invoker(_) => read_block(callers),
     }
 }
 
@@ -323,7 +324,7 @@ fn read_at_origin(callers: &mut VecDeque<Caller>, from: Origin<'_>, names: &[&Te
 {
     match from {
         Origin::Entries(_) => {}
-        Origin::Invoker => read_names_at_caller(callers, names),
+        Origin::Invoker(_) => read_names_at_caller(callers, names),
     }
 }
 

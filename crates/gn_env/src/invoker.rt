@@ -9,7 +9,7 @@ ghost use Rattle.gn_environment.specs.Layers.{values_in};
 ghost use Rattle.gn_environment.specs.Assigning.{replaces};
 ghost use Rattle.gn_environment.specs.Chains.{nearest, read_in, all_read, all_read_but, names_read, chain_value, chain_read};
 ghost use Rattle.gn_environment.specs.Templates.{with_caller, in_block};
-ghost use Rattle.gn_environment.specs.Invoker.{names_invoker, is_outermost, is_invoker_here, entries_by, invoker_entries, invoker_entry, value_by, after_invoker_entry_read, after_invoker_read, after_invoker_read_but, after_invoker_names_read};
+ghost use Rattle.gn_environment.specs.Invoker.{names_invoker, is_outermost, is_invoker_here, entries_by, invoker_entries, invoker_entry, value_by, value_if_invoker, after_invoker_entry_read, after_invoker_read, after_invoker_read_but, after_invoker_names_read};
 
 use crate::caller::Caller;
 use crate::env::Env;
@@ -30,7 +30,7 @@ impl Env {
     {
         name.as_bytes() == b"invoker".as_slice()
             && !self.callers.is_empty()
-            && self.scopes.value(name).is_none()
+            && self.scopes.value(name.as_bytes()).is_none()
     }
 
     /// Whether a name is the invoker and stands in the innermost scope: that is the scope of the body itself, in which the
@@ -127,15 +127,46 @@ impl Env {
 }
 
 impl Caller {
-    /// What a name is worth there: in the layers outwards, then in what the body keeps. It takes no memory.
-    pub(crate) fn value(&self, name: &Text) -> Option<&Value>
+    /// What a name is worth there, where the invoker around the call has this value, if it is looked for: in the layers
+    /// outwards, then as that invoker, then in what the body keeps. It takes no memory.
+    pub(crate) fn value<'a>(&'a self, name: &Text, outer: Option<&'a Value>) -> Option<&'a Value>
         ensures { option_map (λ v. val_of v.now) result
-            ≡ nearest (chain_value name.now self.now.chain) (fixed_value name.now (kept_by self.now.body)) }
+            ≡ nearest (chain_value name.now self.now.chain)
+            (nearest (value_if_invoker name.now (option_map (λ v. val_of v.now) outer.entry))
+            (fixed_value name.now (kept_by self.now.body))) }
     {
-        match self.scopes.value(name) {
+        match self.scopes.value(name.as_bytes()) {
             Some(value) => Some(value),
-            None => kept_value(&self.body, name),
+            None => value_around(&self.body, name, outer),
         }
+    }
+}
+
+// What a name is worth as the invoker around the call, or else in what the body keeps.
+fn value_around<'a>(
+    body: &'a Option<Arc<Definition>>,
+    name: &Text,
+    outer: Option<&'a Value>,
+) -> Option<&'a Value>
+    ensures { option_map (λ v. val_of v.now) result
+        ≡ nearest (value_if_invoker name.now (option_map (λ v. val_of v.now) outer.entry))
+        (fixed_value name.now (kept_by (option_map (λ d. d.value) body.now))) }
+{
+    match value_if_invoker(name, outer) {
+        Some(value) => Some(value),
+        None => kept_value(body, name),
+    }
+}
+
+// What the invoker around the call is worth, if the name is its name.
+fn value_if_invoker<'a>(name: &Text, outer: Option<&'a Value>) -> Option<&'a Value>
+    ensures { option_map (λ v. val_of v.now) result
+        ≡ value_if_invoker name.now (option_map (λ v. val_of v.now) outer.entry) }
+{
+    if name.as_bytes() == b"invoker".as_slice() {
+        outer
+    } else {
+        None
     }
 }
 
@@ -153,12 +184,18 @@ fn kept_value<'a>(body: &'a Option<Arc<Definition>>, name: &Text) -> Option<&'a 
     }
 }
 
-/// What a name is worth where the innermost caller called. It takes no memory.
-pub(crate) fn caller_value<'a>(callers: &'a VecDeque<Caller>, name: &Text) -> Option<&'a Value>
-    ensures { option_map (λ v. val_of v.now) result ≡ value_by name.now callers.now.items }
+/// What a name is worth where the innermost caller called, where the invoker around the call has this value, if it is
+/// looked for. It takes no memory.
+pub(crate) fn caller_value<'a>(
+    callers: &'a VecDeque<Caller>,
+    name: &Text,
+    outer: Option<&'a Value>,
+) -> Option<&'a Value>
+    ensures { option_map (λ v. val_of v.now) result
+        ≡ value_by name.now (option_map (λ v. val_of v.now) outer.entry) callers.now.items }
 {
     let caller = callers.front()?;
-    caller.value(name)
+    caller.value(name, outer)
 }
 
 /// A read of a name where the innermost caller called. It takes no memory.
@@ -166,7 +203,7 @@ pub(crate) fn read_at_caller(callers: &mut VecDeque<Caller>, name: &Text)
     ensures { callers.new.items ≡ with_caller (chain_read name.now) callers.old.items }
 {
     if let Some(caller) = callers.front_mut() {
-        caller.scopes.mark(name);
+        caller.scopes.mark(name.as_bytes());
     }
 }
 
@@ -204,9 +241,22 @@ fn block_entries(callers: &VecDeque<Caller>, alloc: Global) -> Result<Entries, V
         → (e ≡ ValueError.TooLong) × (scope_fits (entries_by callers.now.items) ≡ false)) }
 {
     match callers.front() {
-        Some(caller) => Entries::from_bindings(caller.scopes.copies_here(alloc)?),
+        Some(caller) => entries_here(&caller.scopes, alloc),
         None => Ok(Entries::new(alloc)),
     }
+}
+
+/// Copies of what stands directly in the innermost layer, as a scope. `TooLong` comes exactly where they would nest too deep
+/// for a scope's value.
+pub(crate) fn entries_here(scopes: &NamedScopes, alloc: Global) -> Result<Entries, ValueError>
+    ensures ok { IfOk result (λ entries. entries ≡ values_in scopes.now.inner) }
+    ensures fits { OnOk result (scope_fits (values_in scopes.now.inner) ≡ true) }
+    ensures refused { IfErr result
+        (λ e. e ≢ ValueError.Memory
+        → (e ≡ ValueError.TooLong) × (scope_fits (values_in scopes.now.inner) ≡ false)) }
+{
+    let names = scopes.copies_here(alloc)?;
+    Entries::from_bindings(names)
 }
 
 // A read of a name in the block of the innermost caller's call.

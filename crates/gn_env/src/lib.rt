@@ -6,6 +6,7 @@ mod env;
 mod forwarding;
 mod imports;
 mod invoker;
+mod outer_invoker;
 mod templates;
 
 pub use env::Env;

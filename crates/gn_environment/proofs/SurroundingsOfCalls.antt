@@ -1,16 +1,17 @@
 -- What imports, forwarding and reads of the invoker leave around the scope in which they take place.
-use Rattle.std.proofs.Common.{◌≡◌, ℕ, Bool, true, false, if◌then◌else◌, List, [], ◌∷◌, Option, Some, None, find, refl, sym, ap, ◌∙◌}
+use Rattle.std.proofs.Common.{◌≡◌, ℕ, Bool, true, false, if◌then◌else◌, List, [], ◌∷◌, map, Option, Some, None, find, refl, sym, ap, ◌∙◌}
 use Rattle.gn_values.specs.Val.{Val}
 use Rattle.gn_values.specs.Tables.{Table}
 use Rattle.gn_values.specs.Imported.{ImportState}
 use Rattle.gn_environment.specs.Layers.{LayerState}
 use Rattle.gn_environment.specs.Chains.{read_in, all_read, all_read_but, names_read, is_one_of, chain_read}
-use Rattle.gn_environment.specs.Environment.{Environment, given, in_item}
+use Rattle.gn_environment.specs.declared.context.OpenBlock.{OpenBlock}
+use Rattle.gn_environment.specs.Environment.{Caller, Environment, given, with_open}
 use Rattle.gn_environment.specs.Templates.{with_caller, in_block}
-use Rattle.gn_environment.specs.Invoker.{invoker_entries, after_invoker_entry_read, after_invoker_read, after_invoker_read_but, after_invoker_names_read, after_caller_read}
+use Rattle.gn_environment.specs.Invoker.{invoker_entries, after_invoker_entry_read, after_invoker_read, after_invoker_read_but, after_invoker_names_read, behind_first, after_outer_invoker_read, after_caller_read}
 use Rattle.gn_environment.specs.Forwarding.{Origin, from_entries, from_invoker, origin_value, origin_read, forwarded_names, given_if, names_given, is_set_here, forwarded_unless, names_forwarded, entries_given, target_name, all_forwarded, after_names_read_here, after_all_read_here}
 use Rattle.gn_environment.specs.Imports.{knowing, conflict_in, values_given, with_import, merged_unless, merged}
-use Rattle.gn_environment.specs.Surroundings.{outline, surroundings}
+use Rattle.gn_environment.specs.Surroundings.{outline, caller_outline, surroundings}
 use Rattle.gn_environment.proofs.Surroundings.{IsKept, read_in_outline, chain_read_outline, outline_around, with_layers, given_keeps, callers_keep, with_callers, block_outline}
 
 -- Reads of many names
@@ -58,11 +59,21 @@ pub invoker_names_read_keep : (names except : List (List ℕ)) (env : Environmen
 unfolding after_invoker_names_read
 invoker_names_read_keep names except env = invoker_keeps (names_read names except) (names_outline names except) env
 
+behind_keep : (change : List Caller → List Caller) → ((cs : List Caller) → map caller_outline (change cs) ≡ map caller_outline cs) → (cs : List Caller) → map caller_outline (behind_first change cs) ≡ map caller_outline cs
+behind_keep change h [] = refl
+behind_keep change h (c ∷ cs) = ap (λ (xs : List Caller). caller_outline c ∷ xs) (h cs)
+
+pub outer_invoker_read_keeps : (env : Environment) → surroundings (after_outer_invoker_read env) ≡ surroundings env
+unfolding after_outer_invoker_read
+outer_invoker_read_keeps env =
+    let change : List Caller → List Caller = with_caller (in_block all_read) in
+    with_callers (behind_first change env.callers) env (behind_keep change (callers_keep (in_block all_read) (block_outline all_read (λ l. refl))) env.callers)
+
 -- Forwarding
 
 origin_read_keeps : (origin : Origin) (name : List ℕ) (env : Environment) → surroundings (origin_read origin name env) ≡ surroundings env
 origin_read_keeps (from_entries entries) name env = refl
-origin_read_keeps from_invoker name env = caller_read_keeps name env
+origin_read_keeps (from_invoker outer) name env = caller_read_keeps name env
 
 given_if_keeps : (name : List ℕ) (o : Option Val) (env : Environment) → surroundings (given_if name o env) ≡ surroundings env
 given_if_keeps name None env = refl
@@ -90,7 +101,7 @@ entries_given_keep except (e ∷ es) env =
 pub all_forwarded_keep : (origin : Origin) (except : List (List ℕ)) (env : Environment) → surroundings (all_forwarded origin except env) ≡ surroundings env
 unfolding all_forwarded
 all_forwarded_keep (from_entries entries) except env = entries_given_keep (target_name ∷ except) entries env
-all_forwarded_keep from_invoker except env =
+all_forwarded_keep (from_invoker outer) except env =
     entries_given_keep (target_name ∷ except) (invoker_entries env) (after_invoker_read env) ∙ invoker_read_keeps env
 
 -- Imports
@@ -116,14 +127,14 @@ unfolding merged
 merged_keeps value env =
     merged_unless_keeps (conflict_in value (knowing value env) env.chain.inner) env (with_import value (knowing value env)) (import_keeps value (knowing value env) ∙ known_keeps value env)
 
--- The blocks of items
+-- The blocks that say what may be called in them
 
-pub in_item_ends : (env after : Environment) → surroundings after ≡ surroundings (in_item true env) → env.setting.in_item ≡ false → surroundings (in_item false after) ≡ surroundings env
+pub block_ends : (block around : OpenBlock) (env after : Environment) → surroundings after ≡ surroundings (with_open block env) → env.setting.inside ≡ around → surroundings (with_open around after) ≡ surroundings env
 unfolding surroundings
-in_item_ends env after h e =
-    ap (λ (s : Environment). in_item false s) h
-    ∙ ap (λ (b : Bool). record (surroundings env) { setting = record env.setting { in_item = b } }) (sym e)
+block_ends block around env after h e =
+    ap (λ (s : Environment). with_open around s) h
+    ∙ ap (λ (b : OpenBlock). record (surroundings env) { setting = record env.setting { inside = b } }) (sym e)
 
-pub same_item : (env after : Environment) → surroundings after ≡ surroundings env → after.setting.in_item ≡ env.setting.in_item
+pub same_open : (env after : Environment) → surroundings after ≡ surroundings env → after.setting.inside ≡ env.setting.inside
 unfolding surroundings
-same_item env after h = ap (λ (s : Environment). s.setting.in_item) h
+same_open env after h = ap (λ (s : Environment). s.setting.inside) h

@@ -13,6 +13,9 @@ use Rattle.gn_values.specs.Imported.{ScopeState, DefinitionState, MadeBy}
 use Rattle.gn_values.specs.ImportedCode.{name_code, scope_code, definition_code, made_code}
 use Rattle.gn_values.specs.declared.kept.DefinitionName.{DefinitionName}
 use Rattle.gn_environment.specs.Layers.{VariableState, LayerState, ChainState}
+use Rattle.gn_environment.specs.declared.context.Context.{Context}
+use Rattle.gn_environment.specs.declared.context.OpenBlock.{OpenBlock}
+use Rattle.gn_environment.specs.declared.context.OpenBlock.TheVariants as block
 use Rattle.gn_environment.specs.Environment.{Setting, Caller, Environment}
 
 abbrev pub text_code : Coded (List ℕ)
@@ -77,9 +80,37 @@ kind_back Import = refl
 abbrev pub kind_code : Coded FileKind
 kind_code = code_by ℕ coded_ℕ kind_index kind_at kind_back
 
+abbrev open_index : OpenBlock → ℕ
+open_index block.Nothing = 0
+open_index block.Item = 1
+open_index block.Toolchain = 2
+open_index block.Tool = 3
+open_index block.Arguments = 4
+
+abbrev open_at : ℕ → OpenBlock
+open_at zero = block.Nothing
+open_at (suc zero) = block.Item
+open_at (suc (suc zero)) = block.Toolchain
+open_at (suc (suc (suc zero))) = block.Tool
+open_at (suc (suc (suc (suc n)))) = block.Arguments
+
+pub open_back : (b : OpenBlock) → open_at (open_index b) ≡ b
+open_back block.Nothing = refl
+open_back block.Item = refl
+open_back block.Toolchain = refl
+open_back block.Tool = refl
+open_back block.Arguments = refl
+
+abbrev pub open_code : Coded OpenBlock
+open_code = code_by ℕ coded_ℕ open_index open_at open_back
+
+abbrev pub context_code : Coded Context
+context_code =
+    code_by ((Stage × FileKind) × (List ℕ × (List ℕ × List ℕ))) (coded× (coded× stage_code kind_code) (coded× text_code (coded× text_code text_code))) (λ c. ((c.stage, c.kind), (c.toolchain, (c.fault_toolchain, c.default_toolchain)))) (λ p. record { stage = p.0.0; kind = p.0.1; toolchain = p.1.0; fault_toolchain = p.1.1.0; default_toolchain = p.1.1.1 }) (λ _. refl)
+
 abbrev pub setting_code : Coded Setting
 setting_code =
-    code_by ((Stage × (FileKind × Bool)) × (List ℕ × (List ℕ × List ℕ))) (coded× (coded× stage_code (coded× kind_code coded_bool)) (coded× text_code (coded× text_code text_code))) (λ s. ((s.stage, (s.kind, s.in_item)), (s.toolchain, (s.file, s.directory)))) (λ p. record { stage = p.0.0; toolchain = p.1.0; file = p.1.1.0; directory = p.1.1.1; kind = p.0.1.0; in_item = p.0.1.1 }) (λ _. refl)
+    code_by ((Context × OpenBlock) × (List ℕ × List ℕ)) (coded× (coded× context_code open_code) (coded× text_code text_code)) (λ s. ((s.context, s.inside), (s.file, s.directory))) (λ p. record { context = p.0.0; file = p.1.0; directory = p.1.1; inside = p.0.1 }) (λ _. refl)
 
 abbrev pub caller_code : Coded Caller
 caller_code =

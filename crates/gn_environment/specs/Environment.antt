@@ -3,25 +3,22 @@
 use Rattle.std.specs.Prelude.{ℕ, Bool, List, [], ◌∷◌, ◌++◌, Option, Some, None, Result, Ok, Err}
 use Rattle.gn_tree.specs.declared.position.Position.{Position}
 use Rattle.gn_tree.specs.declared.operator.AssignOp.{AssignOp}
-use Rattle.gn_faults.specs.declared.stage.Stage.{Stage}
-use Rattle.gn_faults.specs.declared.file_kind.FileKind.{FileKind}
 use Rattle.gn_values.specs.Val.{Val}
 use Rattle.gn_values.specs.Tables.{Table, at_name}
 use Rattle.gn_values.specs.Imported.{ScopeState, DefinitionState, MadeBy}
+use Rattle.gn_environment.specs.declared.context.Context.{Context}
+use Rattle.gn_environment.specs.declared.context.OpenBlock.{OpenBlock}
 use Rattle.gn_environment.specs.Layers.{VariableState, ChainState, empty_layer, values_in}
 use Rattle.gn_environment.specs.Chains.{variable_in, set_in, nearest, chain_value, chain_read, chain_entered, chain_left}
 use Rattle.gn_environment.specs.Assigning.{Refusal, assigned, ElementRefusal, element_changed}
 use Rattle.gn_environment.specs.Unread.{reported}
 
--- where an evaluation takes place: the stage and the toolchain that its faults have, the file that its places name, the current directory, as what
--- the file is evaluated, and whether the block of an item is open
+-- where an evaluation takes place: what never changes, the file that its places name, the current directory, and the block that is open
 pub record Setting : Type 0 where
-  pub stage : Stage
-  pub toolchain : List ℕ
+  pub context : Context
   pub file : List ℕ
   pub directory : List ℕ
-  pub kind : FileKind
-  pub in_item : Bool
+  pub inside : OpenBlock
 
 -- who called the template whose body runs: the layers there, of which the innermost is the scope of the call's block, the definition whose body runs
 -- in these layers, if it is one, and the file
@@ -47,9 +44,9 @@ pub record Environment : Type 0 where
   -- the depth of the evaluation: the sum over the template calls that are open
   pub depth : ℕ
 
--- an environment of one scope, in which nothing is set
-unfoldable pub new_environment : Setting → List ℕ → Bool → List ScopeState → Environment
-new_environment setting execution checked beneath = record {
+-- an environment of one scope, in which nothing is set. What stands beneath it comes with its definitions
+unfoldable pub new_environment : Setting → List ℕ → Bool → List ScopeState → MadeBy → Environment
+new_environment setting execution checked beneath definitions = record {
   setting = setting;
   chain = record { inner = empty_layer checked; outer = [] };
   body = None;
@@ -57,7 +54,7 @@ new_environment setting execution checked beneath = record {
   beneath = beneath;
   execution = execution;
   made = [];
-  definitions = [];
+  definitions = definitions;
   depth = 0;
 }
 
@@ -134,6 +131,6 @@ restored name variable env = record env { chain = record env.chain { inner = set
 unfoldable pub given : List ℕ → Val → Environment → Environment
 given name value env = restored name (Some (record { value = value; unread = None })) env
 
--- the block of an item opens or ends
-abbrev pub in_item : Bool → Environment → Environment
-in_item inside env = record env { setting = record env.setting { in_item = inside } }
+-- a block opens, or one ends and this one stands around it
+abbrev pub with_open : OpenBlock → Environment → Environment
+with_open block env = record env { setting = record env.setting { inside = block } }

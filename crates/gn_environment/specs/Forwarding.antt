@@ -8,20 +8,20 @@ use Rattle.gn_environment.specs.Environment.{Environment, given}
 use Rattle.gn_environment.specs.Templates.{in_block}
 use Rattle.gn_environment.specs.Invoker.{is_invoker_here, invoker_entries, caller_value, after_caller_read, after_invoker_read}
 
--- from where variables are forwarded: the entries of a scope, or the invoker
+-- from where variables are forwarded: the entries of a scope, or the invoker, where the invoker around the call has this value, if it is looked for
 pub data Origin : Type 0 where
   from_entries : Table Val → Origin
-  from_invoker : Origin
+  from_invoker : Option Val → Origin
 
 -- what it has at a name: for the invoker also what stands around the block of the call
 abbrev pub origin_value : Origin → Environment → List ℕ → Option Val
 origin_value (from_entries entries) env name = at_name name entries
-origin_value from_invoker env name = caller_value name env
+origin_value (from_invoker outer) env name = caller_value name outer env
 
 -- a read of a name there; a scope that is a value has no unread names
 abbrev pub origin_read : Origin → List ℕ → Environment → Environment
 origin_read (from_entries entries) name env = env
-origin_read from_invoker name env = after_caller_read name env
+origin_read (from_invoker outer) name env = after_caller_read name env
 
 -- the listed names that are there, but for the excepted ones
 abbrev pub forwarded_names : Origin → List (List ℕ) → List (List ℕ) → Environment → List (List ℕ)
@@ -62,7 +62,7 @@ target_name = codes "target_name"
 -- with `"*"`: all that stands directly there but `target_name`; all names there count as read, the excepted ones too
 unfoldable pub all_forwarded : Origin → List (List ℕ) → Environment → Environment
 all_forwarded (from_entries entries) except env = entries_given (target_name ∷ except) entries env
-all_forwarded from_invoker except env = entries_given (target_name ∷ except) (invoker_entries env) (after_invoker_read env)
+all_forwarded (from_invoker outer) except env = entries_given (target_name ∷ except) (invoker_entries env) (after_invoker_read env)
 
 -- `not_needed` with a list of names, and with `"*"`: those of the innermost scope count as read
 unfoldable pub after_names_read_here : List (List ℕ) → List (List ℕ) → Environment → Environment

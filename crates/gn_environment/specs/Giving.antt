@@ -35,7 +35,7 @@ entries_at value (n ∷ ns) = found_before n (value n) (entries_at value ns)
 -- what stands directly there from where names are forwarded
 abbrev pub origin_entries : Origin → List Caller → Table Val
 origin_entries (from_entries entries) callers = entries
-origin_entries from_invoker callers = entries_by callers
+origin_entries (from_invoker outer) callers = entries_by callers
 
 -- callers after a read of each of these names where the innermost one called
 abbrev pub read_at : List (List ℕ) → List Caller → List Caller
@@ -45,9 +45,9 @@ read_at (n ∷ ns) callers = read_at ns (with_caller (chain_read n) callers)
 -- callers after a read of each of these names there from where they are forwarded; a scope that is a value has no unread names
 abbrev pub read_at_origin : Origin → List (List ℕ) → List Caller → List Caller
 read_at_origin (from_entries entries) names callers = callers
-read_at_origin from_invoker names callers = read_at names callers
+read_at_origin (from_invoker outer) names callers = read_at names callers
 
 -- callers after a read of all that stands directly there
 abbrev pub read_all_at : Origin → List Caller → List Caller
 read_all_at (from_entries entries) callers = callers
-read_all_at from_invoker callers = with_caller (in_block all_read) callers
+read_all_at (from_invoker outer) callers = with_caller (in_block all_read) callers

@@ -1,10 +1,10 @@
 -- The invoker: inside a template's body, the scope of the block of its call, by the name `invoker`.
-use Rattle.std.specs.Prelude.{ℕ, Bool, true, false, ◌&&◌, not, List, [], ◌∷◌, Option, None, option_map, is_some, codes}
+use Rattle.std.specs.Prelude.{ℕ, Bool, true, false, ◌&&◌, not, if◌then◌else◌, List, [], ◌∷◌, Option, None, option_map, is_some, codes}
 use Rattle.std.specs.Str.{bytes_eq}
 use Rattle.gn_values.specs.Val.{Val}
 use Rattle.gn_values.specs.Tables.{Table}
 use Rattle.gn_environment.specs.Layers.{LayerState, ChainState, values_in}
-use Rattle.gn_environment.specs.Chains.{variable_in, nearest, read_in, all_read, all_read_but, names_read, chain_value, chain_read}
+use Rattle.gn_environment.specs.Chains.{variable_in, nearest, is_one_of, read_in, all_read, all_read_but, names_read, chain_value, chain_read}
 use Rattle.gn_environment.specs.Environment.{Caller, Environment, fixed_value, kept_by}
 use Rattle.gn_environment.specs.Templates.{with_caller, in_block}
 
@@ -48,8 +48,6 @@ entry_by name (c ∷ cs) = option_map (λ v. v.value) (variable_in name c.chain.
 unfoldable pub invoker_entry : List ℕ → Environment → Option Val
 invoker_entry name env = entry_by name env.callers
 
--- the environment with the innermost caller's layers changed
-
 -- a read of one of its names
 unfoldable pub after_invoker_entry_read : List ℕ → Environment → Environment
 after_invoker_entry_read name env = record env { callers = with_caller (in_block (read_in name)) env.callers }
@@ -66,13 +64,50 @@ after_invoker_read_but except env = record env { callers = with_caller (in_block
 unfoldable pub after_invoker_names_read : List (List ℕ) → List (List ℕ) → Environment → Environment
 after_invoker_names_read names except env = record env { callers = with_caller (in_block (names_read names except)) env.callers }
 
--- what a name is worth where the template was called: in the call's block, then outwards, then in what the body keeps in which the call stands
-abbrev pub value_by : List ℕ → List Caller → Option Val
-value_by name [] = None
-value_by name (c ∷ cs) = nearest (chain_value name c.chain) (fixed_value name (kept_by c.body))
+-- The invoker around the call: where the template was called in the body of another one, the invoker of that body, which is a name of its scope
 
-unfoldable pub caller_value : List ℕ → Environment → Option Val
-caller_value name env = value_by name env.callers
+-- the callers behind the innermost one
+abbrev pub callers_behind : List Caller → List Caller
+callers_behind [] = []
+callers_behind (c ∷ cs) = cs
+
+-- the callers behind the innermost one, changed
+abbrev pub behind_first : (List Caller → List Caller) → List Caller → List Caller
+behind_first change [] = []
+behind_first change (c ∷ cs) = c ∷ change cs
+
+-- whether a name that is the invoker stands around the call: the template was called in a body, and no layer there has the name
+abbrev pub has_outer_invoker : List ℕ → List Caller → Bool
+has_outer_invoker name [] = false
+has_outer_invoker name (c ∷ cs) = is_called cs && not (is_some (chain_value name c.chain))
+
+-- whether it is among these names, and isn't excepted
+unfoldable pub forwards_outer_invoker : List (List ℕ) → List (List ℕ) → Environment → Bool
+forwards_outer_invoker names except env =
+    is_one_of invoker_name names && (not (is_one_of invoker_name except) && has_outer_invoker invoker_name env.callers)
+
+-- the names that stand directly in it, with their values
+unfoldable pub outer_invoker_entries : Environment → Table Val
+outer_invoker_entries env = entries_by (callers_behind env.callers)
+
+-- a read of all its names
+unfoldable pub after_outer_invoker_read : Environment → Environment
+after_outer_invoker_read env = record env { callers = behind_first (with_caller (in_block all_read)) env.callers }
+
+-- what it is worth at a name, where it is looked for and has this value
+abbrev pub value_if_invoker : List ℕ → Option Val → Option Val
+value_if_invoker name outer = if bytes_eq name invoker_name then outer else None
+
+-- Names where the template was called
+
+-- what a name is worth there: in the call's block, then outwards, then as the invoker around the call, then in what the body keeps in which the
+-- call stands
+abbrev pub value_by : List ℕ → Option Val → List Caller → Option Val
+value_by name outer [] = None
+value_by name outer (c ∷ cs) = nearest (chain_value name c.chain) (nearest (value_if_invoker name outer) (fixed_value name (kept_by c.body)))
+
+unfoldable pub caller_value : List ℕ → Option Val → Environment → Option Val
+caller_value name outer env = value_by name outer env.callers
 
 -- the environment after a read of the name there
 unfoldable pub after_caller_read : List ℕ → Environment → Environment

@@ -2,10 +2,12 @@
 //! and laws alone.
 #![tactic(auto)]
 
+mod context;
 mod laws;
 mod name_laws;
 mod surrounding_laws;
 
+pub use context::{Context, OpenBlock};
 pub use laws::{
     bodies_end_where_they_began, given_names_are_found, reads_keep_values,
     scopes_end_where_they_began,

@@ -87,18 +87,18 @@ impl NamedScopes {
     }
 
     /// The value of a name. None comes exactly where no layer has it. It takes no memory.
-    pub fn value(&self, name: &Text) -> Option<&Value>
+    pub fn value(&self, name: &[u8]) -> Option<&Value>
         ensures { option_map (λ v. val_of v.now) result ≡ chain_value name.now self.now }
     {
-        let number = self.names.number(name.as_bytes())?;
+        let number = self.names.number(name)?;
         self.scopes.value(&Key::new(number))
     }
 
     /// A read of a name that the layers may have. It takes no memory.
-    pub fn mark(&mut self, name: &Text)
+    pub fn mark(&mut self, name: &[u8])
         ensures { self.new ≡ chain_read name.now self.old }
     {
-        if let Some(number) = self.names.number(name.as_bytes()) {
+        if let Some(number) = self.names.number(name) {
             let _found = self.scopes.mark(&Key::new(number));
         }
     }

@@ -1,18 +1,15 @@
-use Rattle.std.proofs.Common.{List, ℕ, Some, option_map, sym, ap, ◌∙◌}
+use Rattle.std.proofs.Common.{List, ℕ, option_map, sym, ap, ◌∙◌}
 use Rattle.gn_environment.specs.Chains.{chain_value}
 use Rattle.gn_scopes.proofs.NamedLayers.{chain_value_named, chain_value_lacking}
-use Rattle.gn_scopes.proofs.Interned.{lacking_as}
 use Rattle.gn_scopes.proofs.named_scopes.NamedScopes.value.Goals as goal
 
 pub returns-in_err-number : goal.returns-in_err-number
 returns-in_err-number c =
     let a = c.self.inside in
-    let lacking = lacking_as a.names _ _ c.as_bytes.ensures c.in_err-number.ensures.lacking in
-    ap (option_map _) c.from_residual.ensures ∙ sym (chain_value_lacking a.names c.args.name.now lacking a.scopes c.self.invariant) ∙ ap (chain_value c.args.name.now) c.self.view_is
+    ap (option_map _) c.from_residual.ensures ∙ sym (chain_value_lacking a.names c.args.name.now c.in_err-number.ensures.lacking a.scopes c.self.invariant) ∙ ap (chain_value c.args.name.now) c.self.view_is
 
 pub returns : goal.returns
 returns c =
     let a = c.self.inside in
-    let found = c.in_ok-number.ensures.found ∙ ap Some c.as_bytes.ensures in
     c.value.ensures ∙ ap (λ (k : List ℕ). chain_value k a.scopes) c.new.ensures
-    ∙ sym (chain_value_named a.names c.self.invariant.different c.args.name.now c.in_ok-number.number found a.scopes c.self.invariant) ∙ ap (chain_value c.args.name.now) c.self.view_is
+    ∙ sym (chain_value_named a.names c.self.invariant.different c.args.name.now c.in_ok-number.number c.in_ok-number.ensures.found a.scopes c.self.invariant) ∙ ap (chain_value c.args.name.now) c.self.view_is
