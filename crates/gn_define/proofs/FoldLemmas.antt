@@ -14,11 +14,11 @@ use Rattle.gn_rows.specs.declared.row.Rule.TheVariants.{Required, Excluded, AtMo
 use Rattle.gn_rows.specs.declared.variable.Variable.{Variable}
 use Rattle.gn_rows.specs.declared.variable.Variable.TheVariants.{Sources}
 use Rattle.gn_rows.specs.Names.{name_of}
-use Rattle.gn_rows.specs.Tables.{rows_of, demands_of}
+use Rattle.gn_rows.specs.Tables.{demands_of}
 use Rattle.gn_define.specs.declared.fault.ItemFault.{ItemFault}
 use Rattle.gn_define.specs.declared.place.Where.{Where}
 use Rattle.gn_define.specs.Checking.{checked}
-use Rattle.gn_define.specs.Defining.{name_fault, complete, defined}
+use Rattle.gn_define.specs.Defining.{name_fault, complete, block_defines}
 use Rattle.gn_define.specs.Demands.{size_of, broken, broken_or, first_broken}
 use Rattle.gn_define.specs.Fields.{filled, with_field, with_checked, paths_of, field_at}
 use Rattle.gn_define.specs.Held.{Held}
@@ -72,10 +72,10 @@ further w values made (row ∷ rows) fields h = by (λ more g. further w values 
     by later (Some v) e g = subst Here (sym e) (checked_as later v e (checked w sources row.row_type v) refl g)
 
 -- where an item is defined, its fields are those that are filled, and all demands are met
-as_defined : (w : Where) (name : List ℕ) (values : List ℕ → Option Val) (fields : List (Variable × Held)) → defined w name values ≡ Ok fields
-    → (filled w values [] (rows_of w.kind) ≡ Ok fields) × (first_broken fields (demands_of w.kind name) ≡ None)
-unfolding defined
-as_defined w name values fields h = by (name_fault w.kind name) (filled w values [] (rows_of w.kind)) h
+as_defined : (w : Where) (rows : List Row) (name : List ℕ) (values : List ℕ → Option Val) (fields : List (Variable × Held)) → block_defines w rows name values ≡ Ok fields
+    → (filled w values [] rows ≡ Ok fields) × (first_broken fields (demands_of w.kind name) ≡ None)
+unfolding block_defines
+as_defined w rows name values fields h = by (name_fault w.kind name) (filled w values [] rows) h
   where
     whole : List (Variable × Held) → Result (List (Variable × Held)) ItemFault
     whole made = Ok made
@@ -95,11 +95,11 @@ as_defined w name values fields h = by (name_fault w.kind name) (filled w values
     by None (Err fault) g = absurd cc
     by (Some fault) r g = absurd cc
 
-pub fields_are : (w : Where) (name : List ℕ) (values : List ℕ → Option Val) (fields : List (Variable × Held)) → defined w name values ≡ Ok fields
-    → AreFieldsOf w values [] fields (filter (is_set values) (rows_of w.kind))
-fields_are w name values fields h =
-    let more = further w values [] (rows_of w.kind) fields (as_defined w name values fields h).0 in
-    subst (λ fs. AreFieldsOf w values [] fs (filter (is_set values) (rows_of w.kind))) (sym more.1) more.2
+pub fields_are : (w : Where) (rows : List Row) (name : List ℕ) (values : List ℕ → Option Val) (fields : List (Variable × Held)) → block_defines w rows name values ≡ Ok fields
+    → AreFieldsOf w values [] fields (filter (is_set values) rows)
+fields_are w rows name values fields h =
+    let more = further w values [] rows fields (as_defined w rows name values fields h).0 in
+    subst (λ fs. AreFieldsOf w values [] fs (filter (is_set values) rows)) (sym more.1) more.2
 
 -- demands that aren't broken are met
 none_broken : (fields : List (Variable × Held)) (demands : List Demand) → first_broken fields demands ≡ None → AreMet fields demands
@@ -130,6 +130,6 @@ none_broken fields (d ∷ ds) h = by (λ g. none_broken fields ds g) d.rule (fie
     by later Excluded field g = let p = not_broken later (broken Excluded field) g in (excluded field p.0, p.1)
     by later AtMostOne field g = let p = not_broken later (broken AtMostOne field) g in (at_most_one (size_of field) (nat_lt 1 (size_of field)) refl p.0, p.1)
 
-pub demands_are_met : (w : Where) (name : List ℕ) (values : List ℕ → Option Val) (fields : List (Variable × Held)) → defined w name values ≡ Ok fields
+pub demands_are_met : (w : Where) (rows : List Row) (name : List ℕ) (values : List ℕ → Option Val) (fields : List (Variable × Held)) → block_defines w rows name values ≡ Ok fields
     → AreMet fields (demands_of w.kind name)
-demands_are_met w name values fields h = none_broken fields (demands_of w.kind name) (as_defined w name values fields h).1
+demands_are_met w rows name values fields h = none_broken fields (demands_of w.kind name) (as_defined w rows name values fields h).1

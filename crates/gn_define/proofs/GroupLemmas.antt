@@ -7,7 +7,8 @@ use Rattle.gn_faults.specs.declared.code.Code.TheVariants.{WrongType}
 use Rattle.gn_rows.specs.declared.row.Row.{Row}
 use Rattle.gn_rows.specs.declared.row.Content.TheVariants.{Text}
 use Rattle.gn_rows.specs.declared.row.RowType.TheVariants.{Many}
-use Rattle.gn_rows.specs.Tables.{built_group_rows}
+use Rattle.gn_rows.specs.declared.kinds.ItemKind.TheVariants.{Group}
+use Rattle.gn_rows.specs.Tables.{built_rows_of}
 use Rattle.gn_rows.specs.declared.variable.Variable.{Variable}
 use Rattle.gn_rows.specs.declared.variable.Variable.TheVariants.{Deps}
 use Rattle.gn_rows.specs.Names.{name_of}
@@ -30,7 +31,7 @@ texts_are w made (v ∷ vs) = texts_are w (made ++ bytes_of v ∷ []) vs ∙ ap 
 deps_row : Row
 deps_row = record { variable = Deps; row_type = Many Text }
 
-pub built_group_is : (w : Where) (values : List ℕ → Option Val) → filled w values [] built_group_rows ≡ built_group (values (name_of Deps))
+pub built_group_is : (w : Where) (values : List ℕ → Option Val) → filled w values [] (built_rows_of Group) ≡ built_group (values (name_of Deps))
 unfolding checked deps_row
 built_group_is w values = by (values (name_of Deps))
   where

@@ -1,11 +1,12 @@
--- What a block defines: its name is judged first, then its rows in their order, then what its kind demands.
+-- What a block defines by rows: its name is judged first, then the rows in their order, then what its kind demands.
 use Rattle.std.specs.Prelude.{ℕ, List, [], Option, None, Some, Result, Ok, is_some, if◌then◌else◌}
 use Rattle.gn_labels.specs.Names.{is_name}
 use Rattle.gn_rows.specs.declared.kinds.ItemKind.{ItemKind}
 use Rattle.gn_rows.specs.declared.kinds.ItemKind.TheVariants.{Tool}
+use Rattle.gn_rows.specs.declared.row.Row.{Row}
 use Rattle.gn_rows.specs.declared.variable.Variable.{Variable}
 use Rattle.gn_rows.specs.Names.{tool_named}
-use Rattle.gn_rows.specs.Tables.{rows_of, demands_of}
+use Rattle.gn_rows.specs.Tables.{demands_of}
 use Rattle.gn_values.specs.Val.{Val}
 use Rattle.gn_define.specs.declared.fault.ItemFault.{ItemFault}
 use Rattle.gn_define.specs.declared.fault.ItemFault.TheVariants.{BadName, UnknownTool}
@@ -30,7 +31,7 @@ name_fault _ name = label_fault name
 abbrev pub complete : ItemKind → List ℕ → List (Variable × Held) → Result (List (Variable × Held)) ItemFault
 complete kind name made = unless (first_broken made (demands_of kind name)) (Ok made)
 
--- the fields of the item of a name that a block with these values defines, or its first fault
-unfoldable pub defined : Where → List ℕ → (List ℕ → Option Val) → Result (List (Variable × Held)) ItemFault
-defined w name values =
-    unless (name_fault w.kind name) (then_do (complete w.kind name) (filled w values [] (rows_of w.kind)))
+-- the fields of the item of a name that a block with these values defines by these rows, or its first fault
+unfoldable pub block_defines : Where → List Row → List ℕ → (List ℕ → Option Val) → Result (List (Variable × Held)) ItemFault
+block_defines w rows name values =
+    unless (name_fault w.kind name) (then_do (complete w.kind name) (filled w values [] rows))

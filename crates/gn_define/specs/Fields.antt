@@ -63,11 +63,6 @@ abbrev pub scope_of : Option Held → Option Val
 scope_of (Some (scope v)) = Some v
 scope_of _ = None
 
--- a block whose names of these rows are counted as read, one after the other
-abbrev pub all_marked : {B : Type 0} → (B → List ℕ → B) → B → List Row → B
-all_marked mark block [] = block
-all_marked mark block (row ∷ rows) = all_marked mark (mark block (name_of row.variable)) rows
-
 -- a variable and what its value gives, behind those that are made
 abbrev pub with_checked : Variable → Result Held Code → List (Variable × Held) → Result (List (Variable × Held)) ItemFault
 with_checked variable (Ok field) made = Ok (made ++ (variable, field) ∷ [])

@@ -6,16 +6,9 @@ ghost use Rattle.gn_values.specs.View.{val_of};
 
 use gn_values::Value;
 
-/// A block that has ended: it gives names values, and knows which names are read.
+/// A block that has ended: it gives names values.
 pub trait Block {
     ghost values: { Self → List ℕ → Option Val };
-
-    ghost marked: { Self → List ℕ → Self };
-
-    /// Counts a name as read, which changes no value.
-    fn mark(&mut self, name: &[u8])
-        ensures values { values self.new ≡ values self.old }
-        ensures marked { self.new ≡ marked self.old name.now };
 
     /// The value of a name; None exactly where the block gives it none.
     fn value(&self, name: &[u8]) -> Option<&Value>

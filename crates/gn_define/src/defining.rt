@@ -1,10 +1,9 @@
 // What a block defines.
 
-ghost use Rattle.std.specs.Prelude.{◌≡◌, Ok, Err, IfOk, IfErr, OnOk, MatchResult};
-ghost use Rattle.gn_rows.specs.Tables.{rows_of};
+ghost use Rattle.std.specs.Prelude.{◌≡◌, Ok, Err, IfOk, IfErr, MatchResult};
 ghost use Rattle.gn_define.specs.Faults.{IsItemFault};
-ghost use Rattle.gn_define.specs.Fields.{entries_of, all_marked};
-ghost use Rattle.gn_define.specs.Defining.{tool_fault, label_fault, name_fault, complete, defined};
+ghost use Rattle.gn_define.specs.Fields.{entries_of};
+ghost use Rattle.gn_define.specs.Defining.{tool_fault, label_fault, name_fault, complete, block_defines};
 
 use crate::block::Block;
 use crate::demands::first_broken;
@@ -13,7 +12,7 @@ use crate::fields::Fields;
 use crate::filling::fill;
 use crate::place::Where;
 use gn_labels::is_name;
-use gn_rows::{ItemKind, ToolName, demands_of, rows_of};
+use gn_rows::{ItemKind, Row, ToolName, demands_of};
 use std::alloc::Global;
 
 fn tool_fault(name: &[u8]) -> Option<ItemFault>
@@ -58,25 +57,23 @@ fn complete(kind: ItemKind, name: &[u8], fields: Fields) -> Result<Fields, ItemF
     }
 }
 
-/// The fields of the item of this name whose block has ended, with the names of its kind's rows counted as read: its name is
-/// judged first, then each row in the order of the table, then what the kind demands. `Wrong` has the first fault, and comes
-/// exactly where there is one, but for want of memory.
-#[tactic(auto, unfolding(crate::specs::Defining::defined))]
+/// The fields of the item of this name whose block has ended, by these rows: its name is judged first, then each row in their
+/// order, then what the kind demands. `Wrong` has the first fault, and comes exactly where there is one, but for want of memory.
+#[tactic(auto, unfolding(crate::specs::Defining::block_defines))]
 pub fn define<B: Block>(
     alloc: Global,
     place: &Where,
+    rows: &[Row],
     name: &[u8],
-    block: &mut B,
+    block: &B,
 ) -> Result<Fields, DefineError>
-    ensures ok { IfOk result (λ r. defined place.now name.now (B.values block.old) ≡ Ok (entries_of r.entries.items)) }
-    ensures wrong { IfErr result (λ e. IsItemFault e (defined place.now name.now (B.values block.old))) }
-    ensures asked { OnOk result (block.new ≡ all_marked B.marked block.old (rows_of place.now.kind)) }
-    ensures values { B.values block.new ≡ B.values block.old }
+    ensures ok { IfOk result (λ r. block_defines place.now rows.now name.now (B.values block.now) ≡ Ok (entries_of r.entries.items)) }
+    ensures wrong { IfErr result (λ e. IsItemFault e (block_defines place.now rows.now name.now (B.values block.now))) }
 {
     if let Some(fault) = name_fault(place.kind, name) {
         return Err(DefineError::Wrong(fault));
     }
-    let fields = fill(alloc, place, rows_of(place.kind), block)?;
+    let fields = fill(alloc, place, rows, block)?;
     match complete(place.kind, name, fields) {
         Ok(fields) => Ok(fields),
         Err(fault) => Err(DefineError::Wrong(fault)),

@@ -1,10 +1,10 @@
 // The fold over the rows of an item.
 
-ghost use Rattle.std.specs.Prelude.{◌≡◌, [], Ok, Err, IfOk, IfErr, OnOk, option_map};
+ghost use Rattle.std.specs.Prelude.{◌≡◌, [], Ok, IfOk, IfErr, OnOk, option_map};
 ghost use Rattle.gn_values.specs.View.{val_of};
 ghost use Rattle.gn_rows.specs.Names.{name_of};
 ghost use Rattle.gn_define.specs.Faults.{IsItemFault, IsFieldFault, of_variable};
-ghost use Rattle.gn_define.specs.Fields.{entries_of, all_marked, with_field, filled};
+ghost use Rattle.gn_define.specs.Fields.{entries_of, with_field, filled};
 
 use crate::block::Block;
 use crate::checking::checked;
@@ -48,39 +48,34 @@ fn of_variable(variable: Variable, error: ReadError) -> DefineError
     }
 }
 
-// One row: its name is counted as read, and its field put behind the others.
+// One row: its field is put behind the others.
 fn fill_row<B: Block>(
     alloc: Global,
     place: &Where,
     row: Row,
-    block: &mut B,
+    block: &B,
     entries: &mut Vec<Entry>,
 ) -> Result<(), DefineError>
-    ensures ok { OnOk result (with_field place.now row (B.values block.old (name_of row.variable)) (entries_of entries.old.items) ≡ Ok (entries_of entries.new.items)) }
-    ensures wrong { IfErr result (λ e. IsItemFault e (with_field place.now row (B.values block.old (name_of row.variable)) (entries_of entries.old.items))) }
-    ensures asked { block.new ≡ B.marked block.old (name_of row.variable) }
-    ensures values { B.values block.new ≡ B.values block.old }
+    ensures ok { OnOk result (with_field place.now row (B.values block.now (name_of row.variable)) (entries_of entries.old.items) ≡ Ok (entries_of entries.new.items)) }
+    ensures wrong { IfErr result (λ e. IsItemFault e (with_field place.now row (B.values block.now (name_of row.variable)) (entries_of entries.old.items))) }
 {
-    let name = row.variable.name();
-    block.mark(name);
-    match push_field(alloc, place, row, block.value(name), entries) {
+    let value = block.value(row.variable.name());
+    match push_field(alloc, place, row, value, entries) {
         Ok(()) => Ok(()),
         Err(error) => Err(of_variable(row.variable, error)),
     }
 }
 
-/// The fields of a block by these rows, in their order, with the names of the rows counted as read. `Wrong` has the fault of the
-/// first row that has one, and comes exactly where there is one, but for want of memory.
-pub fn fill<B: Block>(
+/// The fields of a block by these rows, in their order. `Wrong` has the fault of the first row that has one, and comes exactly
+/// where there is one, but for want of memory.
+pub(crate) fn fill<B: Block>(
     alloc: Global,
     place: &Where,
     rows: &[Row],
-    block: &mut B,
+    block: &B,
 ) -> Result<Fields, DefineError>
-    ensures ok { IfOk result (λ r. filled place.now (B.values block.old) [] rows.now ≡ Ok (entries_of r.entries.items)) }
-    ensures wrong { IfErr result (λ e. IsItemFault e (filled place.now (B.values block.old) [] rows.now)) }
-    ensures asked { OnOk result (block.new ≡ all_marked B.marked block.old rows.now) }
-    ensures values { B.values block.new ≡ B.values block.old }
+    ensures ok { IfOk result (λ r. filled place.now (B.values block.now) [] rows.now ≡ Ok (entries_of r.entries.items)) }
+    ensures wrong { IfErr result (λ e. IsItemFault e (filled place.now (B.values block.now) [] rows.now)) }
 {
     let mut entries = Vec::new(alloc);
     for row in rows {

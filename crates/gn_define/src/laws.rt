@@ -3,14 +3,14 @@
 ghost use Rattle.std.specs.Prelude.{◌≡◌, ℕ, List, [], ◌++◌, Option, Ok, codes};
 ghost use Rattle.std.specs.List.{filter};
 ghost use Rattle.gn_rows.specs.declared.row.Row.{Row};
-ghost use Rattle.gn_rows.specs.Tables.{built_group_rows};
+ghost use Rattle.gn_rows.specs.declared.kinds.ItemKind.TheVariants.{Group};
 ghost use Rattle.gn_rows.specs.declared.variable.Variable.{Variable};
-ghost use Rattle.gn_rows.specs.Tables.{rows_of, demands_of};
+ghost use Rattle.gn_rows.specs.Tables.{built_rows_of, demands_of};
 ghost use Rattle.gn_substs.specs.declared.subst.Subst.{Subst};
 ghost use Rattle.gn_values.specs.Val.{Val};
 ghost use Rattle.gn_define.specs.declared.forms.FileRole.TheVariants.{Output};
 ghost use Rattle.gn_define.specs.declared.place.Where.{Where};
-ghost use Rattle.gn_define.specs.Defining.{defined};
+ghost use Rattle.gn_define.specs.Defining.{block_defines};
 ghost use Rattle.gn_define.specs.Fields.{filled};
 ghost use Rattle.gn_define.specs.Files.{file_in};
 ghost use Rattle.gn_define.specs.Held.{Held};
@@ -23,17 +23,17 @@ pub fn first_rows_come_first()
     ensures { (w : Where) (values : List ℕ → Option Val) (made : List (Variable × Held)) (first others : List Row) → filled w values made (first ++ others) ≡ then_do (λ more. filled w values more others) (filled w values made first) }
 {}
 
-/// An item that is defined has a field for just those rows of its kind whose variable its block sets, in their order, and each field is
+/// An item that is defined has a field for just those of its rows whose variable its block sets, in their order, and each field is
 /// what the value of its variable is read as.
 #[tactic(auto, using(crate::proofs::FoldLemmas::fields_are))]
 pub fn fields_are_of_the_block()
-    ensures { (w : Where) (name : List ℕ) (values : List ℕ → Option Val) (fields : List (Variable × Held)) → defined w name values ≡ Ok fields → AreFieldsOf w values [] fields (filter (is_set values) (rows_of w.kind)) }
+    ensures { (w : Where) (rows : List Row) (name : List ℕ) (values : List ℕ → Option Val) (fields : List (Variable × Held)) → block_defines w rows name values ≡ Ok fields → AreFieldsOf w values [] fields (filter (is_set values) rows) }
 {}
 
 /// An item that is defined meets all that its kind demands.
 #[tactic(auto, using(crate::proofs::FoldLemmas::demands_are_met))]
 pub fn demands_are_met()
-    ensures { (w : Where) (name : List ℕ) (values : List ℕ → Option Val) (fields : List (Variable × Held)) → defined w name values ≡ Ok fields → AreMet fields (demands_of w.kind name) }
+    ensures { (w : Where) (rows : List Row) (name : List ℕ) (values : List ℕ → Option Val) (fields : List (Variable × Held)) → block_defines w rows name values ≡ Ok fields → AreMet fields (demands_of w.kind name) }
 {}
 
 /// A text that is taken as an output means, for each source, a path strictly below the build directory.
@@ -45,5 +45,5 @@ pub fn outputs_stand_below_the_build_directory()
 /// What is built of groups so far is `deps` alone: without a value, or a list of strings.
 #[tactic(auto, using(crate::proofs::GroupLemmas::built_group_is))]
 pub fn built_groups_are_their_deps()
-    ensures { (w : Where) (values : List ℕ → Option Val) → filled w values [] built_group_rows ≡ built_group (values (codes "deps")) }
+    ensures { (w : Where) (values : List ℕ → Option Val) → filled w values [] (built_rows_of Group) ≡ built_group (values (codes "deps")) }
 {}

@@ -1,4 +1,4 @@
-//! What the block of an item defines: a fold over the rows of its kind, each of which judges one variable.
+//! What the block of an item defines: a fold over rows, each of which judges one variable.
 #![tactic(auto)]
 
 mod block;
@@ -21,7 +21,6 @@ pub use defining::{define, name_fault};
 pub use fault::{DefineError, ItemFault};
 pub use field::Field;
 pub use fields::{Entry, Fields};
-pub use filling::fill;
 pub use laws::{
     built_groups_are_their_deps, demands_are_met, fields_are_of_the_block, first_rows_come_first,
     outputs_stand_below_the_build_directory,

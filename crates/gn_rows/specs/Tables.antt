@@ -18,9 +18,10 @@ rows_of kinds.Toolchain = TOOLCHAIN_ROWS
 rows_of kinds.Tool = TOOL_ROWS
 rows_of _ = TARGET_ROWS
 
--- the rows of a group as far as groups are built
-abbrev pub built_group_rows : List Row
-built_group_rows = BUILT_GROUP_ROWS
+-- the rows of a kind as far as it is built: nothing is built of any kind but groups
+abbrev pub built_rows_of : ItemKind → List Row
+built_rows_of kinds.Group = BUILT_GROUP_ROWS
+built_rows_of _ = []
 
 -- what a tool demands: `copy` and `stamp` have no outputs of their own
 abbrev pub tool_demands : Option ToolName → List Demand

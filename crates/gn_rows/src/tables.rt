@@ -1,7 +1,7 @@
 // Which rows and which demands a kind has.
 
 ghost use Rattle.std.specs.Prelude.{◌≡◌};
-ghost use Rattle.gn_rows.specs.Tables.{rows_of, built_group_rows, demands_of, tool_demands};
+ghost use Rattle.gn_rows.specs.Tables.{rows_of, built_rows_of, demands_of, tool_demands};
 
 use crate::kinds::{ItemKind, ToolName};
 use crate::others::{
@@ -26,11 +26,15 @@ pub fn rows_of(kind: ItemKind) -> &'static [Row]
     }
 }
 
-/// The rows of a group as far as groups are built: `deps` alone, a list of strings that aren't read as labels yet.
-pub fn built_group_rows() -> &'static [Row]
-    ensures { result.now ≡ built_group_rows }
+/// The rows of a kind as far as it is built: of a group `deps` alone, a list of strings that aren't read as labels yet. Of
+/// all other kinds nothing is built.
+pub fn built_rows_of(kind: ItemKind) -> &'static [Row]
+    ensures { result.now ≡ built_rows_of kind }
 {
-    &BUILT_GROUP_ROWS
+    match kind {
+        ItemKind::Group => &BUILT_GROUP_ROWS,
+        _ => &[],
+    }
 }
 
 /// What a kind demands of its variables, in the order in which it is judged. What a tool demands depends on its name.
