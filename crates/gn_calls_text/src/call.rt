@@ -13,7 +13,7 @@ use gn_values::Value;
 use std::alloc::Global;
 
 /// A built-in call on texts and lists.
-#[derive(Clone, Copy)]
+#[derive(Clone, Copy, Debug, PartialEq, Eq)]
 pub enum TextCall {
     /// `filter_include(list, patterns)`: the strings of the list that match one of the patterns.
     FilterInclude,

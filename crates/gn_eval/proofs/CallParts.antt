@@ -11,9 +11,9 @@ use Rattle.gn_values.specs.Val.{Val}
 use Rattle.gn_values.specs.Imported.{DefinitionState}
 use Rattle.gn_environment.specs.Templates.{template_of}
 use Rattle.gn_items.specs.Effects.{Effects}
-use Rattle.gn_runs.specs.Runs.{Answers, Run}
+use Rattle.gn_runs.specs.Runs.{Answers}
 use Rattle.gn_environment.specs.Environment.{Environment}
-use Rattle.gn_meaning.specs.Steps.{Left, Steps, World, deeper, then_do}
+use Rattle.gn_meaning.specs.Steps.{Steps, World, deeper, then_do}
 use Rattle.gn_meaning.specs.Words.{base_runs}
 use Rattle.gn_meaning.specs.Calls.{has_entry_runs, loop_runs}
 use Rattle.gn_meaning.specs.FunctionCalls.{given_runs, template_called_runs, built_in_runs, template_or_built_in, called_runs}

@@ -4,7 +4,7 @@ use Rattle.gn_tree.specs.declared.position.Position.{Position}
 use Rattle.gn_values.specs.Val.{Val, vstr, vlist, vscope, list_of}
 use Rattle.gn_faults.specs.declared.fault.Fault.{Fault}
 use Rattle.gn_items.specs.declared.item.Item.{Item}
-use Rattle.gn_items.specs.declared.item.ItemKind.{ItemKind}
+use Rattle.gn_rows.specs.declared.kinds.ItemKind.{ItemKind}
 use Rattle.gn_items.specs.Effects.{is_defined, with_item}
 use Rattle.gn_runs.specs.Runs.{Answers}
 use Rattle.gn_environment.specs.Environment.{Environment, value_of, given, reported_here}

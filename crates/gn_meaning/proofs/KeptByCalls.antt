@@ -27,7 +27,7 @@ use Rattle.gn_meaning.specs.declared.function.Named.TheVariants.{Function as OfF
 use Rattle.gn_meaning.proofs.Ends.{Ends, Leaves, Keep, ends_do, moved, keep_do, fails_so, so_if}
 use Rattle.gn_meaning.proofs.KeptBySteps.{plain_keeps}
 use Rattle.gn_meaning.proofs.KeptBySelections.{changed_keeps}
-use Rattle.gn_meaning.proofs.KeptByOpenings.{Before, BodiesKeep, not_in_item, opening_leaves}
+use Rattle.gn_meaning.proofs.KeptByOpenings.{Before, BodiesKeep, nothing_open, opening_leaves}
 
 -- what holds where a function is called: one that opens a scope begins it there
 abbrev pub IsReady : Environment → Function → Environment → Type 0
@@ -44,7 +44,7 @@ allowed_is_ready : (f : Function) (env : Environment) → allowed_here (rule_of 
 unfolding rule_of
 allowed_is_ready (Plain f) env h = refl
 allowed_is_ready (OfChanging f) env h = refl
-allowed_is_ready (Opening (ItemCall kind)) env h = (refl, not_in_item env h)
+allowed_is_ready (Opening (ItemCall kind)) env h = (refl, nothing_open env h)
 allowed_is_ready (Opening Target) env h = refl
 allowed_is_ready (Opening SetDefaults) env h = refl
 allowed_is_ready Defined env h = refl

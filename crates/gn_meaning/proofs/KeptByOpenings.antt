@@ -4,21 +4,27 @@ use Rattle.gn_tree.specs.declared.position.Position.{Position}
 use Rattle.gn_tree.specs.declared.tree.Call.{Call}
 use Rattle.gn_values.specs.Val.{Val, vstr}
 use Rattle.gn_values.specs.Imported.{DefinitionState}
-use Rattle.gn_labels.specs.Names.{is_name}
 use Rattle.gn_faults.specs.declared.fault.Fault.{Fault}
 use Rattle.gn_items.specs.declared.item.Item.{Item}
-use Rattle.gn_items.specs.declared.item.ItemKind.{ItemKind}
-use Rattle.gn_items.specs.declared.item.ItemKind.TheVariants.{Group}
+use Rattle.gn_rows.specs.declared.kinds.ItemKind.{ItemKind}
+use Rattle.gn_rows.specs.declared.row.Row.{Row}
+use Rattle.gn_rows.specs.declared.variable.Variable.{Variable}
+use Rattle.gn_rows.specs.Names.{name_of}
+use Rattle.gn_rows.specs.Tables.{built_rows_of}
+use Rattle.gn_define.specs.declared.fault.ItemFault.{ItemFault}
+use Rattle.gn_define.specs.Held.{Held}
 use Rattle.gn_items.specs.Effects.{Effects, is_defined, with_item}
-use Rattle.gn_environment.specs.Environment.{Environment, value_of, after_read, entered, left, reported_here, in_item}
+use Rattle.gn_environment.specs.declared.context.OpenBlock.{OpenBlock}
+use Rattle.gn_environment.specs.declared.context.OpenBlock.TheVariants as block
+use Rattle.gn_environment.specs.Environment.{Environment, after_read, entered, left, reported_here, with_open}
 use Rattle.gn_environment.specs.Templates.{template_of, block_begins, defaults_given, at_depth, body_begins, body_ends, reported_by_invoker}
 use Rattle.gn_environment.specs.Surroundings.{surroundings}
 use Rattle.gn_environment.proofs.Surroundings.{IsKept, read_keeps, left_keeps, defaults_given_keep, block_begins_so, defaults_set_keep, at_depth_keeps, depth_again, body_ends_keep}
-use Rattle.gn_environment.proofs.SurroundingsOfCalls.{in_item_ends, same_item}
+use Rattle.gn_environment.proofs.SurroundingsOfCalls.{block_ends, same_open}
 use Rattle.gn_meaning.specs.Steps.{Left, Steps, max_evaluation_depth}
-use Rattle.gn_meaning.specs.Items.{may_be_strings, item_here, deps_name, defined}
+use Rattle.gn_meaning.specs.Items.{fields_here, rows_read, item_made, defined}
 use Rattle.gn_meaning.specs.Calls.{item_runs, item_end_runs, defaults_taken, scope_begun_runs}
-use Rattle.gn_meaning.specs.Templates.{opened_depth, invoker_checked, template_end_runs, is_build_file, allows_items, defaults_end_runs}
+use Rattle.gn_meaning.specs.Templates.{opened_depth, invoker_checked, template_end_runs, is_build_file, is_inside, allows_items, defaults_end_runs}
 use Rattle.gn_meaning.specs.Functions.{target_kind_of}
 use Rattle.gn_meaning.specs.OpeningCalls.{Opener, of_template, of_function, Opened, opened_item, opened_template, opened_defaults, template_begun_runs, item_begun_runs, template_named_runs, item_named_runs, target_kind_runs, target_of_runs, target_runs, defaults_begun_runs, begun_runs, closed_runs, opened_call_runs, valued_runs, opening_runs}
 use Rattle.gn_meaning.specs.declared.function.TargetKind.{TargetKind}
@@ -31,20 +37,20 @@ use Rattle.gn_meaning.proofs.KeptBySteps.{checked_leaves}
 
 abbrev pub Before : Opener → Environment → Environment → Type 0
 Before (of_template definition depth) s env = surroundings (at_depth depth env) ≡ s
-Before (of_function (ItemCall kind)) s env = (surroundings env ≡ s) × (env.setting.in_item ≡ false)
+Before (of_function (ItemCall kind)) s env = (surroundings env ≡ s) × (env.setting.inside ≡ block.Nothing)
 Before (of_function Target) s env = surroundings env ≡ s
 Before (of_function SetDefaults) s env = surroundings env ≡ s
 
 pub before_moved : (o : Opener) (s env after : Environment) → surroundings after ≡ surroundings env → Before o s env → Before o s after
 before_moved (of_template definition depth) s env after h b = at_depth_keeps depth env after h ∙ b
-before_moved (of_function (ItemCall kind)) s env after h b = (h ∙ b.0, same_item env after h ∙ b.1)
+before_moved (of_function (ItemCall kind)) s env after h b = (h ∙ b.0, same_open env after h ∙ b.1)
 before_moved (of_function Target) s env after h b = h ∙ b
 before_moved (of_function SetDefaults) s env after h b = h ∙ b
 
 -- what stands around while the block of the call runs
 
 abbrev pub During : Opened → Environment → Environment → Type 0
-During (opened_item kind name) s env = (env0 : Environment) × (surroundings env0 ≡ s) × (env0.setting.in_item ≡ false) × (surroundings env ≡ surroundings (entered true (in_item true env0)))
+During (opened_item kind name) s env = (env0 : Environment) × (surroundings env0 ≡ s) × (env0.setting.inside ≡ block.Nothing) × (surroundings env ≡ surroundings (entered true (with_open block.Item env0)))
 During (opened_template definition name depth) s env = (env0 : Environment) × (surroundings (at_depth depth env0) ≡ s) × (surroundings env ≡ surroundings (entered true env0))
 During (opened_defaults kind) s env = (env0 : Environment) × (surroundings env0 ≡ s) × (surroundings env ≡ surroundings (entered false env0))
 
@@ -67,29 +73,35 @@ unfolding template_begun_runs
 template_begun_so s d depth kind_name name p env out b =
     ends_do _ _ (scope_begun_leaves kind_name name p env out) (λ l h. record { so = (env, b, h) })
 
-item_begun_so : (s : Environment) (kind : ItemKind) (kind_name name : List ℕ) (p : Position) (env : Environment) (out : Effects) → surroundings env ≡ s → env.setting.in_item ≡ false → Ends (IsOpened s) (item_begun_runs kind kind_name name p env out)
+item_begun_so : (s : Environment) (kind : ItemKind) (kind_name name : List ℕ) (p : Position) (env : Environment) (out : Effects) → surroundings env ≡ s → env.setting.inside ≡ block.Nothing → Ends (IsOpened s) (item_begun_runs kind kind_name name p env out)
 unfolding item_begun_runs
 item_begun_so s kind kind_name name p env out b e =
-    ends_do _ _ (scope_begun_leaves kind_name name p (in_item true env) out) (λ l h. record { so = (env, b, e, h) })
+    ends_do _ _ (scope_begun_leaves kind_name name p (with_open block.Item env) out) (λ l h. record { so = (env, b, e, h) })
 
 template_named_so : (s : Environment) (d : DefinitionState) (depth : ℕ) (v : Val) (call : Call) (env : Environment) (out : Effects) → surroundings (at_depth depth env) ≡ s → Ends (IsOpened s) (template_named_runs d depth v call env out)
 template_named_so s d depth (vstr name) call env out b = template_begun_so s d depth call.name name call.position env out b
 template_named_so s d depth v call env out b = fails_so _ out
 
-item_named_so : (s : Environment) (kind : ItemKind) (v : Val) (call : Call) (env : Environment) (out : Effects) → surroundings env ≡ s → env.setting.in_item ≡ false → Ends (IsOpened s) (item_named_runs kind v call env out)
+item_named_so : (s : Environment) (kind : ItemKind) (v : Val) (call : Call) (env : Environment) (out : Effects) → surroundings env ≡ s → env.setting.inside ≡ block.Nothing → Ends (IsOpened s) (item_named_runs kind v call env out)
 item_named_so s kind (vstr name) call env out b e = item_begun_so s kind call.name name call.position env out b e
 item_named_so s kind v call env out b e = fails_so _ out
 
--- where items are allowed, no block of an item is open
-pub not_in_item : (env : Environment) → allows_items env ≡ true → env.setting.in_item ≡ false
-not_in_item env h =
-    elim env.setting.in_item as (λ b. (if b then false else is_build_file env.setting.kind) ≡ true → b ≡ false) [ true ↦ λ g. absurd (true≢false (sym g)) | false ↦ λ g. refl ] h
+-- where items are allowed, no block is open that says what may be called in it
+nothing_inside : (inside : OpenBlock) (r : Bool) → (if is_inside inside then false else r) ≡ true → inside ≡ block.Nothing
+nothing_inside block.Nothing r h = refl
+nothing_inside block.Item r h = absurd (true≢false (sym h))
+nothing_inside block.Toolchain r h = absurd (true≢false (sym h))
+nothing_inside block.Tool r h = absurd (true≢false (sym h))
+nothing_inside block.Arguments r h = absurd (true≢false (sym h))
+
+pub nothing_open : (env : Environment) → allows_items env ≡ true → env.setting.inside ≡ block.Nothing
+nothing_open env h = nothing_inside env.setting.inside (is_build_file env.setting.context.kind) h
 
 target_kind_so : (s : Environment) (kind : TargetKind) (kind_name name : List ℕ) (call : Call) (env : Environment) (out : Effects) → surroundings env ≡ s → Ends (IsOpened s) (target_kind_runs kind kind_name name call env out)
 target_kind_so s (Built kind) kind_name name call env out b = by (allows_items env) refl
   where
     by : (r : Bool) → allows_items env ≡ r → Ends (IsOpened s) (target_kind_runs (Built kind) kind_name name call env out)
-    by true e = rw e (item_begun_so s kind kind_name name call.position env out b (not_in_item env e))
+    by true e = rw e (item_begun_so s kind kind_name name call.position env out b (nothing_open env e))
     by false e = rw e (fails_so _ out)
 target_kind_so s NotBuilt kind_name name call env out b = fails_so _ out
 target_kind_so s NoKind kind_name name call env out b = fails_so _ out
@@ -123,26 +135,25 @@ begun_so s o vs n call env out b = fails_so _ out
 abbrev IsDefinedAround : Environment → Result (Item × Environment) Fault → Type 0
 IsDefinedAround env r = IfOk r (λ d. surroundings d.1 ≡ surroundings env)
 
-defined_if : (b : Bool) (item : Item) (fault : Fault) (env after : Environment) → surroundings after ≡ surroundings env → IsDefinedAround env (if b then Ok (item, after) else Err fault)
-defined_if true item fault env after h = h
-defined_if false item fault env after h = tt
+rows_read_keep : (rows : List Row) (env : Environment) → surroundings (rows_read rows env) ≡ surroundings env
+rows_read_keep [] env = refl
+rows_read_keep (row ∷ rows) env = rows_read_keep rows (after_read (name_of row.variable) env) ∙ read_keeps (name_of row.variable) env
 
-named_if : (b : Bool) (r : Result (Item × Environment) Fault) (fault : Fault) (env : Environment) → IsDefinedAround env r → IsDefinedAround env (if b then r else Err fault)
-named_if true r fault env h = h
-named_if false r fault env h = tt
+made_keeps : (kind : ItemKind) (name : List ℕ) (p : Position) (env : Environment) (r : Result (List (Variable × Held)) ItemFault) → IsDefinedAround env (item_made kind name p env r)
+made_keeps kind name p env (Ok fields) = rows_read_keep (built_rows_of kind) env
+made_keeps kind name p env (Err fault) = tt
 
 defined_keeps : (kind : ItemKind) (name : List ℕ) (p : Position) (env : Environment) → IsDefinedAround env (defined kind name p env)
 unfolding defined
-defined_keeps Group name p env =
-    named_if (is_name name) _ _ env (defined_if (may_be_strings (value_of deps_name env)) (item_here env.setting Group name p) _ env (after_read deps_name env) (read_keeps deps_name env))
+defined_keeps kind name p env = made_keeps kind name p env (fields_here kind name env)
 
-item_leaves : (r : Result (Item × Environment) Fault) (p : Position) (env0 env : Environment) (out : Effects) → surroundings env ≡ surroundings (entered true (in_item true env0)) → env0.setting.in_item ≡ false → IsDefinedAround env r → Leaves (surroundings env0) (item_runs r p env out)
+item_leaves : (r : Result (Item × Environment) Fault) (p : Position) (env0 env : Environment) (out : Effects) → surroundings env ≡ surroundings (entered true (with_open block.Item env0)) → env0.setting.inside ≡ block.Nothing → IsDefinedAround env r → Leaves (surroundings env0) (item_runs r p env out)
 item_leaves (Err fault) p env0 env out h e k = fails_so _ out
 item_leaves (Ok d) p env0 env out h e k =
     so_if (is_defined d.0.label out) _ _ (fails_so _ out)
-    (checked_leaves (reported_here d.1) _ (in_item false (left d.1)) d.1 (with_item d.0 out) (in_item_ends env0 (left d.1) (left_keeps true (in_item true env0) d.1 (k ∙ h)) e))
+    (checked_leaves (reported_here d.1) _ (with_open block.Nothing (left d.1)) d.1 (with_item d.0 out) (block_ends block.Item block.Nothing env0 (left d.1) (left_keeps true (with_open block.Item env0) d.1 (k ∙ h)) e))
 
-item_end_leaves : (kind : ItemKind) (name : List ℕ) (p : Position) (env0 env : Environment) (out : Effects) → surroundings env ≡ surroundings (entered true (in_item true env0)) → env0.setting.in_item ≡ false → Leaves (surroundings env0) (item_end_runs kind name p env out)
+item_end_leaves : (kind : ItemKind) (name : List ℕ) (p : Position) (env0 env : Environment) (out : Effects) → surroundings env ≡ surroundings (entered true (with_open block.Item env0)) → env0.setting.inside ≡ block.Nothing → Leaves (surroundings env0) (item_end_runs kind name p env out)
 unfolding item_end_runs
 item_end_leaves kind name p env0 env out h e = item_leaves (defined kind name p env) p env0 env out h e (defined_keeps kind name p env)
 

@@ -1,11 +1,13 @@
 -- What the calls that change the environment leave around the scope in which they stand.
 use Rattle.std.proofs.Common.{ℕ, Bool, List, [], ◌∷◌, Option, Some, None, Result, Ok, Err, refl}
 use Rattle.gn_tree.specs.declared.position.Position.{Position}
+use Rattle.gn_values.specs.Limits.{scope_fits}
 use Rattle.gn_values.specs.Val.{Val, vstr, vscope, entries_of}
 use Rattle.gn_environment.specs.Environment.{Environment}
 use Rattle.gn_environment.specs.Forwarding.{Origin, from_entries, from_invoker, names_forwarded}
+use Rattle.gn_environment.specs.Invoker.{forwards_outer_invoker, outer_invoker_entries}
 use Rattle.gn_meaning.specs.Steps.{Steps}
-use Rattle.gn_meaning.specs.Selections.{Source, the_invoker, a_value, Selection, every_name, listed_names, other_text, no_names, strings_of, selection_of, excepting_runs, excepted_runs, selected_runs, forwarded_to, origin_forwarded_runs, forwarded_runs, unneeded_here_runs, unneeded_at_invoker_runs, unneeded_in_value_runs, unneeded_one_runs, unneeded_two_runs, unneeded_three_runs}
+use Rattle.gn_meaning.specs.Selections.{Source, the_invoker, a_value, Selection, every_name, listed_names, other_text, no_names, strings_of, selection_of, excepting_runs, excepted_runs, selected_runs, forwarded_to, names_forwarded_runs, outer_invoker_runs, outer_invoker_forwarded_runs, invoker_forwarded_runs, listed_forwarded_runs, origin_forwarded_runs, forwarded_runs, unneeded_here_runs, unneeded_at_invoker_runs, unneeded_in_value_runs, unneeded_one_runs, unneeded_two_runs, unneeded_three_runs}
 use Rattle.gn_paths.specs.declared.error.PathFault.{PathFault}
 use Rattle.gn_paths.specs.Components.{is_system}
 use Rattle.gn_paths.specs.Resolve.{path_meant}
@@ -17,14 +19,14 @@ use Rattle.gn_environment.specs.Templates.{has_template_here}
 use Rattle.gn_environment.specs.Imports.{merged}
 use Rattle.gn_environment.specs.Surroundings.{surroundings}
 use Rattle.gn_environment.proofs.Surroundings.{IsKept, template_defined_keeps}
-use Rattle.gn_environment.proofs.SurroundingsOfCalls.{names_read_here_keep, all_read_here_keeps, invoker_read_but_keeps, invoker_names_read_keep, names_forwarded_keep, all_forwarded_keep, merged_keeps}
+use Rattle.gn_environment.proofs.SurroundingsOfCalls.{names_read_here_keep, all_read_here_keeps, invoker_read_but_keeps, invoker_names_read_keep, outer_invoker_read_keeps, names_forwarded_keep, all_forwarded_keep, merged_keeps}
 use Rattle.gn_meaning.specs.Arguments.{at_argument}
 use Rattle.gn_meaning.specs.Imports.{merged_to, content_runs, path_runs, imported_runs}
 use Rattle.gn_meaning.specs.Templates.{template_defined_runs}
 use Rattle.gn_meaning.specs.ChangingCalls.{source_and_rest, forwarding_runs, unneeded_runs, importing_runs, defining_runs, changed_runs}
 use Rattle.gn_meaning.specs.declared.function.Changing.{Changing}
 use Rattle.gn_meaning.specs.declared.function.Changing.TheVariants.{Import, Template, ForwardVariablesFrom, NotNeeded}
-use Rattle.gn_meaning.proofs.Ends.{Leaves, Keep, keep_ends, fails_so, so_if, keep_asks_content, keep_asks_import}
+use Rattle.gn_meaning.proofs.Ends.{Leaves, Keep, keep_do, keep_ends, fails_so, so_if, keep_asks_content, keep_asks_import}
 
 excepting_keeps : {A : Type 0} (names : Option (List (List ℕ))) (at : Position) (next : List (List ℕ) → Steps A) → ((except : List (List ℕ)) → Keep (next except)) → Keep (excepting_runs names at next)
 excepting_keeps (Some names) at next t env out = t names env out
@@ -46,14 +48,35 @@ forwarded_to_keeps : (r : Result Environment (List ℕ)) (p : Position) (env : E
 forwarded_to_keeps (Ok after) p env out h = keep_ends _ after out h
 forwarded_to_keeps (Err name) p env out h = fails_so _ out
 
+names_keep : (origin : Origin) (names except : List (List ℕ)) (p : Position) → Keep (names_forwarded_runs origin names except p)
+names_keep origin names except p env out =
+    forwarded_to_keeps (names_forwarded origin names except env) p env out (names_forwarded_keep origin names except env)
+
+outer_invoker_keeps : (p : Position) → Keep (outer_invoker_runs p)
+unfolding outer_invoker_runs
+outer_invoker_keeps p env out =
+    so_if (scope_fits (outer_invoker_entries env)) _ _ (keep_ends _ _ out (outer_invoker_read_keeps env)) (fails_so _ out)
+
+outer_forwarded_keeps : (names except : List (List ℕ)) (p : Position) → Keep (outer_invoker_forwarded_runs names except p)
+outer_forwarded_keeps names except p env out =
+    keep_do _ _ (outer_invoker_keeps p env out) (λ outer env1 out1. names_keep (from_invoker (Some outer)) names except p env1 out1)
+
+invoker_forwarded_keeps : (names except : List (List ℕ)) (p : Position) → Keep (invoker_forwarded_runs names except p)
+invoker_forwarded_keeps names except p env out =
+    so_if (forwards_outer_invoker names except env) _ _ (outer_forwarded_keeps names except p env out) (names_keep (from_invoker None) names except p env out)
+
+listed_forwarded_keeps : (origin : Origin) (names except : List (List ℕ)) (p : Position) → Keep (listed_forwarded_runs origin names except p)
+listed_forwarded_keeps (from_entries entries) names except p env out = names_keep (from_entries entries) names except p env out
+listed_forwarded_keeps (from_invoker outer) names except p env out = invoker_forwarded_keeps names except p env out
+
 origin_forwarded_keeps : (origin : Origin) (names : Val) (last : Option (Val × Position)) (at p : Position) (name : List ℕ) → Keep (origin_forwarded_runs origin names last at p name)
 origin_forwarded_keeps origin names last at p name env out =
     selected_keeps (selection_of names) last at p name _ _ (λ except env1 out1. keep_ends _ _ out1 (all_forwarded_keep origin except env1))
-    (λ listed except env1 out1. forwarded_to_keeps (names_forwarded origin listed except env1) p env1 out1 (names_forwarded_keep origin listed except env1)) env out
+    (λ listed except env1 out1. listed_forwarded_keeps origin listed except p env1 out1) env out
 
 pub forwarded_keeps : (source : Source) (names : Val) (last : Option (Val × Position)) (source_at at p : Position) (name : List ℕ) → Keep (forwarded_runs source names last source_at at p name)
 unfolding forwarded_runs
-forwarded_keeps the_invoker names last source_at at p name env out = origin_forwarded_keeps from_invoker names last at p name env out
+forwarded_keeps the_invoker names last source_at at p name env out = origin_forwarded_keeps (from_invoker None) names last at p name env out
 forwarded_keeps (a_value (vscope bs)) names last source_at at p name env out = origin_forwarded_keeps (from_entries (entries_of bs)) names last at p name env out
 forwarded_keeps (a_value v) names last source_at at p name env out = fails_so _ out
 

@@ -24,7 +24,7 @@ use Rattle.gn_environment.specs.Surroundings.{surroundings}
 use Rattle.gn_environment.proofs.Surroundings.{IsKept, read_keeps, assignment_keeps, assignment_over_keeps, element_keeps as element_assignment_keeps, element_over_keeps, left_keeps, restored_keeps, given_keeps}
 use Rattle.gn_environment.proofs.SurroundingsOfCalls.{invoker_entry_read_keeps, invoker_read_keeps}
 use Rattle.gn_meaning.specs.Calls.{has_entry_of, has_invoker_entry_runs, has_entry_runs, has_value_runs, turns_run, loop_runs, checked_end, call_value_runs}
-use Rattle.gn_meaning.specs.PlainCalls.{Settled, gives, gives_nothing, prints, refuses, answer, settled_runs, plain_runs}
+use Rattle.gn_meaning.specs.PlainCalls.{Settled, gives, gives_nothing, prints, refuses, refuses_values, answer, settled_runs, plain_runs}
 use Rattle.gn_meaning.specs.declared.function.Plain.{Plain}
 use Rattle.gn_meaning.proofs.Ends.{Leaves, Keep, moved, keep_do, keep_ends, fails_so, so_if}
 
@@ -220,6 +220,7 @@ settled_keeps (gives v) call env out = keep_ends _ env out refl
 settled_keeps gives_nothing call env out = keep_ends _ env out refl
 settled_keeps (prints line) call env out = keep_ends _ env _ refl
 settled_keeps (refuses c number detail) call env out = fails_so _ out
+settled_keeps refuses_values call env out = fails_so _ out
 
 pub plain_keeps : (f : Plain) (vs : List Val) (call : Call) → Keep (plain_runs f vs call)
 plain_keeps f vs call env out = settled_keeps (answer f vs) call env out

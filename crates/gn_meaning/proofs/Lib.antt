@@ -19,3 +19,5 @@ pub mod KeptByBlocks
 pub mod Lists
 pub mod SameRuns
 pub mod SameBlocks
+pub mod RowsOfCalls
+pub mod Groups

@@ -1,12 +1,13 @@
 -- What the calls that open a scope do are trees of questions, where the values of their arguments, their blocks and the bodies of templates are.
-use Rattle.std.proofs.Common.{ℕ, true, List, [], ◌∷◌, Option, Some, None}
+use Rattle.std.proofs.Common.{ℕ, List, [], ◌∷◌, Option, Some, None}
 use Rattle.gn_tree.specs.declared.position.Position.{Position}
 use Rattle.gn_tree.specs.declared.tree.Call.{Call}
 use Rattle.gn_values.specs.Val.{Val, vstr}
 use Rattle.gn_values.specs.Imported.{DefinitionState}
-use Rattle.gn_items.specs.declared.item.ItemKind.{ItemKind}
+use Rattle.gn_rows.specs.declared.kinds.ItemKind.{ItemKind}
 use Rattle.gn_runs.specs.Runs.{Answers}
-use Rattle.gn_environment.specs.Environment.{in_item}
+use Rattle.gn_environment.specs.declared.context.OpenBlock.TheVariants as block
+use Rattle.gn_environment.specs.Environment.{with_open}
 use Rattle.gn_environment.specs.Templates.{template_of, body_begins}
 use Rattle.gn_meaning.specs.Steps.{Steps}
 use Rattle.gn_meaning.specs.Templates.{allows_items}
@@ -25,7 +26,7 @@ template_begun_tree d depth kind_name name p env out = tree_do _ _ (scope_begun_
 
 item_begun_tree : (kind : ItemKind) (kind_name name : List ℕ) (p : Position) → AreQuiet (item_begun_runs kind kind_name name p)
 unfolding item_begun_runs
-item_begun_tree kind kind_name name p env out = tree_do _ _ (scope_begun_tree kind_name name p (in_item true env) out) (λ _ env1 out1. tree_ends _ env1 out1)
+item_begun_tree kind kind_name name p env out = tree_do _ _ (scope_begun_tree kind_name name p (with_open block.Item env) out) (λ _ env1 out1. tree_ends _ env1 out1)
 
 template_named_tree : (d : DefinitionState) (depth : ℕ) (v : Val) (call : Call) → AreQuiet (template_named_runs d depth v call)
 template_named_tree d depth (vstr name) call env out = template_begun_tree d depth call.name name call.position env out

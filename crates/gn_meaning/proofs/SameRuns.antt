@@ -5,9 +5,10 @@ use Rattle.gn_tree.specs.declared.tree.Call.{Call}
 use Rattle.gn_values.specs.Val.{Val, vstr}
 use Rattle.gn_values.specs.Imported.{DefinitionState}
 use Rattle.gn_items.specs.Effects.{Effects}
-use Rattle.gn_items.specs.declared.item.ItemKind.{ItemKind}
+use Rattle.gn_rows.specs.declared.kinds.ItemKind.{ItemKind}
 use Rattle.gn_runs.specs.Runs.{Answers, Question, End, ended, wrong, spoiled, needs, Run}
-use Rattle.gn_environment.specs.Environment.{Environment, in_item, entered}
+use Rattle.gn_environment.specs.declared.context.OpenBlock.TheVariants as block
+use Rattle.gn_environment.specs.Environment.{Environment, with_open, entered}
 use Rattle.gn_environment.specs.Templates.{template_of, at_depth, body_begins, same_place}
 use Rattle.gn_environment.specs.Surroundings.{surroundings}
 use Rattle.gn_environment.specs.Within.{IsWithin}
@@ -115,7 +116,7 @@ module _ (outermost inner : DefinitionState) (w : IsWithin outermost inner) wher
   item_begun_other : (kind : ItemKind) (kind_name name : List ℕ) (p : Position) (env : Environment) (out : Effects) → Ends IsOpenedOther (item_begun_runs kind kind_name name p env out)
   unfolding item_begun_runs
   item_begun_other kind kind_name name p env out =
-      ends_do _ _ (anything (scope_begun_runs kind_name name p (in_item true env) out)) (λ l h. record { so = tt })
+      ends_do _ _ (anything (scope_begun_runs kind_name name p (with_open block.Item env) out)) (λ l h. record { so = tt })
 
   template_named_other : (d : DefinitionState) (depth : ℕ) (v : Val) (call : Call) (env : Environment) (out : Effects) → IsOther d → Ends IsOpenedOther (template_named_runs d depth v call env out)
   template_named_other d depth (vstr name) call env out i = template_begun_other d depth call.name name call.position env out i

@@ -1,12 +1,14 @@
 -- What `forward_variables_from` and `not_needed` do ask nothing.
 use Rattle.std.proofs.Common.{ℕ, List, [], Option, Some, None, Result, Ok, Err}
 use Rattle.gn_tree.specs.declared.position.Position.{Position}
+use Rattle.gn_values.specs.Limits.{scope_fits}
 use Rattle.gn_values.specs.Val.{Val, vscope, entries_of}
 use Rattle.gn_environment.specs.Environment.{Environment}
 use Rattle.gn_environment.specs.Forwarding.{Origin, from_entries, from_invoker, names_forwarded}
+use Rattle.gn_environment.specs.Invoker.{forwards_outer_invoker, outer_invoker_entries}
 use Rattle.gn_meaning.specs.Steps.{Steps}
-use Rattle.gn_meaning.specs.Selections.{Source, the_invoker, a_value, Selection, every_name, listed_names, other_text, no_names, strings_of, selection_of, excepting_runs, excepted_runs, selected_runs, forwarded_to, origin_forwarded_runs, forwarded_runs, unneeded_here_runs, unneeded_at_invoker_runs, unneeded_in_value_runs, unneeded_one_runs, unneeded_two_runs, unneeded_three_runs}
-use Rattle.gn_meaning.proofs.Steps.{AreQuiet, tree_ends, tree_fails}
+use Rattle.gn_meaning.specs.Selections.{Source, the_invoker, a_value, Selection, every_name, listed_names, other_text, no_names, strings_of, selection_of, excepting_runs, excepted_runs, selected_runs, forwarded_to, names_forwarded_runs, outer_invoker_runs, outer_invoker_forwarded_runs, invoker_forwarded_runs, listed_forwarded_runs, origin_forwarded_runs, forwarded_runs, unneeded_here_runs, unneeded_at_invoker_runs, unneeded_in_value_runs, unneeded_one_runs, unneeded_two_runs, unneeded_three_runs}
+use Rattle.gn_meaning.proofs.Steps.{AreQuiet, tree_do, tree_ends, tree_fails, tree_if}
 
 excepting_tree : {A : Type 0} (names : Option (List (List ℕ))) (at : Position) (next : List (List ℕ) → Steps A) → ((except : List (List ℕ)) → AreQuiet (next except)) → AreQuiet (excepting_runs names at next)
 excepting_tree (Some names) at next t env out = t names env out
@@ -28,14 +30,33 @@ forwarded_to_tree : (r : Result Environment (List ℕ)) (p : Position) → AreQu
 forwarded_to_tree (Ok after) p env out = tree_ends _ after out
 forwarded_to_tree (Err name) p env out = tree_fails _ out
 
+names_forwarded_tree : (origin : Origin) (names except : List (List ℕ)) (p : Position) → AreQuiet (names_forwarded_runs origin names except p)
+names_forwarded_tree origin names except p env out = forwarded_to_tree (names_forwarded origin names except env) p env out
+
+outer_invoker_tree : (p : Position) → AreQuiet (outer_invoker_runs p)
+unfolding outer_invoker_runs
+outer_invoker_tree p env out = tree_if (scope_fits (outer_invoker_entries env)) _ _ (tree_ends _ _ out) (tree_fails _ out)
+
+outer_forwarded_tree : (names except : List (List ℕ)) (p : Position) → AreQuiet (outer_invoker_forwarded_runs names except p)
+outer_forwarded_tree names except p env out =
+    tree_do _ _ (outer_invoker_tree p env out) (λ outer env1 out1. names_forwarded_tree (from_invoker (Some outer)) names except p env1 out1)
+
+invoker_forwarded_tree : (names except : List (List ℕ)) (p : Position) → AreQuiet (invoker_forwarded_runs names except p)
+invoker_forwarded_tree names except p env out =
+    tree_if (forwards_outer_invoker names except env) _ _ (outer_forwarded_tree names except p env out) (names_forwarded_tree (from_invoker None) names except p env out)
+
+listed_forwarded_tree : (origin : Origin) (names except : List (List ℕ)) (p : Position) → AreQuiet (listed_forwarded_runs origin names except p)
+listed_forwarded_tree (from_entries entries) names except p env out = names_forwarded_tree (from_entries entries) names except p env out
+listed_forwarded_tree (from_invoker outer) names except p env out = invoker_forwarded_tree names except p env out
+
 origin_forwarded_tree : (origin : Origin) (names : Val) (last : Option (Val × Position)) (at p : Position) (name : List ℕ) → AreQuiet (origin_forwarded_runs origin names last at p name)
 origin_forwarded_tree origin names last at p name env out =
     selected_tree (selection_of names) last at p name _ _ (λ except env1 out1. tree_ends _ _ out1)
-    (λ listed except env1 out1. forwarded_to_tree (names_forwarded origin listed except env1) p env1 out1) env out
+    (λ listed except env1 out1. listed_forwarded_tree origin listed except p env1 out1) env out
 
 pub forwarded_tree : (source : Source) (names : Val) (last : Option (Val × Position)) (source_at at p : Position) (name : List ℕ) → AreQuiet (forwarded_runs source names last source_at at p name)
 unfolding forwarded_runs
-forwarded_tree the_invoker names last source_at at p name env out = origin_forwarded_tree from_invoker names last at p name env out
+forwarded_tree the_invoker names last source_at at p name env out = origin_forwarded_tree (from_invoker None) names last at p name env out
 forwarded_tree (a_value (vscope bs)) names last source_at at p name env out = origin_forwarded_tree (from_entries (entries_of bs)) names last at p name env out
 forwarded_tree (a_value v) names last source_at at p name env out = tree_fails _ out
 

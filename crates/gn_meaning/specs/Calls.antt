@@ -1,14 +1,15 @@
 -- What single calls do once their arguments are evaluated.
-use Rattle.std.specs.Prelude.{ℕ, true, false, List, [], ◌∷◌, if◌then◌else◌, Option, Some, None, Result, Ok, Err, is_some}
+use Rattle.std.specs.Prelude.{ℕ, true, List, [], ◌∷◌, if◌then◌else◌, Option, Some, None, Result, Ok, Err, is_some}
 use Rattle.gn_tree.specs.declared.position.Position.{Position}
 use Rattle.gn_values.specs.Val.{Val, vbool, vstr, vlist, vscope, list_of, entries_of}
 use Rattle.gn_values.specs.Operators.{value_at}
 use Rattle.gn_faults.specs.declared.code.Code.TheVariants as code
 use Rattle.gn_faults.specs.declared.fault.Fault.{Fault}
 use Rattle.gn_items.specs.declared.item.Item.{Item}
-use Rattle.gn_items.specs.declared.item.ItemKind.{ItemKind}
+use Rattle.gn_rows.specs.declared.kinds.ItemKind.{ItemKind}
 use Rattle.gn_items.specs.Effects.{is_defined, with_item}
-use Rattle.gn_environment.specs.Environment.{Environment, value_of, after_read, left, reported_here, variable_here, restored, given, in_item}
+use Rattle.gn_environment.specs.declared.context.OpenBlock.TheVariants as block
+use Rattle.gn_environment.specs.Environment.{Environment, value_of, after_read, left, reported_here, variable_here, restored, given, with_open}
 use Rattle.gn_environment.specs.Templates.{block_begins, defaults_given}
 use Rattle.gn_environment.specs.Invoker.{names_invoker, invoker_entry, after_invoker_entry_read}
 use Rattle.gn_meaning.specs.Steps.{Steps, then_do, ends, breaks}
@@ -56,8 +57,8 @@ checked_end None x after env out = ends x after out
 abbrev pub item_runs : Result (Item × Environment) Fault → Position → Steps (Option Val)
 item_runs (Err fault) position env out = breaks fault out
 item_runs (Ok d) position env out =
-    if is_defined d.0.label out then fails_at code.DuplicateItem position (label_text d.0.label ∷ []) d.1 out
-    else checked_end (reported_here d.1) None (in_item false (left d.1)) d.1 (with_item d.0 out)
+    if is_defined d.0.label out then fails_at code.DuplicateItem position (label_text d.1.setting d.0.label ∷ []) d.1 out
+    else checked_end (reported_here d.1) None (with_open block.Nothing (left d.1)) d.1 (with_item d.0 out)
 
 unfoldable pub item_end_runs : ItemKind → List ℕ → Position → Steps (Option Val)
 item_end_runs kind name position env out = item_runs (defined kind name position env) position env out

@@ -1,14 +1,16 @@
 -- The calls of the language by their names.
-use Rattle.std.specs.Prelude.{ℕ, List, [], ◌∷◌, if◌then◌else◌, codes}
+use Rattle.std.specs.Prelude.{ℕ, List, [], ◌∷◌, if◌then◌else◌, Option, Some, None, codes}
 use Rattle.std.specs.List.{list_any}
 use Rattle.std.specs.Str.{bytes_eq}
-use Rattle.gn_items.specs.declared.item.ItemKind.TheVariants.{Group}
+use Rattle.gn_rows.specs.declared.kinds.ItemKind.TheVariants.{Group}
+use Rattle.gn_calls_text.specs.declared.call.TextCall.TheVariants.{FilterInclude, FilterExclude, SplitList, StringJoin, StringReplace, StringSplit}
 use Rattle.gn_meaning.specs.declared.function.TargetKind.{TargetKind}
 use Rattle.gn_meaning.specs.declared.function.TargetKind.TheVariants.{Built, NotBuilt, NoKind}
 use Rattle.gn_meaning.specs.declared.function.Named.{Named}
 use Rattle.gn_meaning.specs.declared.function.Named.TheVariants.{Function as OfFunction, Excluded, Unknown}
-use Rattle.gn_meaning.specs.declared.function.Function.TheVariants.{Plain, Changing, Opening, Defined, Foreach}
-use Rattle.gn_meaning.specs.declared.function.Plain.TheVariants.{Assert, Print}
+use Rattle.gn_meaning.specs.declared.function.Function.TheVariants.{Plain as OfPlain, Changing, Opening, Defined, Foreach}
+use Rattle.gn_meaning.specs.declared.function.Plain.{Plain}
+use Rattle.gn_meaning.specs.declared.function.Plain.TheVariants.{Assert, Print, Text}
 use Rattle.gn_meaning.specs.declared.function.Changing.TheVariants.{Import, Template, ForwardVariablesFrom, NotNeeded}
 use Rattle.gn_meaning.specs.declared.function.Opening.TheVariants.{Item, Target, SetDefaults}
 
@@ -16,13 +18,12 @@ use Rattle.gn_meaning.specs.declared.function.Opening.TheVariants.{Item, Target,
 unfoldable pub excluded_names : List (List ℕ)
 excluded_names =
     codes "action" ∷ codes "action_foreach" ∷ codes "bundle_data" ∷ codes "config" ∷ codes "copy" ∷ codes "create_bundle" ∷ codes "declare_args"
-    ∷ codes "exec_script" ∷ codes "executable" ∷ codes "filter_exclude" ∷ codes "filter_include" ∷ codes "filter_labels_exclude"
-    ∷ codes "filter_labels_include" ∷ codes "generated_file" ∷ codes "get_label_info" ∷ codes "get_path_info"
+    ∷ codes "exec_script" ∷ codes "executable" ∷ codes "filter_labels_exclude" ∷ codes "filter_labels_include"
+    ∷ codes "generated_file" ∷ codes "get_label_info" ∷ codes "get_path_info"
     ∷ codes "get_target_outputs" ∷ codes "getenv" ∷ codes "label_matches" ∷ codes "loadable_module"
     ∷ codes "path_exists" ∷ codes "pool" ∷ codes "process_file_template" ∷ codes "read_file" ∷ codes "rebase_path" ∷ codes "rust_library"
     ∷ codes "rust_proc_macro" ∷ codes "set_default_toolchain" ∷ codes "shared_library" ∷ codes "source_set"
-    ∷ codes "split_list" ∷ codes "static_library" ∷ codes "string_hash" ∷ codes "string_join" ∷ codes "string_replace" ∷ codes "string_split"
-    ∷ codes "tool" ∷ codes "toolchain" ∷ codes "write_file" ∷ []
+    ∷ codes "static_library" ∷ codes "string_hash" ∷ codes "tool" ∷ codes "toolchain" ∷ codes "write_file" ∷ []
 
 -- the kinds of targets that aren't built yet
 unfoldable pub excluded_kinds : List (List ℕ)
@@ -37,13 +38,24 @@ target_kind_of name =
     else if list_any (bytes_eq name) excluded_kinds then NotBuilt
     else NoKind
 
--- what a name calls
-unfoldable pub function_of : List ℕ → Named
-function_of name =
-    if bytes_eq name (codes "assert") then OfFunction (Plain Assert)
-    else if bytes_eq name (codes "defined") then OfFunction Defined
+-- the plain call of this name
+unfoldable pub plain_of : List ℕ → Option Plain
+plain_of name =
+    if bytes_eq name (codes "assert") then Some Assert
+    else if bytes_eq name (codes "print") then Some Print
+    else if bytes_eq name (codes "filter_exclude") then Some (Text FilterExclude)
+    else if bytes_eq name (codes "filter_include") then Some (Text FilterInclude)
+    else if bytes_eq name (codes "split_list") then Some (Text SplitList)
+    else if bytes_eq name (codes "string_join") then Some (Text StringJoin)
+    else if bytes_eq name (codes "string_replace") then Some (Text StringReplace)
+    else if bytes_eq name (codes "string_split") then Some (Text StringSplit)
+    else None
+
+-- what a name calls that is no plain call's
+unfoldable pub other_function_of : List ℕ → Named
+other_function_of name =
+    if bytes_eq name (codes "defined") then OfFunction Defined
     else if bytes_eq name (codes "foreach") then OfFunction Foreach
-    else if bytes_eq name (codes "print") then OfFunction (Plain Print)
     else if bytes_eq name (codes "group") then OfFunction (Opening (Item Group))
     else if bytes_eq name (codes "import") then OfFunction (Changing Import)
     else if bytes_eq name (codes "template") then OfFunction (Changing Template)
@@ -53,3 +65,11 @@ function_of name =
     else if bytes_eq name (codes "not_needed") then OfFunction (Changing NotNeeded)
     else if list_any (bytes_eq name) excluded_names then Excluded
     else Unknown
+
+-- what a name calls
+abbrev pub plain_or_other : Option Plain → List ℕ → Named
+plain_or_other (Some f) name = OfFunction (OfPlain f)
+plain_or_other None name = other_function_of name
+
+unfoldable pub function_of : List ℕ → Named
+function_of name = plain_or_other (plain_of name) name

@@ -1,16 +1,22 @@
--- What the end of an item's block defines.
-use Rattle.std.specs.Prelude.{ℕ, Bool, true, false, List, [], ◌∷◌, if◌then◌else◌, Option, Some, None, Result, Ok, Err, codes}
-use Rattle.std.specs.List.{list_all}
+-- What the end of an item's block defines, by the rows of its kind.
+use Rattle.std.specs.Prelude.{ℕ, Bool, true, false, List, [], ◌∷◌, Option, Some, None, Result, Ok, Err}
 use Rattle.gn_tree.specs.declared.position.Position.{Position}
-use Rattle.gn_values.specs.Val.{Val, vstr, vlist, list_of}
+use Rattle.gn_paths.specs.Components.{two_slashes}
+use Rattle.gn_values.specs.Val.{Val, vstr}
 use Rattle.gn_labels.specs.declared.label.Label.{Label}
-use Rattle.gn_labels.specs.Names.{is_name}
 use Rattle.gn_labels.specs.Labels.{printed}
-use Rattle.gn_faults.specs.declared.code.Code.TheVariants as code
 use Rattle.gn_faults.specs.declared.fault.Fault.{Fault}
+use Rattle.gn_rows.specs.declared.kinds.ItemKind.{ItemKind}
+use Rattle.gn_rows.specs.declared.row.Row.{Row}
+use Rattle.gn_rows.specs.declared.variable.Variable.{Variable}
+use Rattle.gn_rows.specs.Names.{name_of}
+use Rattle.gn_rows.specs.Tables.{built_rows_of}
+use Rattle.gn_define.specs.declared.fault.ItemFault.{ItemFault}
+use Rattle.gn_define.specs.declared.place.Where.{Where}
+use Rattle.gn_define.specs.Defining.{block_defines}
+use Rattle.gn_define.specs.Faults.{code_of, detail_of}
+use Rattle.gn_define.specs.Held.{Held}
 use Rattle.gn_items.specs.declared.item.Item.{Item}
-use Rattle.gn_items.specs.declared.item.ItemKind.{ItemKind}
-use Rattle.gn_items.specs.declared.item.ItemKind.TheVariants.{Group}
 use Rattle.gn_environment.specs.Environment.{Setting, Environment, value_of, after_read}
 use Rattle.gn_environment.specs.Faults.{fault_in}
 
@@ -19,15 +25,9 @@ abbrev pub is_string : Val → Bool
 is_string (vstr t) = true
 is_string _ = false
 
--- whether a variable may be a list of strings: it has no value, or is one
-abbrev pub may_be_strings : Option Val → Bool
-may_be_strings (Some (vlist vs)) = list_all is_string (list_of vs)
-may_be_strings (Some _) = false
-may_be_strings None = true
-
 -- the label of an item of this name where the evaluation takes place
 abbrev pub label_here : Setting → List ℕ → Label
-label_here setting name = record { dir = setting.directory; name = name; toolchain = setting.toolchain }
+label_here setting name = record { dir = setting.directory; name = name; toolchain = setting.context.toolchain }
 
 abbrev pub item_here : Setting → ItemKind → List ℕ → Position → Item
 item_here setting kind name position = record {
@@ -36,18 +36,36 @@ item_here setting kind name position = record {
   place = record { file = setting.file; line = position.line; column = position.column };
 }
 
-abbrev pub deps_name : List ℕ
-deps_name = codes "deps"
+-- where an item is defined. An evaluation knows no build directory yet, for which the source root stands: no row that is built asks for one
+abbrev pub context_here : Setting → ItemKind → Where
+context_here setting kind = record { kind = kind; directory = setting.directory; toolchain = setting.context.toolchain; build = two_slashes; out = two_slashes }
 
--- the item whose block has ended, with the environment in which the names of its kind are read, or the first fault of its definition: a name that
--- is none of a label, or a variable of a wrong type
+-- the fields of the item whose block has ended, by what is built of its kind, or its first fault: the name is judged first, then each row in order
+abbrev pub fields_here : ItemKind → List ℕ → Environment → Result (List (Variable × Held)) ItemFault
+fields_here kind name env = block_defines (context_here env.setting kind) (built_rows_of kind) name (λ variable. value_of variable env)
+
+-- the environment in which the names of these rows count as read, one after the other
+abbrev pub rows_read : List Row → Environment → Environment
+rows_read [] env = env
+rows_read (row ∷ rows) env = rows_read rows (after_read (name_of row.variable) env)
+
+-- the fault of an item at its call: it shows the text that it has
+abbrev pub texts_shown : Option (List ℕ) → List (List ℕ)
+texts_shown (Some text) = text ∷ []
+texts_shown None = []
+
+abbrev pub item_fault : Setting → ItemKind → List ℕ → Position → ItemFault → Fault
+item_fault setting kind name position fault = fault_in setting position (code_of fault) (texts_shown (detail_of kind name fault))
+
+-- the item with these fields, with the environment in which the names of its kind are read, or its fault
+abbrev pub item_made : ItemKind → List ℕ → Position → Environment → Result (List (Variable × Held)) ItemFault → Result (Item × Environment) Fault
+item_made kind name position env (Ok fields) = Ok (item_here env.setting kind name position, rows_read (built_rows_of kind) env)
+item_made kind name position env (Err fault) = Err (item_fault env.setting kind name position fault)
+
+-- the item whose block has ended, or the first fault of its definition
 unfoldable pub defined : ItemKind → List ℕ → Position → Environment → Result (Item × Environment) Fault
-defined Group name position env =
-    if is_name name then
-    (if may_be_strings (value_of deps_name env) then Ok (item_here env.setting Group name position, after_read deps_name env)
-    else Err (fault_in env.setting position code.WrongType (deps_name ∷ [])))
-    else Err (fault_in env.setting position code.BadLabel [])
+defined kind name position env = item_made kind name position env (fields_here kind name env)
 
--- the text of a label: the toolchain of an evaluation is the empty text where it is the default one
-abbrev pub label_text : Label → List ℕ
-label_text label = printed [] label
+-- the text of a label, which leaves out the default toolchain
+abbrev pub label_text : Setting → Label → List ℕ
+label_text setting label = printed setting.context.default_toolchain label

@@ -16,4 +16,5 @@ pub mod FunctionCalls
 pub mod Meaning
 pub mod Laws
 pub mod BlockLaws
+pub mod ItemLaws
 pub mod TemplateLaws

@@ -1,12 +1,13 @@
 -- Calls that open a scope, run their block in it and close it: of templates, of items, `target` and `set_defaults`.
-use Rattle.std.specs.Prelude.{ℕ, true, false, if◌then◌else◌, List, [], ◌∷◌, Option, Some, None}
+use Rattle.std.specs.Prelude.{ℕ, false, if◌then◌else◌, List, [], ◌∷◌, Option, Some, None}
 use Rattle.gn_tree.specs.declared.position.Position.{Position}
 use Rattle.gn_tree.specs.declared.tree.Call.{Call}
 use Rattle.gn_values.specs.Val.{Val, vstr}
 use Rattle.gn_values.specs.Imported.{DefinitionState}
 use Rattle.gn_faults.specs.declared.code.Code.TheVariants as code
-use Rattle.gn_items.specs.declared.item.ItemKind.{ItemKind}
-use Rattle.gn_environment.specs.Environment.{in_item, entered}
+use Rattle.gn_rows.specs.declared.kinds.ItemKind.{ItemKind}
+use Rattle.gn_environment.specs.declared.context.OpenBlock.TheVariants as block
+use Rattle.gn_environment.specs.Environment.{with_open, entered}
 use Rattle.gn_environment.specs.Templates.{template_of, body_begins}
 use Rattle.gn_meaning.specs.Steps.{Steps, then_do, ends}
 use Rattle.gn_meaning.specs.Words.{fails_at}
@@ -38,7 +39,7 @@ template_begun_runs definition depth kind_name name position env out =
 
 unfoldable pub item_begun_runs : ItemKind → List ℕ → List ℕ → Position → Steps Opened
 item_begun_runs kind kind_name name position env out =
-    then_do (scope_begun_runs kind_name name position (in_item true env) out) (λ _ env1 out1. ends (opened_item kind name) env1 out1)
+    then_do (scope_begun_runs kind_name name position (with_open block.Item env) out) (λ _ env1 out1. ends (opened_item kind name) env1 out1)
 
 -- a call of a template and of an item, with its one value
 abbrev pub template_named_runs : DefinitionState → ℕ → Val → Call → Steps Opened

@@ -7,20 +7,23 @@ use Rattle.gn_values.specs.Val.{Val, vbool, vstr}
 use Rattle.gn_values.specs.Text.{text_of}
 use Rattle.gn_faults.specs.declared.code.Code.{Code}
 use Rattle.gn_faults.specs.declared.code.Code.TheVariants as code
+use Rattle.gn_calls_text.specs.Answers as text_calls
+use Rattle.gn_calls_text.specs.Calls.{text_call}
 use Rattle.gn_items.specs.Effects.{with_print}
 use Rattle.gn_meaning.specs.Steps.{Steps, ends}
 use Rattle.gn_meaning.specs.Words.{fails_at}
-use Rattle.gn_meaning.specs.Arguments.{at_argument}
+use Rattle.gn_meaning.specs.Arguments.{at_argument, refused_runs}
 use Rattle.gn_meaning.specs.declared.function.Plain.{Plain}
-use Rattle.gn_meaning.specs.declared.function.Plain.TheVariants.{Assert, Print}
+use Rattle.gn_meaning.specs.declared.function.Plain.TheVariants.{Assert, Print, Text}
 
 -- what a plain call answers: a value, nothing, a printed line, or a refusal with its code and details, at the argument of this number, counted from 0,
--- or at the name of the call
+-- or at the name of the call; or it doesn't take these values, which is refused as a wrong number of arguments is
 pub data Settled : Type 0 where
   gives : Val → Settled
   gives_nothing : Settled
   prints : List ℕ → Settled
   refuses : Code → Option ℕ → List (List ℕ) → Settled
+  refuses_values : Settled
 
 -- an argument of a wrong type
 abbrev pub wrong_type : ℕ → Settled
@@ -41,10 +44,20 @@ assert_answer _ = wrong_type 0
 unfoldable pub line_of : List Val → List ℕ
 line_of vs = join_by (text_of false) (codes " ") vs ++ 10 ∷ []
 
+-- what a call on texts and lists answers. Values that it doesn't take are refused at its name; its other refusals show nothing
+abbrev pub refusal : Code → Option ℕ → Settled
+refusal code.BadArguments number = refuses_values
+refusal c number = refuses c number []
+
+abbrev pub settled_of : text_calls.Settled → Settled
+settled_of (text_calls.gives v) = gives v
+settled_of (text_calls.refuses c number) = refusal c number
+
 -- what the call answers to these values
 unfoldable pub answer : Plain → List Val → Settled
 answer Assert vs = assert_answer vs
 answer Print vs = prints (line_of vs)
+answer (Text f) vs = settled_of (text_call f vs)
 
 -- where a refusal stands
 abbrev pub refused_position : Option ℕ → Call → Position
@@ -57,6 +70,7 @@ settled_runs (gives v) call env out = ends (Some v) env out
 settled_runs gives_nothing call env out = ends None env out
 settled_runs (prints line) call env out = ends None env (with_print line out)
 settled_runs (refuses c number detail) call env out = fails_at c (refused_position number call) detail env out
+settled_runs refuses_values call env out = refused_runs call env out
 
 abbrev pub plain_runs : Plain → List Val → Call → Steps (Option Val)
 plain_runs f vs call env out = settled_runs (answer f vs) call env out

@@ -1,10 +1,11 @@
 -- What is judged of a call before its arguments: a row for each function.
 use Rattle.std.specs.Prelude.{ℕ, Bool, true, false, ◌&&◌, not, nat_le, Option, Some, None}
+use Rattle.gn_calls_text.specs.declared.call.TextCall.TheVariants.{FilterInclude, FilterExclude, SplitList, StringJoin, StringReplace, StringSplit}
 use Rattle.gn_meaning.specs.declared.rule.Rule.{Rule}
 use Rattle.gn_meaning.specs.declared.rule.Allowed.TheVariants.{Everywhere, WhereItems}
 use Rattle.gn_meaning.specs.declared.function.Function.{Function}
 use Rattle.gn_meaning.specs.declared.function.Function.TheVariants.{Plain, Changing, Opening, Defined, Foreach}
-use Rattle.gn_meaning.specs.declared.function.Plain.TheVariants.{Assert, Print}
+use Rattle.gn_meaning.specs.declared.function.Plain.TheVariants.{Assert, Print, Text}
 use Rattle.gn_meaning.specs.declared.function.Changing.TheVariants.{Import, Template, ForwardVariablesFrom, NotNeeded}
 use Rattle.gn_meaning.specs.declared.function.Opening.TheVariants.{Item, Target, SetDefaults}
 
@@ -19,6 +20,12 @@ with_block count = record { least = count; most = Some count; block = true; impo
 unfoldable pub rule_of : Function → Rule
 rule_of (Plain Assert) = without_block 1 (Some 2)
 rule_of (Plain Print) = without_block 1 None
+rule_of (Plain (Text FilterExclude)) = without_block 2 (Some 2)
+rule_of (Plain (Text FilterInclude)) = without_block 2 (Some 2)
+rule_of (Plain (Text SplitList)) = without_block 2 (Some 2)
+rule_of (Plain (Text StringJoin)) = without_block 2 (Some 2)
+rule_of (Plain (Text StringReplace)) = without_block 3 (Some 4)
+rule_of (Plain (Text StringSplit)) = without_block 1 (Some 2)
 rule_of (Changing Import) = record (without_block 1 (Some 1)) { imports = true }
 rule_of (Changing Template) = with_block 1
 rule_of (Changing ForwardVariablesFrom) = without_block 2 (Some 3)

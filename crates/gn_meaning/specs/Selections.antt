@@ -4,12 +4,13 @@ use Rattle.std.specs.List.{list_all}
 use Rattle.std.specs.Str.{bytes_eq}
 use Rattle.gn_tree.specs.declared.position.Position.{Position}
 use Rattle.gn_tree.specs.Tree.{ExprTree, name_expr}
-use Rattle.gn_values.specs.Val.{Val, vstr, vlist, vscope, list_of, entries_of}
+use Rattle.gn_values.specs.Limits.{scope_fits}
+use Rattle.gn_values.specs.Val.{Val, vstr, vlist, vscope, list_of, binds_of, entries_of}
 use Rattle.gn_faults.specs.declared.code.Code.TheVariants as code
 use Rattle.gn_environment.specs.Environment.{Environment}
-use Rattle.gn_environment.specs.Invoker.{names_invoker, after_invoker_read_but, after_invoker_names_read}
+use Rattle.gn_environment.specs.Invoker.{names_invoker, after_invoker_read_but, after_invoker_names_read, forwards_outer_invoker, outer_invoker_entries, after_outer_invoker_read}
 use Rattle.gn_environment.specs.Forwarding.{Origin, from_entries, from_invoker, names_forwarded, all_forwarded, after_names_read_here, after_all_read_here}
-use Rattle.gn_meaning.specs.Steps.{Steps, ends}
+use Rattle.gn_meaning.specs.Steps.{Steps, ends, then_do}
 use Rattle.gn_meaning.specs.Words.{fails_at}
 use Rattle.gn_meaning.specs.Items.{is_string}
 
@@ -71,14 +72,40 @@ abbrev pub forwarded_to : Result Environment (List ℕ) → Position → Steps (
 forwarded_to (Ok after) position env out = ends None after out
 forwarded_to (Err name) position env out = fails_at code.AlreadySet position (name ∷ []) env out
 
+-- these names of an origin, but for the excepted ones
+abbrev pub names_forwarded_runs : Origin → List (List ℕ) → List (List ℕ) → Position → Steps (Option Val)
+names_forwarded_runs origin names except position env out = forwarded_to (names_forwarded origin names except env) position env out
+
+-- the invoker around the call as a value: all its names are read, and it must not nest too deep for a scope's value
+unfoldable pub outer_invoker_runs : Position → Steps Val
+outer_invoker_runs position env out =
+    if scope_fits (outer_invoker_entries env) then ends (vscope (binds_of (outer_invoker_entries env))) (after_outer_invoker_read env) out
+    else fails_at code.TooLong position [] env out
+
+-- names of the invoker, where the invoker around the call is one of them: that is read as a value first
+abbrev pub outer_invoker_forwarded_runs : List (List ℕ) → List (List ℕ) → Position → Steps (Option Val)
+outer_invoker_forwarded_runs names except position env out =
+    then_do (outer_invoker_runs position env out) (λ outer env1 out1. names_forwarded_runs (from_invoker (Some outer)) names except position env1 out1)
+
+-- names of the invoker
+abbrev pub invoker_forwarded_runs : List (List ℕ) → List (List ℕ) → Position → Steps (Option Val)
+invoker_forwarded_runs names except position env out =
+    if forwards_outer_invoker names except env then outer_invoker_forwarded_runs names except position env out
+    else names_forwarded_runs (from_invoker None) names except position env out
+
+-- a list of names
+abbrev pub listed_forwarded_runs : Origin → List (List ℕ) → List (List ℕ) → Position → Steps (Option Val)
+listed_forwarded_runs (from_entries entries) names except position env out = names_forwarded_runs (from_entries entries) names except position env out
+listed_forwarded_runs (from_invoker outer) names except position env out = invoker_forwarded_runs names except position env out
+
 abbrev pub origin_forwarded_runs : Origin → Val → Option (Val × Position) → Position → Position → List ℕ → Steps (Option Val)
 origin_forwarded_runs origin names last at position name env out =
     selected_runs (selection_of names) last at position name (λ except env1 out1. ends None (all_forwarded origin except env1) out1)
-    (λ listed except env1 out1. forwarded_to (names_forwarded origin listed except env1) position env1 out1) env out
+    (λ listed except env1 out1. listed_forwarded_runs origin listed except position env1 out1) env out
 
 -- `forward_variables_from`: the source at its position, the names at theirs, and the excepted names, if there are any
 unfoldable pub forwarded_runs : Source → Val → Option (Val × Position) → (source_at at position : Position) → List ℕ → Steps (Option Val)
-forwarded_runs the_invoker names last source_at at position name env out = origin_forwarded_runs from_invoker names last at position name env out
+forwarded_runs the_invoker names last source_at at position name env out = origin_forwarded_runs (from_invoker None) names last at position name env out
 forwarded_runs (a_value (vscope bs)) names last source_at at position name env out = origin_forwarded_runs (from_entries (entries_of bs)) names last at position name env out
 forwarded_runs (a_value _) names last source_at at position name env out = fails_at code.BadTypes source_at [] env out
 

@@ -6,6 +6,8 @@ use Rattle.gn_values.specs.Val.{Val, vstr}
 use Rattle.gn_faults.specs.declared.code.Code.TheVariants as code
 use Rattle.gn_faults.specs.declared.file_kind.FileKind.{FileKind}
 use Rattle.gn_faults.specs.declared.file_kind.FileKind.TheVariants.{BuildFile, Import}
+use Rattle.gn_environment.specs.declared.context.OpenBlock.{OpenBlock}
+use Rattle.gn_environment.specs.declared.context.OpenBlock.TheVariants.{Nothing}
 use Rattle.gn_environment.specs.Environment.{Environment, reported_here}
 use Rattle.gn_environment.specs.Templates.{has_template_here, template_defined, defaults_set, at_depth, body_ends, reported_by_invoker}
 use Rattle.gn_environment.specs.Faults.{fault_in}
@@ -39,13 +41,17 @@ unfoldable pub template_end_runs : ℕ → Steps (Option Val)
 template_end_runs depth env out =
     invoker_checked (reported_by_invoker env) (λ env1 out1. checked_end (reported_here env1) None (at_depth depth (body_ends env1)) env1 out1) env out
 
--- items are defined in build files, outside the blocks of other items
+-- items are defined in build files, where no block is open that says what may be called in it
 abbrev pub is_build_file : FileKind → Bool
 is_build_file BuildFile = true
 is_build_file Import = false
 
+abbrev pub is_inside : OpenBlock → Bool
+is_inside Nothing = false
+is_inside _ = true
+
 abbrev pub allows_items : Environment → Bool
-allows_items env = if env.setting.in_item then false else is_build_file env.setting.kind
+allows_items env = if is_inside env.setting.inside then false else is_build_file env.setting.context.kind
 
 -- `set_defaults`: its block has run in a scope of its own, which ends
 unfoldable pub defaults_end_runs : List ℕ → Steps (Option Val)

@@ -3,8 +3,9 @@
 ghost use Rattle.std.specs.Prelude.{◌≡◌};
 ghost use Rattle.std.specs.List.{list_any};
 ghost use Rattle.std.specs.Str.{bytes_eq};
-ghost use Rattle.gn_meaning.specs.Functions.{excluded_names, excluded_kinds, function_of, target_kind_of};
+ghost use Rattle.gn_meaning.specs.Functions.{excluded_names, excluded_kinds, plain_of, other_function_of, function_of, target_kind_of};
 
+use gn_calls_text::TextCall;
 use gn_items::ItemKind;
 
 /// A function that needs nothing but the values of its arguments.
@@ -14,6 +15,8 @@ pub enum Plain {
     Assert,
     /// `print`
     Print,
+    /// A call on texts and lists.
+    Text(TextCall),
 }
 
 /// A function that needs the values of its arguments and changes where it stands.
@@ -78,7 +81,7 @@ pub enum TargetKind {
 }
 
 // The functions of GN that are left out: those that the profile leaves out for good, and those that aren't built yet.
-const EXCLUDED: [&[u8]; 39] = [
+const EXCLUDED: [&[u8]; 33] = [
     b"action",
     b"action_foreach",
     b"bundle_data",
@@ -88,8 +91,6 @@ const EXCLUDED: [&[u8]; 39] = [
     b"declare_args",
     b"exec_script",
     b"executable",
-    b"filter_exclude",
-    b"filter_include",
     b"filter_labels_exclude",
     b"filter_labels_include",
     b"generated_file",
@@ -109,12 +110,8 @@ const EXCLUDED: [&[u8]; 39] = [
     b"set_default_toolchain",
     b"shared_library",
     b"source_set",
-    b"split_list",
     b"static_library",
     b"string_hash",
-    b"string_join",
-    b"string_replace",
-    b"string_split",
     b"tool",
     b"toolchain",
     b"write_file",
@@ -138,33 +135,66 @@ impl Named {
     pub fn of(name: &[u8]) -> Named
         ensures { result ≡ function_of name.now }
     {
-        if name == b"assert".as_slice() {
-            Named::Function(Function::Plain(Plain::Assert))
-        } else if name == b"defined".as_slice() {
-            Named::Function(Function::Defined)
-        } else if name == b"foreach".as_slice() {
-            Named::Function(Function::Foreach)
-        } else if name == b"print".as_slice() {
-            Named::Function(Function::Plain(Plain::Print))
-        } else if name == b"group".as_slice() {
-            Named::Function(Function::Opening(Opening::Item(ItemKind::Group)))
-        } else if name == b"import".as_slice() {
-            Named::Function(Function::Changing(Changing::Import))
-        } else if name == b"template".as_slice() {
-            Named::Function(Function::Changing(Changing::Template))
-        } else if name == b"target".as_slice() {
-            Named::Function(Function::Opening(Opening::Target))
-        } else if name == b"set_defaults".as_slice() {
-            Named::Function(Function::Opening(Opening::SetDefaults))
-        } else if name == b"forward_variables_from".as_slice() {
-            Named::Function(Function::Changing(Changing::ForwardVariablesFrom))
-        } else if name == b"not_needed".as_slice() {
-            Named::Function(Function::Changing(Changing::NotNeeded))
-        } else if is_excluded(name) {
-            Named::Excluded
-        } else {
-            Named::Unknown
+        match plain_of(name) {
+            Some(plain) => Named::Function(Function::Plain(plain)),
+            None => other_function_of(name),
         }
+    }
+}
+
+// The plain call of this name.
+#[tactic(auto, unfolding(crate::specs::Functions::plain_of))]
+fn plain_of(name: &[u8]) -> Option<Plain>
+    ensures { result ≡ plain_of name.now }
+{
+    if name == b"assert".as_slice() {
+        Some(Plain::Assert)
+    } else if name == b"print".as_slice() {
+        Some(Plain::Print)
+    } else if name == b"filter_exclude".as_slice() {
+        Some(Plain::Text(TextCall::FilterExclude))
+    } else if name == b"filter_include".as_slice() {
+        Some(Plain::Text(TextCall::FilterInclude))
+    } else if name == b"split_list".as_slice() {
+        Some(Plain::Text(TextCall::SplitList))
+    } else if name == b"string_join".as_slice() {
+        Some(Plain::Text(TextCall::StringJoin))
+    } else if name == b"string_replace".as_slice() {
+        Some(Plain::Text(TextCall::StringReplace))
+    } else if name == b"string_split".as_slice() {
+        Some(Plain::Text(TextCall::StringSplit))
+    } else {
+        None
+    }
+}
+
+// What a name calls that is no plain call's.
+#[tactic(auto, unfolding(crate::specs::Functions::other_function_of))]
+fn other_function_of(name: &[u8]) -> Named
+    ensures { result ≡ other_function_of name.now }
+{
+    if name == b"defined".as_slice() {
+        Named::Function(Function::Defined)
+    } else if name == b"foreach".as_slice() {
+        Named::Function(Function::Foreach)
+    } else if name == b"group".as_slice() {
+        Named::Function(Function::Opening(Opening::Item(ItemKind::Group)))
+    } else if name == b"import".as_slice() {
+        Named::Function(Function::Changing(Changing::Import))
+    } else if name == b"template".as_slice() {
+        Named::Function(Function::Changing(Changing::Template))
+    } else if name == b"target".as_slice() {
+        Named::Function(Function::Opening(Opening::Target))
+    } else if name == b"set_defaults".as_slice() {
+        Named::Function(Function::Opening(Opening::SetDefaults))
+    } else if name == b"forward_variables_from".as_slice() {
+        Named::Function(Function::Changing(Changing::ForwardVariablesFrom))
+    } else if name == b"not_needed".as_slice() {
+        Named::Function(Function::Changing(Changing::NotNeeded))
+    } else if is_excluded(name) {
+        Named::Excluded
+    } else {
+        Named::Unknown
     }
 }
 

@@ -4,6 +4,7 @@ ghost use Rattle.std.specs.Prelude.{◌≡◌, Some, None};
 ghost use Rattle.gn_meaning.specs.Rules.{rule_of, template_rule, takes, without_block, with_block};
 
 use crate::function::{Changing, Function, Opening, Plain};
+use gn_calls_text::TextCall;
 
 /// Where a function may be called.
 #[derive(Clone, Copy, Debug, PartialEq, Eq)]
@@ -65,6 +66,12 @@ impl Function {
         match self {
             Function::Plain(Plain::Assert) => without_block(1, Some(2)),
             Function::Plain(Plain::Print) => without_block(1, None),
+            Function::Plain(Plain::Text(TextCall::FilterExclude)) => without_block(2, Some(2)),
+            Function::Plain(Plain::Text(TextCall::FilterInclude)) => without_block(2, Some(2)),
+            Function::Plain(Plain::Text(TextCall::SplitList)) => without_block(2, Some(2)),
+            Function::Plain(Plain::Text(TextCall::StringJoin)) => without_block(2, Some(2)),
+            Function::Plain(Plain::Text(TextCall::StringReplace)) => without_block(3, Some(4)),
+            Function::Plain(Plain::Text(TextCall::StringSplit)) => without_block(1, Some(2)),
             Function::Changing(Changing::Import) => Rule {
                 least: 1,
                 most: Some(1),

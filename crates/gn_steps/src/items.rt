@@ -3,10 +3,10 @@
 ghost use Rattle.std.specs.Prelude.{◌≡◌, true, [], ◌∷◌, None, IfOk, IfErr, Ok, Err, option_map};
 ghost use Rattle.gn_items.specs.Effects.{Effects, with_item};
 ghost use Rattle.gn_values.specs.View.{val_of};
-ghost use Rattle.gn_environment.specs.Environment.{in_item};
+ghost use Rattle.gn_environment.specs.Environment.{with_open};
 ghost use Rattle.gn_environment.specs.Faults.{fault_in};
 ghost use Rattle.gn_meaning.specs.Calls.{scope_begun_runs, item_runs, item_end_runs};
-ghost use Rattle.gn_meaning.specs.Templates.{is_build_file, allows_items};
+ghost use Rattle.gn_meaning.specs.Templates.{is_inside, is_build_file, allows_items};
 ghost use Rattle.gn_meaning.specs.Items.{defined, label_text};
 ghost use Rattle.gn_steps.specs.Ends.{IsFault, IfFault, IsStep};
 
@@ -14,6 +14,7 @@ use crate::definer::{DefineError, Definer};
 use crate::faults::{no_effect, wrong_with};
 use crate::step::StepEnd;
 use gn_env::{Env, GiveError};
+use gn_environment::OpenBlock;
 use gn_faults::{Code, FileKind};
 use gn_items::{Item, ItemKind, Outcome};
 use gn_labels::Label;
@@ -52,9 +53,9 @@ pub(crate) fn begin_item(
     position: Position,
     env: &mut Env,
 ) -> Result<(), StepEnd>
-    ensures runs { (out : Effects) → IsStep (λ u. u) result env.new out (scope_begun_runs kind.now name.now position (in_item true env.old) out) }
+    ensures runs { (out : Effects) → IsStep (λ u. u) result env.new out (scope_begun_runs kind.now name.now position (with_open OpenBlock.Item env.old) out) }
 {
-    env.set_in_item(true);
+    env.set_open_block(OpenBlock::Item);
     begin_scope(alloc, kind, name, position, env)
 }
 
@@ -62,7 +63,13 @@ pub(crate) fn begin_item(
 pub(crate) fn allows_items(env: &Env) -> bool
     ensures { result ≡ allows_items env.now }
 {
-    !env.in_item() && is_build_file(env.kind())
+    !is_inside(env.open_block()) && is_build_file(env.context().kind)
+}
+
+fn is_inside(block: OpenBlock) -> bool
+    ensures { result ≡ is_inside block }
+{
+    !matches!(block, OpenBlock::Nothing)
 }
 
 fn is_build_file(kind: FileKind) -> bool
@@ -73,9 +80,9 @@ fn is_build_file(kind: FileKind) -> bool
 
 // The end of an evaluation in which two items have the label.
 fn duplicate(alloc: Global, env: &Env, position: Position, label: &Label) -> StepEnd
-    ensures { IsFault result (fault_in env.now.setting position Code.DuplicateItem (label_text label.now ∷ [])) }
+    ensures { IsFault result (fault_in env.now.setting position Code.DuplicateItem (label_text env.now.setting label.now ∷ [])) }
 {
-    match label.print(alloc, &Text::new(alloc)) {
+    match label.print(alloc, &env.context().default_toolchain) {
         Ok(text) => wrong_with(alloc, env, Code::DuplicateItem, position, &text),
         Err(_) => StepEnd::Memory,
     }
@@ -119,7 +126,7 @@ fn close_item(
         return Err(no_effect(alloc, env, at, unread));
     }
     env.leave();
-    env.set_in_item(false);
+    env.set_open_block(OpenBlock::Nothing);
     Ok(())
 }
 

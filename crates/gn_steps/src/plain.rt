@@ -5,12 +5,14 @@ ghost use Rattle.std.specs.List.{join_by};
 ghost use Rattle.gn_values.specs.Text.{text_of};
 ghost use Rattle.gn_environment.specs.Faults.{fault_in};
 ghost use Rattle.gn_values.specs.View.{val_of};
-ghost use Rattle.gn_meaning.specs.PlainCalls.{refuses, wrong_type, assert_answer, line_of, answer, refused_position, settled_runs, plain_runs};
+ghost use Rattle.gn_calls_text.specs.Calls.{text_call};
+ghost use Rattle.gn_meaning.specs.PlainCalls.{refuses, wrong_type, assert_answer, line_of, refusal, settled_of, answer, refused_position, settled_runs, plain_runs};
 ghost use Rattle.gn_steps.specs.Ends.{IsFault, IsStep};
 ghost use Rattle.gn_steps.specs.Answers.{settled_view};
 
-use crate::arguments::argument_position;
+use crate::arguments::{argument_position, refuse};
 use crate::step::StepEnd;
+use gn_calls_text::{CallError, TextCall, call_text};
 use gn_env::Env;
 use gn_faults::Code;
 use gn_items::Outcome;
@@ -30,11 +32,13 @@ pub(crate) enum Settled {
     /// A line that is printed.
     Line(Text),
     /// A refusal with its code and details, at the argument of this number, counted from 0, or at the name of the call.
-    Refused(Code, Option<usize>, Texts),
+    Refused(Code, Option<u32>, Texts),
+    /// A refusal of values that the call doesn't take, as of a wrong number of arguments.
+    RefusedValues,
 }
 
 // An argument of a wrong type.
-fn wrong_type(alloc: Global, argument: usize) -> Settled
+fn wrong_type(alloc: Global, argument: u32) -> Settled
     ensures { settled_view result ≡ wrong_type argument }
 {
     Settled::Refused(Code::BadTypes, Some(argument), Texts::new(alloc))
@@ -95,6 +99,27 @@ fn print_texts(alloc: Global, first: &Value, rest: &[Value]) -> Result<Text, All
     Ok(line)
 }
 
+// What a call on texts and lists refuses.
+fn refusal(alloc: Global, code: Code, argument: Option<u32>) -> Settled
+    ensures { settled_view result ≡ refusal code argument }
+{
+    match code {
+        Code::BadArguments => Settled::RefusedValues,
+        _ => Settled::Refused(code, argument, Texts::new(alloc)),
+    }
+}
+
+// What a call on texts and lists answers to these values.
+fn answer_text(alloc: Global, call: TextCall, values: &[Value]) -> Result<Settled, AllocError>
+    ensures { IfOk result (λ s. settled_view s ≡ settled_of (text_call call (map val_of values.now))) }
+{
+    match call_text(alloc, call, values) {
+        Ok(value) => Ok(Settled::Value(value)),
+        Err(CallError::Refused { code, argument }) => Ok(refusal(alloc, code, argument)),
+        Err(CallError::Memory) => Err(AllocError),
+    }
+}
+
 // What the call answers to these values.
 #[tactic(auto, unfolding(gn_meaning::specs::PlainCalls::answer))]
 fn answer_plain(alloc: Global, plain: Plain, values: &[Value]) -> Result<Settled, AllocError>
@@ -103,15 +128,16 @@ fn answer_plain(alloc: Global, plain: Plain, values: &[Value]) -> Result<Settled
     match plain {
         Plain::Assert => answer_assert(alloc, values),
         Plain::Print => Ok(Settled::Line(print_line(alloc, values)?)),
+        Plain::Text(call) => answer_text(alloc, call, values),
     }
 }
 
 // Where a refusal stands.
-fn refused_position(argument: Option<usize>, call: &Call) -> Position
+fn refused_position(argument: Option<u32>, call: &Call) -> Position
     ensures { result ≡ refused_position argument call.now }
 {
     match argument {
-        Some(number) => argument_position(call, number),
+        Some(number) => argument_position(call, number as usize),
         None => call.position,
     }
 }
@@ -120,7 +146,7 @@ fn refused_position(argument: Option<usize>, call: &Call) -> Position
 fn refused(
     alloc: Global,
     code: Code,
-    argument: Option<usize>,
+    argument: Option<u32>,
     details: Texts,
     call: &Call,
     env: &Env,
@@ -154,6 +180,7 @@ fn settle(
         Settled::Refused(code, argument, details) => {
             Err(refused(alloc, code, argument, details, call, env))
         }
+        Settled::RefusedValues => Err(refuse(alloc, call, env)),
     }
 }
 

@@ -8,12 +8,12 @@ ghost use Rattle.gn_env.specs.Origins.{origin_of};
 ghost use Rattle.gn_environment.specs.Faults.{fault_in};
 ghost use Rattle.gn_meaning.specs.Steps.{Steps};
 ghost use Rattle.gn_meaning.specs.ChangingCalls.{source_and_rest, forwarding_runs, unneeded_runs};
-ghost use Rattle.gn_meaning.specs.Selections.{strings_of, selection_of, excepted_runs, selected_runs, origin_forwarded_runs, forwarded_runs, unneeded_here_runs, unneeded_at_invoker_runs, unneeded_in_value_runs, unneeded_one_runs, unneeded_two_runs, unneeded_three_runs};
+ghost use Rattle.gn_meaning.specs.Selections.{strings_of, selection_of, excepted_runs, selected_runs, names_forwarded_runs, outer_invoker_runs, outer_invoker_forwarded_runs, invoker_forwarded_runs, listed_forwarded_runs, origin_forwarded_runs, forwarded_runs, unneeded_here_runs, unneeded_at_invoker_runs, unneeded_in_value_runs, unneeded_one_runs, unneeded_two_runs, unneeded_three_runs};
 ghost use Rattle.gn_steps.specs.Ends.{IsStep};
 ghost use Rattle.gn_steps.specs.Selected.{all_texts, source_view, selection_view, IsExcepted, IsSelected, IsForwardRefusal};
 
 use crate::arguments::{argument_position, refuse};
-use crate::faults::{wrong, wrong_with};
+use crate::faults::{refused, wrong, wrong_with};
 use crate::step::StepEnd;
 use gn_env::{Env, ForwardError, Origin};
 use gn_faults::Code;
@@ -141,6 +141,86 @@ fn not_forwarded(alloc: Global, error: ForwardError, position: Position, env: &E
     }
 }
 
+// Forwards these names, but for the excepted ones.
+fn forward_names(
+    alloc: Global,
+    origin: Origin<'_>,
+    names: &Texts,
+    except: &Texts,
+    position: Position,
+    env: &mut Env,
+) -> Result<Option<Value>, StepEnd>
+    ensures { (out : Effects) → IsStep (option_map val_of) result env.new out (names_forwarded_runs (origin_of origin.entry) names.now except.now position env.old out) }
+{
+    match env.forward_names(alloc, origin, names, except) {
+        Ok(()) => Ok(None),
+        Err(error) => Err(not_forwarded(alloc, error, position, env)),
+    }
+}
+
+// The invoker around the call as a value; all its names count as read.
+#[tactic(auto, unfolding(gn_meaning::specs::Selections::outer_invoker_runs))]
+fn read_outer_invoker(alloc: Global, position: Position, env: &mut Env) -> Result<Value, StepEnd>
+    ensures { (out : Effects) → IsStep val_of result env.new out (outer_invoker_runs position env.old out) }
+{
+    match env.outer_invoker_value(alloc) {
+        Ok(value) => {
+            env.read_outer_invoker();
+            Ok(value)
+        }
+        Err(error) => Err(refused(alloc, env, error, position)),
+    }
+}
+
+// Forwards names of the invoker, where the invoker around the call is one of them.
+fn forward_with_outer_invoker(
+    alloc: Global,
+    names: &Texts,
+    except: &Texts,
+    position: Position,
+    env: &mut Env,
+) -> Result<Option<Value>, StepEnd>
+    ensures { (out : Effects) → IsStep (option_map val_of) result env.new out (outer_invoker_forwarded_runs names.now except.now position env.old out) }
+{
+    let outer = read_outer_invoker(alloc, position, env)?;
+    let origin = Origin::Invoker(Some(&outer));
+    forward_names(alloc, origin, names, except, position, env)
+}
+
+// Forwards names of the invoker.
+fn forward_from_invoker(
+    alloc: Global,
+    names: &Texts,
+    except: &Texts,
+    position: Position,
+    env: &mut Env,
+) -> Result<Option<Value>, StepEnd>
+    ensures { (out : Effects) → IsStep (option_map val_of) result env.new out (invoker_forwarded_runs names.now except.now position env.old out) }
+{
+    if env.forwards_outer_invoker(names, except) {
+        forward_with_outer_invoker(alloc, names, except, position, env)
+    } else {
+        forward_names(alloc, Origin::Invoker(None), names, except, position, env)
+    }
+}
+
+// Forwards names of a list.
+fn forward_listed(
+    alloc: Global,
+    origin: Origin<'_>,
+    names: &Texts,
+    except: &Texts,
+    position: Position,
+    env: &mut Env,
+) -> Result<Option<Value>, StepEnd>
+    ensures { (out : Effects) → IsStep (option_map val_of) result env.new out (listed_forwarded_runs (origin_of origin.entry) names.now except.now position env.old out) }
+{
+    match origin {
+        Origin::Entries(_) => forward_names(alloc, origin, names, except, position, env),
+        Origin::Invoker(_) => forward_from_invoker(alloc, names, except, position, env),
+    }
+}
+
 // Forwards the names that are selected.
 fn forward_selected(
     alloc: Global,
@@ -160,18 +240,16 @@ fn forward_selected(
             Ok(None)
         }
         Selected::Listed(names, except) => {
-            match env.forward_names(alloc, origin, &names, &except) {
-                Ok(()) => Ok(None),
-                Err(error) => Err(not_forwarded(alloc, error, position, env)),
-            }
+            forward_listed(alloc, origin, &names, &except, position, env)
         }
     }
 }
 
 // `forward_variables_from` of this name at the position: the source stands at `source_at`, the names at `at`, and the
 // excepted names, if there are any, at their position. What is forwarded stands in the innermost scope then. `Wrong` has
-// `BadTypes` at the argument of a wrong type, `BadArguments` at the call where a string selects no names, or `AlreadySet`
-// at the call with the first listed name that is set there.
+// `BadTypes` at the argument of a wrong type, `BadArguments` at the call where a string selects no names, `TooLong` there
+// where the invoker around the call is listed and nests too deep, or `AlreadySet` there with the first listed name that is
+// set there.
 #[tactic(auto, unfolding(gn_meaning::specs::Selections::forwarded_runs))]
 fn forward(
     alloc: Global,
@@ -188,7 +266,8 @@ fn forward(
 {
     match source {
         Source::Invoker => {
-            forward_selected(alloc, Origin::Invoker, names, last, at, position, name, env)
+            let origin = Origin::Invoker(None);
+            forward_selected(alloc, origin, names, last, at, position, name, env)
         }
         Source::Value(Value::Scope(entries)) => {
             let origin = Origin::Entries(entries);
@@ -344,8 +423,8 @@ fn source_and_rest(invoker: bool, values: &[Value]) -> Option<(Source<'_>, &[Val
 
 /// `forward_variables_from` with the values of its arguments, of which the first may be the invoker itself: what is forwarded
 /// stands in the innermost scope then. `Wrong` has `BadTypes` at the argument of a wrong type, `BadArguments` at the call where
-/// a string selects no names or for another number of values, or `AlreadySet` at the call with the first listed name that is
-/// set there.
+/// a string selects no names or for another number of values, `TooLong` there where the invoker around the call is listed and
+/// nests too deep for a scope's value, or `AlreadySet` there with the first listed name that is set in that scope.
 #[tactic(auto, unfolding(gn_meaning::specs::ChangingCalls::forwarding_runs))]
 pub fn forward_variables(
     alloc: Global,
