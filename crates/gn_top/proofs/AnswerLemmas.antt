@@ -1,5 +1,5 @@
 -- What a run over one source has said and read, of what the loading of its build has.
-use Rattle.std.proofs.Common.{◌≡◌, ℕ, ◌≤◌, List, [], ◌∷◌, ◌++◌, refl, sym, ap, ◌∙◌, subst, arith, append-nil, inl, ⊎_elim}
+use Rattle.std.proofs.Common.{◌≡◌, ℕ, List, [], ◌∷◌, ◌++◌, refl, sym, ap, ◌∙◌, subst, append-nil, inl, ⊎_elim}
 use Rattle.std.proofs.Math.Seq.{drop-append_seam}
 use Rattle.std.specs.Prelude.{Option, None, Some, Result, Ok, Err, IfOk, IsSome, true}
 use Rattle.std.specs.declared.cmp.Ordering.TheVariants.{Equal}

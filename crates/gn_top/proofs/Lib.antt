@@ -1,5 +1,4 @@
 pub mod CommandLemmas
-pub mod DefinedLemmas
 pub mod OrderLemmas
 pub mod RunLemmas
 pub mod NameLemmas

@@ -1,8 +1,9 @@
 -- The files of a tree and their executions are a project.
-use Rattle.std.proofs.Common.{◌≡◌, ℕ, List, Option, Some, None, refl, sym, ◌∙◌, ap, subst, ◌⊎◌, inl, inr}
+use Rattle.std.proofs.Common.{◌≡◌, ℕ, List, [], Option, Some, None, refl, sym, ◌∙◌, ap, subst, ◌⊎◌, inl, inr}
 use Rattle.std.specs.Prelude.{is_some}
 use Rattle.std.specs.FinMap.{get, keys, contains_key-keys}
 use Rattle.gn_outside.specs.Tree.{Content, Tree, answer_of}
+use Rattle.gn_items.specs.declared.key.When.TheVariants.{Usual}
 use Rattle.gn_runs.specs.Runs.{is_absent}
 use Rattle.gn_imports.specs.Loading.{IsOneOf, IsWrong, IsProject}
 use Rattle.gn_imports.proofs.PathOrder.{any_one}
@@ -18,7 +19,7 @@ listed tree path = by (get tree path) refl
 
 pub tree_project : (tree : Tree) → IsProject (project_of tree)
 tree_project tree = record {
-  trees = import_meaning_tree;
+  trees = import_meaning_tree Usual [];
   listed = listed tree;
-  absent = λ path a h. subst IsWrong (sym (absent_import path a h)) tt;
+  absent = λ path a h. subst IsWrong (sym (absent_import Usual [] path a h)) tt;
 }

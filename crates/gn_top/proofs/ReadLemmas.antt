@@ -12,6 +12,7 @@ use Rattle.gn_outside.specs.Lists.{AllDiffer, Each, Extends, OneOf}
 use Rattle.gn_outside.specs.Sources.{CountsFailures, plain_reads}
 use Rattle.gn_outside.proofs.SourceLemmas.{one_read, ended_by, paths-plain, stops-plain, none-plain, paths-ended, stops-ended, some-ended, plain-ended}
 use Rattle.gn_paths.specs.declared.place.Place.{Place}
+use Rattle.gn_items.specs.declared.key.When.TheVariants.{Usual}
 use Rattle.gn_runs.specs.Runs.{content_of, Content}
 use Rattle.gn_runs.proofs.TreeLaws.{tree_needs_unknown}
 use Rattle.gn_values.specs.Tables.{Table, with_name}
@@ -80,13 +81,13 @@ need_one : (tree : Tree) (store : Store) (links : List Link) → Loads tree stor
 unfolding questions build_run
 need_one tree store links loads path place h =
     one_of (contents_asked (questions tree)) path (content_one (questions tree) path
-    (need_asked (project_of tree) (load_execution root) (tree_project tree) (load_execution_tree root) (known_in store) links loads.loading.right (content_of path) place
+    (need_asked (project_of tree) (load_execution root []) (tree_project tree) (load_execution_tree root []) (known_in store) links loads.loading.right (content_of path) place
     (needs_of tree (known_in store) links (content_of path) place h)))
 
 -- and isn't known
 need_unknown : (known : Known) (links : List Link) (path : List ℕ) (place : Place) → NeedsAt known links (content_of path) place → known.contents path ≡ None
-need_unknown known [] path place h = (tree_needs_unknown (load_execution root) (load_execution_tree root) (answers_of known) (content_of path) place h).0
-need_unknown known (l ∷ ls) path place h = (tree_needs_unknown (import_execution l.path) (import_execution_tree l.path) (answers_of known) (content_of path) place h).0
+need_unknown known [] path place h = (tree_needs_unknown (load_execution root []) (load_execution_tree root []) (answers_of known) (content_of path) place h).0
+need_unknown known (l ∷ ls) path place h = (tree_needs_unknown (import_execution Usual [] l.path) (import_execution_tree Usual [] l.path) (answers_of known) (content_of path) place h).0
 
 -- the last read of a source that has read this
 last_read : (before now : Option (List SourceRead)) (reads : List SourceRead) (read : SourceRead) → Extends before now (reads ++ read ∷ []) → IsSome before → (all earlier : List SourceRead) × (before ≡ Some all) × (now ≡ Some (all ++ earlier ++ read ∷ []))

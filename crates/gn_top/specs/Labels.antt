@@ -8,7 +8,7 @@ use Rattle.std.specs.FinMap.{from_entries, keys}
 use Rattle.gn_labels.specs.declared.label.Label.{Label}
 use Rattle.gn_labels.specs.Labels.{order_key}
 use Rattle.gn_items.specs.declared.item.Item.{Item}
-use Rattle.gn_meaning.specs.Items.{label_text}
+use Rattle.gn_labels.specs.Labels.{printed}
 use Rattle.gn_top.specs.Texts.{line}
 
 -- label order: by directory, then name, then toolchain, of which the default one, the empty text, is first
@@ -29,7 +29,7 @@ labels_of items = map (λ (item : Item). item.label) items
 
 -- a label and a newline
 abbrev pub label_line : Label → List ℕ
-label_line label = line (label_text label)
+label_line label = line (printed [] label)
 
 -- the labels of items, one a line, in label order
 unfoldable pub listing : List Item → List ℕ

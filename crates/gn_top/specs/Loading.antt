@@ -6,6 +6,7 @@ use Rattle.gn_faults.specs.declared.code.Code.TheVariants as code
 use Rattle.gn_faults.specs.declared.fault.Fault.{Fault}
 use Rattle.gn_faults.specs.declared.stage.Stage.TheVariants.{Loading}
 use Rattle.gn_items.specs.Effects.{Effects, no_effects}
+use Rattle.gn_items.specs.declared.key.When.TheVariants.{Usual}
 use Rattle.gn_runs.specs.Runs.{Question, Content, has_bytes, is_absent, is_too_big, End, ended, wrong, spoiled, needs, Run}
 use Rattle.gn_imports.specs.Rounds.{Project, final}
 use Rattle.gn_imports.specs.Causes.{cause}
@@ -21,11 +22,11 @@ content_in TooBig = is_too_big
 
 -- the files of a tree and their executions
 abbrev pub project_of : Tree → Project
-project_of tree = record { content = λ path. content_in (read_of tree path); paths = keys tree; execute = import_meaning }
+project_of tree = record { content = λ path. content_in (read_of tree path); paths = keys tree; execute = import_meaning Usual [] }
 
 -- the run of the build file of the source root, over all answers
 unfoldable pub build_run : Tree → Run (Left (Unit {0}))
-build_run tree = load_execution (codes "//") (final (project_of tree))
+build_run tree = load_execution (codes "//") [] (final (project_of tree))
 
 -- all that it asks, directly or through imports
 unfoldable pub questions : Tree → List Question
@@ -47,7 +48,7 @@ effects_of (spoiled path place) = no_effects
 effects_of (needs question place) = no_effects
 
 abbrev pub import_effects : Tree → List ℕ → Effects
-import_effects tree path = effects_of (import_execution path (final (project_of tree))).end
+import_effects tree path = effects_of (import_execution Usual [] path (final (project_of tree))).end
 
 -- what a build leaves: what each import of it leaves, in the order of their paths, and then the build file
 pub record Build : Type 0 where

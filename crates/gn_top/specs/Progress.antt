@@ -66,7 +66,7 @@ IsEnding known (unit.Spoiled path place asked) ending = (fault : Fault) × (know
 -- what is known of a tree is right, and was asked for; each import that is kept has left what it leaves over all answers, no more paths have been
 -- read than a build may ask for, and both are kept in the order of paths
 pub record Loads (tree : Tree) (store : Store) (links : List Link) : Type 0 where
-  pub loading : IsLoading (project_of tree) (load_execution root) (known_in store) links
+  pub loading : IsLoading (project_of tree) (load_execution root []) (known_in store) links
   pub effects : Each (λ e. import_effects tree e.0 ≡ effects_view e.1) store.imports.entries
   pub few : length (keys_of store.contents.entries) ≤ max_paths
   pub contents_sorted : IsSortedByPath store.contents.entries
@@ -108,8 +108,8 @@ IsStep before now store links (Err Memory) = (now.faults ≡ before.faults) × R
 
 -- the next execution over what is known needs this answer, for a call at this place
 abbrev pub NeedsAt : Known → List Link → Question → Place → Type 0
-NeedsAt known [] question place = (load_execution root (answers_of known)).end ≡ needs question place
-NeedsAt known (l ∷ ls) question place = (import_execution l.path (answers_of known)).end ≡ needs question place
+NeedsAt known [] question place = (load_execution root [] (answers_of known)).end ≡ needs question place
+NeedsAt known (l ∷ ls) question place = (import_execution Usual [] l.path (answers_of known)).end ≡ needs question place
 
 abbrev pub NeedsAnswer : Store → List Link → Question → Type 0
 NeedsAnswer store links question = (place : Place) × NeedsAt (known_in store) links question place

@@ -1,7 +1,6 @@
 // The labels of items, as they are listed.
 
-ghost use Rattle.std.specs.Prelude.{◌≡◌, ◌++◌, OnOk, IfOk, map};
-ghost use Rattle.std.specs.List.{flat_map};
+ghost use Rattle.std.specs.Prelude.{◌≡◌, ◌++◌, OnOk, IfOk};
 ghost use Rattle.gn_top.specs.Labels.{in_label_order, labels_of, label_line, listing};
 
 use gn_items::Item;

@@ -3,7 +3,7 @@
 
 mod answer;
 mod answered;
-mod groups;
+mod defining;
 mod host;
 mod labels;
 mod library;

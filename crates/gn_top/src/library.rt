@@ -1,6 +1,6 @@
 // The library over a store: it answers what has been read and kept, and notes what it lacks.
 
-use crate::groups::group;
+use crate::defining::define_item;
 use crate::store::{FileContent, Kept, Store};
 use gn_env::Env;
 use gn_eval::{DefineError, Definer, Found, Imported, LibStop, Library};
@@ -135,8 +135,6 @@ impl Definer for Told<'_> {
         env: &mut Env,
         position: Position,
     ) -> Result<Item, DefineError> {
-        match kind {
-            ItemKind::Group => group(alloc, name, env, position),
-        }
+        define_item(alloc, kind, name, env, position)
     }
 }

@@ -1,11 +1,12 @@
 -- An execution is a tree of questions, and one of a path at which there is no file is wrong at once.
-use Rattle.std.proofs.Common.{◌≡◌, ℕ, List, Option, Some, Result, Ok, Err, ap, refl}
+use Rattle.std.proofs.Common.{◌≡◌, ℕ, List, Some, Result, Ok, Err, ap, refl}
 use Rattle.gn_tree.specs.Tree.{BlockTree}
 use Rattle.gn_grammar.specs.declared.fault.SyntaxFault.{SyntaxFault}
 use Rattle.gn_faults.specs.declared.code.Code.TheVariants as code
 use Rattle.gn_faults.specs.declared.fault.Fault.{Fault}
 use Rattle.gn_faults.specs.declared.file_kind.FileKind.TheVariants.{Import}
 use Rattle.gn_items.specs.Effects.{no_effects, with_asked}
+use Rattle.gn_items.specs.declared.key.When.{When}
 use Rattle.gn_runs.specs.Runs.{content_of, Content, has_bytes, is_absent, is_too_big, Answers, End, wrong, Run, IsTree, after, followed, leaves}
 use Rattle.gn_runs.proofs.Trees.{tree_then, tree_leaves}
 use Rattle.gn_environment.specs.Environment.{new_environment}
@@ -31,28 +32,29 @@ tree_runs_tree env out =
     tree_asks_content env.setting.file (own_place env.setting.file) out _ (λ y. content_tree y env (with_asked (content_of env.setting.file) out))
 
 -- the execution of an import is a tree of questions
-pub import_execution_tree : (path : List ℕ) → IsTree (import_execution path)
+pub import_execution_tree : (when : When) (toolchain path : List ℕ) → IsTree (import_execution when toolchain path)
 unfolding import_runs
-import_execution_tree path =
-    whole_tree _ (tree_do _ _ (tree_runs_tree (import_begins path) no_effects) (λ tree env1 out1. import_file_tree tree env1 out1))
+import_execution_tree when toolchain path =
+    whole_tree _ (tree_do _ _ (tree_runs_tree (import_begins when toolchain path) no_effects) (λ tree env1 out1. import_file_tree tree env1 out1))
 
-pub import_meaning_tree : (path : List ℕ) → IsTree (import_meaning path)
-import_meaning_tree path = tree_then (import_execution path) (λ a l. leaves l.value) (import_execution_tree path) (λ l. tree_leaves l.value)
+pub import_meaning_tree : (when : When) (toolchain path : List ℕ) → IsTree (import_meaning when toolchain path)
+import_meaning_tree when toolchain path =
+    tree_then (import_execution when toolchain path) (λ a l. leaves l.value) (import_execution_tree when toolchain path) (λ l. tree_leaves l.value)
 
 -- the execution of a build file is one
-pub load_execution_tree : (directory : List ℕ) → IsTree (load_execution directory)
+pub load_execution_tree : (directory toolchain : List ℕ) → IsTree (load_execution directory toolchain)
 unfolding load_runs
-load_execution_tree directory =
-    whole_tree _ (tree_do _ _ (tree_runs_tree (load_begins (build_file_of directory)) no_effects) (λ tree env1 out1. file_tree tree env1 out1))
+load_execution_tree directory toolchain =
+    whole_tree _ (tree_do _ _ (tree_runs_tree (load_begins directory toolchain (build_file_of directory)) no_effects) (λ tree env1 out1. file_tree tree env1 out1))
 
 wrong_after : {A B : Type 0} (run : Run A) (next : A → Run B) (fault : Fault) → run.end ≡ wrong fault → (followed run next).end ≡ wrong fault
 wrong_after {A} {B} run next fault h = ap (λ (e : End A). (after {B = B} e run.asked next).end) h
 
-absent_execution : (path : List ℕ) (a : Answers) → a.contents path ≡ Some is_absent → (import_execution path a).end ≡ wrong (whole_file_fault (setting_of Import path) code.NoFile)
+absent_execution : (when : When) (toolchain path : List ℕ) (a : Answers) → a.contents path ≡ Some is_absent → (import_execution when toolchain path a).end ≡ wrong (whole_file_fault (setting_of Import toolchain path) code.NoFile)
 unfolding import_runs tree_runs new_environment import_file_runs
-absent_execution path a h = rw h refl
+absent_execution when toolchain path a h = rw h refl
 
 -- where there is no file, importing it is wrong
-pub absent_import : (path : List ℕ) (a : Answers) → a.contents path ≡ Some is_absent → (import_meaning path a).end ≡ wrong (whole_file_fault (setting_of Import path) code.NoFile)
-absent_import path a h =
-    wrong_after (import_execution path a) (λ l. leaves l.value) (whole_file_fault (setting_of Import path) code.NoFile) (absent_execution path a h)
+pub absent_import : (when : When) (toolchain path : List ℕ) (a : Answers) → a.contents path ≡ Some is_absent → (import_meaning when toolchain path a).end ≡ wrong (whole_file_fault (setting_of Import toolchain path) code.NoFile)
+absent_import when toolchain path a h =
+    wrong_after (import_execution when toolchain path a) (λ l. leaves l.value) (whole_file_fault (setting_of Import toolchain path) code.NoFile) (absent_execution when toolchain path a h)

@@ -1,5 +1,5 @@
 -- What is done with the tree of a file is done behind its reading.
-use Rattle.std.proofs.Common.{◌≡◌, ℕ, List, Option, Some, None, Result, Ok, Err, IsErrAnd, refl, sym, ◌∙◌, ap, subst, arith}
+use Rattle.std.proofs.Common.{◌≡◌, ℕ, List, Option, Some, Result, Ok, Err, IsErrAnd, refl, sym, ◌∙◌, ap, subst, arith}
 use Rattle.gn_tree.specs.Tree.{BlockTree}
 use Rattle.gn_faults.specs.declared.code.Code.{Code}
 use Rattle.gn_faults.specs.declared.code.Code.TheVariants as code
@@ -7,6 +7,7 @@ use Rattle.gn_faults.specs.declared.fault.Fault.{Fault}
 use Rattle.gn_faults.specs.declared.file_kind.FileKind.{FileKind}
 use Rattle.gn_faults.specs.declared.file_kind.FileKind.TheVariants.{BuildFile, Import}
 use Rattle.gn_items.specs.Effects.{Effects, no_effects, with_asked}
+use Rattle.gn_items.specs.declared.key.When.{When}
 use Rattle.gn_runs.specs.Runs.{content_of, Content, Answers, Run}
 use Rattle.gn_environment.specs.Environment.{Setting, Environment, new_environment}
 use Rattle.gn_meaning.specs.Steps.{Left, ends, breaks, then_do, content_asked}
@@ -29,13 +30,13 @@ content_found path a Absent h = h
 content_found path a TooBig h = h
 
 -- where the execution of a file begins
-pub import_set : (path : List ℕ) → (import_begins path).setting ≡ setting_of Import path
+pub import_set : (when : When) (toolchain path : List ℕ) → (import_begins when toolchain path).setting ≡ setting_of Import toolchain path
 unfolding new_environment
-import_set path = refl
+import_set when toolchain path = refl
 
-pub load_set : (path : List ℕ) → (load_begins path).setting ≡ setting_of BuildFile path
+pub load_set : (directory toolchain path : List ℕ) → (load_begins directory toolchain path).setting ≡ setting_of BuildFile toolchain path
 unfolding new_environment
-load_set path = refl
+load_set directory toolchain path = refl
 
 -- the content of a file is read
 pub bytes_run : {T : Type 0} (view : T → BlockTree) (need : Need) (result : Result T EvalEnd) (env : Environment) (out : Effects) (found : Found) (bytes read : List ℕ) → found ≡ Bytes bytes → read ≡ bytes → IsRun view need result env out (reading_runs read (reading read) env out) → IsRun view need result env out (content_runs (content_view found) env out)
@@ -44,17 +45,17 @@ bytes_run view need result env out found bytes read h same done =
     (subst (λ (b : List ℕ). IsRun view need result env out (reading_runs b (reading b) env out)) same done)
 
 -- a file that isn't there, and one above the limit
-module _ (env : Environment) (out : Effects) (kind : FileKind) (path : List ℕ) (is : env.setting ≡ setting_of kind path) (found : Found) (fault : Fault) where
-  whole_file_breaks : (c : Code) → fault ≡ whole_file_fault (setting_of kind path) c → breaks {A = BlockTree} (whole_file_fault env.setting c) out ≡ breaks fault out
+module _ (env : Environment) (out : Effects) (kind : FileKind) (toolchain path : List ℕ) (is : env.setting ≡ setting_of kind toolchain path) (found : Found) (fault : Fault) where
+  whole_file_breaks : (c : Code) → fault ≡ whole_file_fault (setting_of kind toolchain path) c → breaks {A = BlockTree} (whole_file_fault env.setting c) out ≡ breaks fault out
   whole_file_breaks c e = ap (λ (s : Setting). breaks {A = BlockTree} (whole_file_fault s c) out) is ∙ ap (λ (f : Fault). breaks {A = BlockTree} f out) (sym e)
 
-  pub absent_breaks : found ≡ Absent → fault ≡ whole_file_fault (setting_of kind path) code.NoFile → content_runs (content_view found) env out ≡ breaks fault out
+  pub absent_breaks : found ≡ Absent → fault ≡ whole_file_fault (setting_of kind toolchain path) code.NoFile → content_runs (content_view found) env out ≡ breaks fault out
   absent_breaks h e = ap (λ (f : Found). content_runs (content_view f) env out) h ∙ whole_file_breaks code.NoFile e
 
-  pub too_big_breaks : found ≡ TooBig → fault ≡ whole_file_fault (setting_of kind path) code.FileTooBig → content_runs (content_view found) env out ≡ breaks fault out
+  pub too_big_breaks : found ≡ TooBig → fault ≡ whole_file_fault (setting_of kind toolchain path) code.FileTooBig → content_runs (content_view found) env out ≡ breaks fault out
   too_big_breaks h e = ap (λ (f : Found). content_runs (content_view f) env out) h ∙ whole_file_breaks code.FileTooBig e
 
-module _ (kind : FileKind) (path : List ℕ) (a : Answers) (env : Environment) (out : Effects) (is : env.setting ≡ setting_of kind path) where
+module _ (kind : FileKind) (toolchain path : List ℕ) (a : Answers) (env : Environment) (out : Effects) (is : env.setting ≡ setting_of kind toolchain path) where
   named : env.setting.file ≡ path
   named = ap (λ (s : Setting). s.file) is
 
@@ -90,8 +91,8 @@ goes_on_further s t u first second = record {
 }
 
 -- how a build file ends that has run
-pub load_ended : (directory : List ℕ) (a : Answers) (before after : Effects) → before ≡ no_effects → HasLeft tt after (load_runs directory a before) → EndsWith tt after (load_execution directory a).end
-load_ended directory a before after same left = (left.0, ap (λ (o : Effects). (load_runs directory a o).end) (sym same) ∙ ap (λ (r : Run (Left (Unit {0}))). r.end) left.1)
+pub load_ended : (directory toolchain : List ℕ) (a : Answers) (before after : Effects) → before ≡ no_effects → HasLeft tt after (load_runs directory toolchain a before) → EndsWith tt after (load_execution directory toolchain a).end
+load_ended directory toolchain a before after same left = (left.0, ap (λ (o : Effects). (load_runs directory toolchain a o).end) (sym same) ∙ ap (λ (r : Run (Left (Unit {0}))). r.end) left.1)
 
 module _ {A : Type 0} (next : BlockTree → Environment → Effects → Run (Left A)) (need : Need) where
   -- where the tree of a file has been read, its execution is what is done with the tree

@@ -1,3 +1,4 @@
+pub mod BuildFiles
 pub mod Readings
 pub mod Executions
 pub mod ExecutionTrees

@@ -12,8 +12,8 @@ use Rattle.gn_unit.specs.Faults.{syntax_fault}
 use Rattle.gn_unit.specs.Units.{setting_of, reading_runs}
 
 -- where bytes are read as this error, their run breaks with its fault
-pub refused_run : (bytes path : List ℕ) (found : Option SyntaxFault) (read : Result BlockTree SyntaxFault) (fault : Fault) → MatchOption found ⊤ (λ error. read ≡ Err error) →
-    MatchOption found ⊥ (λ error. (kind : FileKind) → fault ≡ syntax_fault (setting_of kind path) bytes error) →
-    (kind : FileKind) (env : Environment) (out : Effects) → env.setting ≡ setting_of kind path → reading_runs bytes read env out ≡ breaks fault out
-refused_run bytes path (Some error) read fault h f kind env out is = rw (h, is, f kind) refl
-refused_run bytes path None read fault h f kind env out is = absurd f
+pub refused_run : (bytes toolchain path : List ℕ) (found : Option SyntaxFault) (read : Result BlockTree SyntaxFault) (fault : Fault) → MatchOption found ⊤ (λ error. read ≡ Err error) →
+    MatchOption found ⊥ (λ error. (kind : FileKind) → fault ≡ syntax_fault (setting_of kind toolchain path) bytes error) →
+    (kind : FileKind) (env : Environment) (out : Effects) → env.setting ≡ setting_of kind toolchain path → reading_runs bytes read env out ≡ breaks fault out
+refused_run bytes toolchain path (Some error) read fault h f kind env out is = rw (h, is, f kind) refl
+refused_run bytes toolchain path None read fault h f kind env out is = absurd f

@@ -1,9 +1,9 @@
 -- How what is answered for a whole file stands to its execution.
-use Rattle.std.specs.Prelude.{◌≡◌, List, ℕ, map}
+use Rattle.std.specs.Prelude.{◌≡◌, List, map}
 use Rattle.gn_values.specs.Imported.{ImportState}
 use Rattle.gn_items.specs.Effects.{Effects}
 use Rattle.gn_items.specs.declared.key.Key.{Key}
-use Rattle.gn_items.specs.declared.key.Key.TheVariants.{Read, Import as ImportKey, Load as LoadKey}
+use Rattle.gn_items.specs.declared.key.Key.TheVariants.{Import as ImportKey, Load as LoadKey}
 use Rattle.gn_items.specs.Questions.{question_of}
 use Rattle.gn_runs.specs.Runs.{Question, Answers, End, ended, wrong, spoiled, needs}
 use Rattle.gn_environment.specs.Environment.{Environment}
@@ -17,11 +17,11 @@ use Rattle.gn_unit.specs.declared.unit.Unit.TheVariants.{Load, Import, Wrong, Sp
 abbrev pub EndsWith : {A : Type 0} → A → Effects → End (Left A) → Type 0
 EndsWith value effects end = (environment : Environment) × (end ≡ ended (record { value = value; environment = environment; effects = effects }))
 
--- a key that names an execution
+-- a key that names the execution of a build file or of one that is imported
 abbrev pub IsExecuted : Key → Type 0
-IsExecuted (Read path) = ⊥
 IsExecuted (ImportKey when toolchain path) = Unit {0}
 IsExecuted (LoadKey directory toolchain) = Unit {0}
+IsExecuted _ = ⊥
 
 -- what is answered for a key is how its execution over these answers ends
 abbrev pub IsLoadOf : Evaluated → End (Left (Unit {0})) → Type 0
@@ -37,18 +37,18 @@ IsImportOf (Wrong fault asked) end = end ≡ wrong fault
 IsImportOf (Spoiled path place asked) end = end ≡ spoiled path place
 
 abbrev pub IsUnitOf : Key → Evaluated → Answers → Type 0
-IsUnitOf (Read path) unit answers = ⊥
-IsUnitOf (ImportKey when toolchain path) unit answers = IsImportOf unit (import_execution path answers).end
-IsUnitOf (LoadKey directory toolchain) unit answers = IsLoadOf unit (load_execution directory answers).end
+IsUnitOf (ImportKey when toolchain path) unit answers = IsImportOf unit (import_execution when toolchain path answers).end
+IsUnitOf (LoadKey directory toolchain) unit answers = IsLoadOf unit (load_execution directory toolchain answers).end
+IsUnitOf _ unit answers = ⊥
 
 -- over these answers an execution needs what was noted
 abbrev pub IsNeeded : {A : Type 0} → Need → End A → Type 0
 IsNeeded need end = end ≡ needs need.question need.place
 
 abbrev pub IsNeedOf : Key → Need → Answers → Type 0
-IsNeedOf (Read path) need answers = ⊥
-IsNeedOf (ImportKey when toolchain path) need answers = IsNeeded need (import_execution path answers).end
-IsNeedOf (LoadKey directory toolchain) need answers = IsNeeded need (load_execution directory answers).end
+IsNeedOf (ImportKey when toolchain path) need answers = IsNeeded need (import_execution when toolchain path answers).end
+IsNeedOf (LoadKey directory toolchain) need answers = IsNeeded need (load_execution directory toolchain answers).end
+IsNeedOf _ need answers = ⊥
 
 -- the questions that were asked, as is answered for a key
 abbrev pub asked_of : Evaluated → List Question
@@ -59,6 +59,6 @@ asked_of (Spoiled path place asked) = map question_of asked.items
 
 -- they are those of its execution over these answers, in order
 abbrev pub HasAskedOf : Key → Evaluated → Answers → Type 0
-HasAskedOf (Read path) unit answers = ⊥
-HasAskedOf (ImportKey when toolchain path) unit answers = (import_execution path answers).asked ≡ asked_of unit
-HasAskedOf (LoadKey directory toolchain) unit answers = (load_execution directory answers).asked ≡ asked_of unit
+HasAskedOf (ImportKey when toolchain path) unit answers = (import_execution when toolchain path answers).asked ≡ asked_of unit
+HasAskedOf (LoadKey directory toolchain) unit answers = (load_execution directory toolchain answers).asked ≡ asked_of unit
+HasAskedOf _ unit answers = ⊥

@@ -2,17 +2,19 @@
 use Rattle.std.specs.Prelude.{◌≡◌, ℕ, List, Some}
 use Rattle.gn_faults.specs.declared.code.Code.TheVariants as code
 use Rattle.gn_faults.specs.declared.file_kind.FileKind.TheVariants.{Import}
+use Rattle.gn_items.specs.declared.key.When.{When}
 use Rattle.gn_runs.specs.Runs.{is_absent, Answers, wrong, IsTree}
 use Rattle.gn_unit.specs.Faults.{whole_file_fault}
 use Rattle.gn_unit.specs.Units.{setting_of, import_meaning, load_execution}
 
 -- what it does next depends on the answers that it got, and on nothing else of what is known
 abbrev pub ImportsAreTrees : Type 0
-ImportsAreTrees = (path : List ℕ) → IsTree (import_meaning path)
+ImportsAreTrees = (when : When) (toolchain path : List ℕ) → IsTree (import_meaning when toolchain path)
 
 abbrev pub LoadsAreTrees : Type 0
-LoadsAreTrees = (directory : List ℕ) → IsTree (load_execution directory)
+LoadsAreTrees = (directory toolchain : List ℕ) → IsTree (load_execution directory toolchain)
 
 -- importing a path at which there is no file is wrong at once
 abbrev pub AbsentImportsAreWrong : Type 0
-AbsentImportsAreWrong = (path : List ℕ) (a : Answers) → a.contents path ≡ Some is_absent → (import_meaning path a).end ≡ wrong (whole_file_fault (setting_of Import path) code.NoFile)
+AbsentImportsAreWrong =
+    (when : When) (toolchain path : List ℕ) (a : Answers) → a.contents path ≡ Some is_absent → (import_meaning when toolchain path a).end ≡ wrong (whole_file_fault (setting_of Import toolchain path) code.NoFile)

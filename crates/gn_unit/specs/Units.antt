@@ -1,8 +1,8 @@
 -- What the execution of a whole file means: of a build file, and of one that is imported.
-use Rattle.std.specs.Prelude.{ℕ, true, false, List, [], Result, Ok, Err, codes}
+use Rattle.std.specs.Prelude.{ℕ, true, false, List, [], ◌∷◌, ◌++◌, Result, Ok, Err, codes}
 use Rattle.gn_paths.specs.declared.place.Place.{Place}
-use Rattle.gn_paths.specs.Directory.{or_root, directory_of}
-use Rattle.gn_paths.specs.Resolve.{resolved}
+use Rattle.gn_paths.specs.Components.{top_of, components, spelled}
+use Rattle.gn_paths.specs.Directory.{directory_of}
 use Rattle.gn_tree.specs.Tree.{BlockTree}
 use Rattle.gn_values.specs.Imported.{ImportState}
 use Rattle.gn_grammar.specs.declared.fault.SyntaxFault.{SyntaxFault}
@@ -11,16 +11,24 @@ use Rattle.gn_faults.specs.declared.file_kind.FileKind.{FileKind}
 use Rattle.gn_faults.specs.declared.file_kind.FileKind.TheVariants.{BuildFile, Import}
 use Rattle.gn_faults.specs.declared.stage.Stage.TheVariants.{Loading}
 use Rattle.gn_items.specs.Effects.{Effects, no_effects}
+use Rattle.gn_items.specs.Names.{load_name, import_name}
+use Rattle.gn_items.specs.declared.key.When.{When}
 use Rattle.gn_runs.specs.Runs.{Content, has_bytes, is_absent, is_too_big, Answers, Run, followed, leaves}
+use Rattle.gn_environment.specs.declared.context.Context.{Context}
+use Rattle.gn_environment.specs.declared.context.OpenBlock.TheVariants.{Nothing}
 use Rattle.gn_environment.specs.Environment.{Setting, Environment, new_environment}
 use Rattle.gn_meaning.specs.Steps.{Left, Steps, ends, breaks, then_do, content_asked}
 use Rattle.gn_meaning.specs.Meaning.{file_runs, import_file_runs}
 use Rattle.gn_syntax.specs.Reading.{reading}
 use Rattle.gn_unit.specs.Faults.{whole_file_fault, syntax_fault}
 
--- where a file is executed: in its own directory, under the default toolchain
-abbrev pub setting_of : FileKind → List ℕ → Setting
-setting_of kind path = record { stage = Loading; toolchain = []; file = path; directory = directory_of path; kind = kind; in_item = false }
+-- as what a file is executed under a toolchain, which is the empty text for the default one
+abbrev pub context_of : FileKind → List ℕ → Context
+context_of kind toolchain = record { stage = Loading; kind = kind; toolchain = toolchain; fault_toolchain = toolchain; default_toolchain = [] }
+
+-- where a file is executed: in its own directory, outside all blocks
+abbrev pub setting_of : FileKind → List ℕ → List ℕ → Setting
+setting_of kind toolchain path = record { context = context_of kind toolchain; file = path; directory = directory_of path; inside = Nothing }
 
 -- what bytes are read as: their tree, or the first error of their syntax
 abbrev pub reading_runs : List ℕ → Result BlockTree SyntaxFault → Steps BlockTree
@@ -42,33 +50,34 @@ unfoldable pub tree_runs : Answers → Steps BlockTree
 tree_runs answers env out =
     content_asked (answers.contents env.setting.file) env.setting.file (own_place env.setting.file) out (λ content out1. content_runs content env out1)
 
--- where the execution of a file that is imported begins: one scope, which isn't checked. It is named by the file's path
-abbrev pub import_begins : List ℕ → Environment
-import_begins path = new_environment (setting_of Import path) path false []
+-- where the execution of a file begins that is imported under a toolchain, early or as usual: one scope, which isn't checked
+abbrev pub import_begins : When → List ℕ → List ℕ → Environment
+import_begins when toolchain path = new_environment (setting_of Import toolchain path) (import_name when toolchain path) false [] []
 
-unfoldable pub import_runs : List ℕ → Answers → Effects → Run (Left ImportState)
-import_runs path answers out = then_do (tree_runs answers (import_begins path) out) (λ tree env1 out1. import_file_runs answers tree env1 out1)
+unfoldable pub import_runs : When → List ℕ → List ℕ → Answers → Effects → Run (Left ImportState)
+import_runs when toolchain path answers out =
+    then_do (tree_runs answers (import_begins when toolchain path) out) (λ tree env1 out1. import_file_runs answers tree env1 out1)
 
 -- the execution of a file that is imported
-abbrev pub import_execution : List ℕ → Answers → Run (Left ImportState)
-import_execution path answers = import_runs path answers no_effects
+abbrev pub import_execution : When → List ℕ → List ℕ → Answers → Run (Left ImportState)
+import_execution when toolchain path answers = import_runs when toolchain path answers no_effects
 
 -- what it leaves for those who import it
-abbrev pub import_meaning : List ℕ → Answers → Run ImportState
-import_meaning path answers = followed (import_execution path answers) (λ l. leaves l.value)
+abbrev pub import_meaning : When → List ℕ → List ℕ → Answers → Run ImportState
+import_meaning when toolchain path answers = followed (import_execution when toolchain path answers) (λ l. leaves l.value)
 
--- the build file of a directory
+-- the build file of a directory: `BUILD.gn` behind its components
 unfoldable pub build_file_of : List ℕ → List ℕ
-build_file_of directory = or_root (resolved directory (codes "BUILD.gn"))
+build_file_of directory = spelled (top_of directory) (components directory ++ codes "BUILD.gn" ∷ []) false
 
--- where the execution of a build file begins: one scope, which is checked. No other execution sees its definitions, so it has no name
-abbrev pub load_begins : List ℕ → Environment
-load_begins path = new_environment (setting_of BuildFile path) [] true []
+-- where the execution of the build file of a directory under a toolchain begins, which stands at this path: one scope, which is checked
+abbrev pub load_begins : List ℕ → List ℕ → List ℕ → Environment
+load_begins directory toolchain path = new_environment (setting_of BuildFile toolchain path) (load_name directory toolchain) true [] []
 
-unfoldable pub load_runs : List ℕ → Answers → Effects → Run (Left (Unit {0}))
-load_runs directory answers out =
-    then_do (tree_runs answers (load_begins (build_file_of directory)) out) (λ tree env1 out1. file_runs answers tree env1 out1)
+unfoldable pub load_runs : List ℕ → List ℕ → Answers → Effects → Run (Left (Unit {0}))
+load_runs directory toolchain answers out =
+    then_do (tree_runs answers (load_begins directory toolchain (build_file_of directory)) out) (λ tree env1 out1. file_runs answers tree env1 out1)
 
--- the execution of the build file of a directory
-abbrev pub load_execution : List ℕ → Answers → Run (Left (Unit {0}))
-load_execution directory answers = load_runs directory answers no_effects
+-- the execution of the build file of a directory under a toolchain
+abbrev pub load_execution : List ℕ → List ℕ → Answers → Run (Left (Unit {0}))
+load_execution directory toolchain answers = load_runs directory toolchain answers no_effects

@@ -9,24 +9,25 @@ ghost use Rattle.gn_unit.specs.Units.{load_execution, import_execution};
 use crate::execution::{execute_import, execute_load};
 use crate::unit::{EvalStop, Unit};
 use gn_eval::{Definer, EvalEnd, Library};
-use gn_items::{Claim, Key, Outcome};
-use gn_paths::Path;
+use gn_items::{Claim, Key, Outcome, When};
+use gn_paths::{Path, Text};
 use std::alloc::Global;
 
 // The unit of a build file.
 fn load_unit<L: Library + Definer>(
     alloc: Global,
     directory: &Path,
+    toolchain: &Text,
     library: &mut L,
 ) -> Result<Unit, EvalStop>
-    ensures unit { IfOk result (λ unit. (a : Answers) → Includes (L.state library.new).told a → IsLoadOf unit (load_execution directory.now a).end) }
-    ensures asked { IfOk result (λ unit. (a : Answers) → Includes (L.state library.new).told a → (load_execution directory.now a).asked ≡ asked_of unit) }
-    ensures need { result ≡ Err EvalStop.Stopped → (a : Answers) → (L.state library.new).told ≡ Some a → IsNeeded (L.state library.new).need (load_execution directory.now a).end }
+    ensures unit { IfOk result (λ unit. (a : Answers) → Includes (L.state library.new).told a → IsLoadOf unit (load_execution directory.now toolchain.now a).end) }
+    ensures asked { IfOk result (λ unit. (a : Answers) → Includes (L.state library.new).told a → (load_execution directory.now toolchain.now a).asked ≡ asked_of unit) }
+    ensures need { result ≡ Err EvalStop.Stopped → (a : Answers) → (L.state library.new).told ≡ Some a → IsNeeded (L.state library.new).need (load_execution directory.now toolchain.now a).end }
     ensures goes { GoesOn (L.state library.old) (L.state library.new) }
     ensures rose { result ≡ Err EvalStop.Stopped → (L.state library.old).stops < (L.state library.new).stops }
 {
     let mut out = Outcome::new(alloc);
-    match execute_load(alloc, directory, &mut out, library) {
+    match execute_load(alloc, directory, toolchain, &mut out, library) {
         Ok(()) => Ok(Unit::Load(out)),
         Err(EvalEnd::Wrong(fault)) => Ok(Unit::Wrong(fault, out.into_asked())),
         Err(EvalEnd::Spoiled(path, place)) => Ok(Unit::Spoiled(path, place, out.into_asked())),
@@ -38,17 +39,19 @@ fn load_unit<L: Library + Definer>(
 // The unit of a file that is imported.
 fn import_unit<L: Library + Definer>(
     alloc: Global,
+    when: When,
+    toolchain: &Text,
     path: &Path,
     library: &mut L,
 ) -> Result<Unit, EvalStop>
-    ensures unit { IfOk result (λ unit. (a : Answers) → Includes (L.state library.new).told a → IsImportOf unit (import_execution path.now a).end) }
-    ensures asked { IfOk result (λ unit. (a : Answers) → Includes (L.state library.new).told a → (import_execution path.now a).asked ≡ asked_of unit) }
-    ensures need { result ≡ Err EvalStop.Stopped → (a : Answers) → (L.state library.new).told ≡ Some a → IsNeeded (L.state library.new).need (import_execution path.now a).end }
+    ensures unit { IfOk result (λ unit. (a : Answers) → Includes (L.state library.new).told a → IsImportOf unit (import_execution when toolchain.now path.now a).end) }
+    ensures asked { IfOk result (λ unit. (a : Answers) → Includes (L.state library.new).told a → (import_execution when toolchain.now path.now a).asked ≡ asked_of unit) }
+    ensures need { result ≡ Err EvalStop.Stopped → (a : Answers) → (L.state library.new).told ≡ Some a → IsNeeded (L.state library.new).need (import_execution when toolchain.now path.now a).end }
     ensures goes { GoesOn (L.state library.old) (L.state library.new) }
     ensures rose { result ≡ Err EvalStop.Stopped → (L.state library.old).stops < (L.state library.new).stops }
 {
     let mut out = Outcome::new(alloc);
-    match execute_import(alloc, path, &mut out, library) {
+    match execute_import(alloc, when, toolchain, path, &mut out, library) {
         Ok(value) => Ok(Unit::Import(value, out)),
         Err(EvalEnd::Wrong(fault)) => Ok(Unit::Wrong(fault, out.into_asked())),
         Err(EvalEnd::Spoiled(path, place)) => Ok(Unit::Spoiled(path, place, out.into_asked())),
@@ -71,15 +74,16 @@ fn unit_of<L: Library + Definer>(
     ensures rose { result ≡ Err EvalStop.Stopped → (L.state library.old).stops < (L.state library.new).stops }
 {
     match key {
-        Key::Load(directory, _) => load_unit(alloc, directory, library),
-        Key::Import(_, _, path) => import_unit(alloc, path, library),
-        Key::Read(_) => unreachable!(),
+        Key::Load(directory, toolchain) => load_unit(alloc, directory, toolchain, library),
+        Key::Import(when, toolchain, path) => import_unit(alloc, *when, toolchain, path, library),
+        Key::Read(_) | Key::Setup(_) | Key::Resolve(_) => unreachable!(),
     }
 }
 
-/// Executes the file that the key of a claim names, from its start, over what the library tells. The claim comes back. What
-/// is answered is how that execution ends over all answers that include those told, and what it asked. `Stopped` comes where the library
-/// lacks an answer: over just what it tells, the execution needs the one that it has noted.
+/// Executes the file that the key of a claim names, under the toolchain of the key, from its start, over what the library
+/// tells. The claim comes back. What is answered is how that execution ends over all answers that include those told, and
+/// what it asked. `Stopped` comes where the library lacks an answer: over just what it tells, the execution needs the one
+/// that it has noted.
 pub fn evaluate<L: Library + Definer>(
     alloc: Global,
     claim: Claim,

@@ -11,64 +11,83 @@ ghost use Rattle.gn_eval.specs.Library.{Need, IsWithinLimit};
 ghost use Rattle.gn_eval.specs.Ends.{IsRun, Claims, EvaluatesSpent};
 ghost use Rattle.gn_syntax.specs.Reading.{reading};
 ghost use Rattle.gn_unit.specs.Found.{content_view};
-ghost use Rattle.gn_unit.specs.Units.{setting_of, reading_runs, content_runs, own_place, tree_runs, build_file_of, import_begins, import_runs, load_begins, load_runs};
+ghost use Rattle.gn_unit.specs.Units.{context_of, setting_of, reading_runs, content_runs, own_place, tree_runs, build_file_of, import_begins, import_runs, load_begins, load_runs};
 
 use crate::faults::{syntax_fault, whole_file_fault};
 use gn_env::Env;
+use gn_environment::Context;
 use gn_eval::{Definer, EvalEnd, Found, LibStop, Library, run_file, run_import_file};
 use gn_faults::{Code, FileKind, Stage};
-use gn_items::Outcome;
+use gn_items::{Outcome, When, import_name, load_name};
 use gn_paths::{Path, PathError, Place, Text, directory, resolve};
 use gn_syntax::{Parsed, parse};
 use gn_tree::Block;
-use gn_values::ImportValue;
+use gn_values::{ImportValue, MadeBy};
 use std::alloc::{AllocError, Global};
+use std::sync::Arc;
 
 // The path of the build file of a directory.
-#[tactic(auto, unfolding(crate::specs::Units::build_file_of))]
+#[tactic(auto, using(crate::proofs::BuildFiles::build_file_resolved))]
 fn build_file(alloc: Global, directory: &Path) -> Result<Path, AllocError>
     ensures { IfOk result (λ p. p ≡ build_file_of directory.now) }
 {
     match resolve(alloc, directory, b"BUILD.gn") {
         Ok(path) => Ok(path),
         Err(PathError::Memory) => Err(AllocError),
-        Err(_) => Path::root(alloc),
+        Err(PathError::AboveRoot) => unreachable!(),
+        Err(PathError::BadPath) => unreachable!(),
     }
 }
 
-// Where the execution of the file at a path begins.
+// As what a file is executed under a toolchain, which is the empty text for the default one.
+fn context(alloc: Global, kind: FileKind, toolchain: &Text) -> Result<Arc<Context>, AllocError>
+    ensures { IfOk result (λ context. context.value ≡ context_of kind toolchain.now) }
+{
+    let named = toolchain.copy(alloc)?;
+    let context = Context {
+        stage: Stage::Loading,
+        kind,
+        toolchain: named,
+        fault_toolchain: toolchain.copy(alloc)?,
+        default_toolchain: Text::new(alloc),
+    };
+    Ok(Arc::new(alloc, context)?)
+}
+
+// Where the execution of the file at a path begins, by its name.
 fn environment(
     alloc: Global,
+    toolchain: &Text,
     path: &Path,
     kind: FileKind,
     execution: Text,
     checked: bool,
 ) -> Result<Env, AllocError>
-    ensures { IfOk result (λ env. env ≡ new_environment (setting_of kind path.now) execution checked []) }
+    ensures { IfOk result (λ env. env ≡ new_environment (setting_of kind toolchain.now path.now) execution checked [] []) }
 {
+    let context = context(alloc, kind, toolchain)?;
     Ok(Env::new(
         alloc,
-        Stage::Loading,
-        Text::new(alloc),
+        context,
         path.as_text().copy(alloc)?,
         directory(alloc, path)?,
-        kind,
         execution,
         checked,
         Vec::new(alloc),
+        MadeBy::new(alloc),
     ))
 }
 
 // What the bytes of the file at a path are read as: their tree, or the fault of their first error.
-fn parsed(alloc: Global, path: &Path, bytes: &[u8]) -> Result<Parsed, EvalEnd>
+fn parsed(alloc: Global, toolchain: &Text, path: &Path, bytes: &[u8]) -> Result<Parsed, EvalEnd>
     requires { length bytes.now ≤ 16777216 }
-    ensures tree { (kind : Kind) (env : Environment) (need : Need) (out : Effects) → env.setting ≡ setting_of kind path.now → IsRun (λ t. t) need result env out (reading_runs bytes.now (reading bytes.now) env out) }
+    ensures tree { (kind : Kind) (env : Environment) (need : Need) (out : Effects) → env.setting ≡ setting_of kind toolchain.now path.now → IsRun (λ t. t) need result env out (reading_runs bytes.now (reading bytes.now) env out) }
     ensures reads { result ≢ Err EvalEnd.Stopped }
     ensures shallow { IfOk result (λ tree. IsShallow tree) }
 {
     match parse(alloc, bytes) {
         Ok(parsed) => Ok(parsed),
-        Err(error) => Err(EvalEnd::Wrong(syntax_fault(alloc, path, bytes, error)?)),
+        Err(error) => Err(EvalEnd::Wrong(syntax_fault(alloc, toolchain, path, bytes, error)?)),
     }
 }
 
@@ -84,16 +103,26 @@ fn own_place(alloc: Global, path: &Path) -> Result<Place, AllocError>
 }
 
 // What is done with what a library tells of the content of the file at a path.
-fn tree_of(alloc: Global, path: &Path, found: Found) -> Result<Parsed, EvalEnd>
+fn tree_of(alloc: Global, toolchain: &Text, path: &Path, found: Found) -> Result<Parsed, EvalEnd>
     requires { IsWithinLimit found }
-    ensures tree { (kind : Kind) (env : Environment) (need : Need) (out : Effects) → env.setting ≡ setting_of kind path.now → IsRun (λ t. t) need result env out (content_runs (content_view found) env out) }
+    ensures tree { (kind : Kind) (env : Environment) (need : Need) (out : Effects) → env.setting ≡ setting_of kind toolchain.now path.now → IsRun (λ t. t) need result env out (content_runs (content_view found) env out) }
     ensures reads { result ≢ Err EvalEnd.Stopped }
     ensures shallow { IfOk result (λ tree. IsShallow tree) }
 {
     match found {
-        Found::Bytes(bytes) => parsed(alloc, path, bytes.as_bytes()),
-        Found::Absent => Err(EvalEnd::Wrong(whole_file_fault(alloc, path, Code::NoFile)?)),
-        Found::TooBig => Err(EvalEnd::Wrong(whole_file_fault(alloc, path, Code::FileTooBig)?)),
+        Found::Bytes(bytes) => parsed(alloc, toolchain, path, bytes.as_bytes()),
+        Found::Absent => Err(EvalEnd::Wrong(whole_file_fault(
+            alloc,
+            toolchain,
+            path,
+            Code::NoFile,
+        )?)),
+        Found::TooBig => Err(EvalEnd::Wrong(whole_file_fault(
+            alloc,
+            toolchain,
+            path,
+            Code::FileTooBig,
+        )?)),
     }
 }
 
@@ -101,98 +130,117 @@ fn tree_of(alloc: Global, path: &Path, found: Found) -> Result<Parsed, EvalEnd>
 #[tactic(auto, unfolding(crate::specs::Units::tree_runs))]
 fn tree_at<L: Library>(
     alloc: Global,
+    toolchain: &Text,
     path: &Path,
     out: &mut Outcome,
     library: &mut L,
 ) -> Result<Parsed, EvalEnd>
-    ensures evaluates { Claims (L.state library.old) (L.state library.new) result (λ a. (kind : Kind) (env : Environment) → env.setting ≡ setting_of kind path.now → IsRun (λ t. t) (L.state library.new).need result env out.new (tree_runs a env out.old)) }
+    ensures evaluates { Claims (L.state library.old) (L.state library.new) result (λ a. (kind : Kind) (env : Environment) → env.setting ≡ setting_of kind toolchain.now path.now → IsRun (λ t. t) (L.state library.new).need result env out.new (tree_runs a env out.old)) }
     ensures shallow { IfOk result (λ tree. IsShallow tree) }
 {
     let place = own_place(alloc, path)?;
     match library.bytes(alloc, path, &place) {
         Ok(found) => {
             out.ask_content(path)?;
-            tree_of(alloc, path, found)
+            tree_of(alloc, toolchain, path, found)
         }
         Err(LibStop::Stopped) => Err(EvalEnd::Stopped),
         Err(LibStop::Memory) => Err(EvalEnd::Memory),
     }
 }
 
-// Runs the tree of the build file at a path, in one scope, which is checked.
+// Runs the tree of the build file of a directory, which stands at a path, in one scope, which is checked.
 fn run_build_file<L: Library + Definer>(
     alloc: Global,
+    directory: &Path,
+    toolchain: &Text,
     path: &Path,
     block: &Block,
     out: &mut Outcome,
     library: &mut L,
 ) -> Result<(), EvalEnd>
     requires shallow { IsShallow block.now }
-    ensures { EvaluatesSpent (λ u. u) (L.state library.old) (L.state library.new) result out.new (λ a. file_runs a block.now (load_begins path.now) out.old) }
+    ensures { EvaluatesSpent (λ u. u) (L.state library.old) (L.state library.new) result out.new (λ a. file_runs a block.now (load_begins directory.now toolchain.now path.now) out.old) }
 {
-    let mut env = environment(alloc, path, FileKind::BuildFile, Text::new(alloc), true)?;
+    let execution = load_name(alloc, directory, toolchain)?;
+    let mut env = environment(alloc, toolchain, path, FileKind::BuildFile, execution, true)?;
     let done = run_file(alloc, block, &mut env, out, library);
     drop(env);
     done
 }
 
-// Executes the build file at a path.
+// Executes the build file of a directory, which stands at a path.
 fn load_file<L: Library + Definer>(
     alloc: Global,
+    directory: &Path,
+    toolchain: &Text,
     path: &Path,
     out: &mut Outcome,
     library: &mut L,
 ) -> Result<(), EvalEnd>
-    ensures { EvaluatesSpent (λ u. u) (L.state library.old) (L.state library.new) result out.new (λ a. then_do (tree_runs a (load_begins path.now) out.old) (λ tree env1 out1. file_runs a tree env1 out1)) }
+    ensures { EvaluatesSpent (λ u. u) (L.state library.old) (L.state library.new) result out.new (λ a. then_do (tree_runs a (load_begins directory.now toolchain.now path.now) out.old) (λ tree env1 out1. file_runs a tree env1 out1)) }
 {
-    let parsed = tree_at(alloc, path, out, library)?;
-    run_build_file(alloc, path, parsed.block(), out, library)
+    let parsed = tree_at(alloc, toolchain, path, out, library)?;
+    run_build_file(
+        alloc,
+        directory,
+        toolchain,
+        path,
+        parsed.block(),
+        out,
+        library,
+    )
 }
 
-/// Executes the build file of a directory under the default toolchain: its content is asked for, parsed, and run in one
-/// scope, which is checked. What it leaves and what it asks is added to `out`. `Wrong` has the first fault, and comes exactly
-/// where there is one, but for want of memory; `Spoiled` and `Stopped` come as from `run_file`.
+/// Executes the build file of a directory under a toolchain: its content is asked for, parsed, and run in one scope, which is
+/// checked. What it leaves and what it asks is added to `out`. `Wrong` has the first fault, and comes exactly where there is
+/// one, but for want of memory; `Spoiled` and `Stopped` come as from `run_file`.
 #[tactic(auto, unfolding(crate::specs::Units::load_runs))]
 pub(crate) fn execute_load<L: Library + Definer>(
     alloc: Global,
     directory: &Path,
+    toolchain: &Text,
     out: &mut Outcome,
     library: &mut L,
 ) -> Result<(), EvalEnd>
-    ensures { EvaluatesSpent (λ u. u) (L.state library.old) (L.state library.new) result out.new (λ a. load_runs directory.now a out.old) }
+    ensures { EvaluatesSpent (λ u. u) (L.state library.old) (L.state library.new) result out.new (λ a. load_runs directory.now toolchain.now a out.old) }
 {
     let path = build_file(alloc, directory)?;
-    load_file(alloc, &path, out, library)
+    load_file(alloc, directory, toolchain, &path, out, library)
 }
 
 // Runs the tree of the file at a path that is imported, in one scope, which isn't checked.
 fn run_imported<L: Library + Definer>(
     alloc: Global,
+    when: When,
+    toolchain: &Text,
     path: &Path,
     block: &Block,
     out: &mut Outcome,
     library: &mut L,
 ) -> Result<ImportValue, EvalEnd>
     requires shallow { IsShallow block.now }
-    ensures { EvaluatesSpent (λ v. v) (L.state library.old) (L.state library.new) result out.new (λ a. import_file_runs a block.now (import_begins path.now) out.old) }
+    ensures { EvaluatesSpent (λ v. v) (L.state library.old) (L.state library.new) result out.new (λ a. import_file_runs a block.now (import_begins when toolchain.now path.now) out.old) }
 {
-    let execution = path.as_text().copy(alloc)?;
-    let env = environment(alloc, path, FileKind::Import, execution, false)?;
+    let execution = import_name(alloc, when, toolchain, path)?;
+    let env = environment(alloc, toolchain, path, FileKind::Import, execution, false)?;
     run_import_file(alloc, block, env, out, library)
 }
 
-/// Executes a file that is imported under the default toolchain: its content is asked for, parsed, and run in one scope,
-/// which isn't checked. It has what the file leaves for those who import it; its lines and what it asks are added to `out`.
-/// The errors are as those of `execute_load`.
+/// Executes a file that is imported under a toolchain, early or as usual: its content is asked for, parsed, and run in one
+/// scope, which isn't checked. It has what the file leaves for those who import it; its lines and what it asks are added to
+/// `out`. The errors are as those of `execute_load`.
 #[tactic(auto, unfolding(crate::specs::Units::import_runs))]
 pub(crate) fn execute_import<L: Library + Definer>(
     alloc: Global,
+    when: When,
+    toolchain: &Text,
     path: &Path,
     out: &mut Outcome,
     library: &mut L,
 ) -> Result<ImportValue, EvalEnd>
-    ensures { EvaluatesSpent (λ v. v) (L.state library.old) (L.state library.new) result out.new (λ a. import_runs path.now a out.old) }
+    ensures { EvaluatesSpent (λ v. v) (L.state library.old) (L.state library.new) result out.new (λ a. import_runs when toolchain.now path.now a out.old) }
 {
-    let parsed = tree_at(alloc, path, out, library)?;
-    run_imported(alloc, path, parsed.block(), out, library)
+    let parsed = tree_at(alloc, toolchain, path, out, library)?;
+    run_imported(alloc, when, toolchain, path, parsed.block(), out, library)
 }

@@ -1,6 +1,6 @@
 // The faults of a file that are found before it runs.
 
-ghost use Rattle.std.specs.Prelude.{◌≡◌, ◌≤◌, [], Some, length, IfOk, MatchOption};
+ghost use Rattle.std.specs.Prelude.{◌≡◌, ◌≤◌, Some, length, IfOk, MatchOption};
 ghost use Rattle.gn_grammar.specs.Position.{position_of};
 ghost use Rattle.gn_syntax.specs.Reading.{fault_of};
 ghost use Rattle.gn_faults.specs.declared.file_kind.FileKind.{FileKind as Kind};
@@ -14,9 +14,10 @@ use gn_tokens::TokenError;
 use gn_tree::Position;
 use std::alloc::{AllocError, Global};
 
-// A fault of the file at a path.
+// A fault of the file at a path that is executed under a toolchain.
 fn fault(
     alloc: Global,
+    toolchain: &Text,
     path: &Path,
     code: Code,
     position: Position,
@@ -25,12 +26,13 @@ fn fault(
     ensures { IfOk result (λ f. f ≡ record {
       stage = Stage.Loading;
       place = Some (record { file = path.now; line = position.line; column = position.column });
-      toolchain = [];
+      toolchain = toolchain.now;
       code = code;
       detail = detail;
     }) }
 {
     let file = path.as_text().copy(alloc)?;
+    let toolchain = toolchain.copy(alloc)?;
     Ok(Fault {
         stage: Stage::Loading,
         place: Some(Place {
@@ -38,32 +40,38 @@ fn fault(
             line: position.line,
             column: position.column,
         }),
-        toolchain: Text::new(alloc),
+        toolchain,
         code,
         detail,
     })
 }
 
 /// A fault of the whole file at a path, which stands at its beginning and shows its path.
-pub(crate) fn whole_file_fault(alloc: Global, path: &Path, code: Code) -> Result<Fault, AllocError>
-    ensures { IfOk result (λ f. (kind : Kind) → f ≡ whole_file_fault (setting_of kind path.now) code) }
+pub(crate) fn whole_file_fault(
+    alloc: Global,
+    toolchain: &Text,
+    path: &Path,
+    code: Code,
+) -> Result<Fault, AllocError>
+    ensures { IfOk result (λ f. (kind : Kind) → f ≡ whole_file_fault (setting_of kind toolchain.now path.now) code) }
 {
     let mut detail = Texts::new(alloc);
     detail.push(path.as_text().copy(alloc)?)?;
     let beginning = Position { line: 1, column: 1 };
-    fault(alloc, path, code, beginning, detail)
+    fault(alloc, toolchain, path, code, beginning, detail)
 }
 
 /// The fault of a syntax error of the bytes of the file at a path, or want of memory.
 pub(crate) fn syntax_fault(
     alloc: Global,
+    toolchain: &Text,
     path: &Path,
     bytes: &[u8],
     error: SyntaxError,
 ) -> Result<Fault, AllocError>
     requires { length bytes.now ≤ 16777216 }
     ensures { IfOk result (λ f. MatchOption (fault_of error) ⊥ (λ found.
-        (kind : Kind) → f ≡ syntax_fault (setting_of kind path.now) bytes.now found)) }
+        (kind : Kind) → f ≡ syntax_fault (setting_of kind toolchain.now path.now) bytes.now found)) }
 {
     let (code, offset) = match error {
         SyntaxError::Token(TokenError::BadByte(offset)) => (Code::BadByte, offset),
@@ -75,7 +83,7 @@ pub(crate) fn syntax_fault(
         SyntaxError::Memory => return Err(AllocError),
     };
     let position = position_of(bytes, offset);
-    fault(alloc, path, code, position, Texts::new(alloc))
+    fault(alloc, toolchain, path, code, position, Texts::new(alloc))
 }
 
 // The line and column of an offset. One behind the end of the file counts as the end.

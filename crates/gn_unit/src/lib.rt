@@ -8,5 +8,5 @@ mod laws;
 mod unit;
 
 pub use evaluation::evaluate;
-pub use laws::executions_are_trees;
+pub use laws::{build_files_are_meant, executions_are_trees};
 pub use unit::{EvalStop, Unit};

@@ -1,5 +1,5 @@
 use Rattle.std.proofs.Common.{arith}
-use Rattle.gn_top.proofs.RunLemmas.{ends_as, cut_at_once, cut_answer, cut_failure, one_failed}
+use Rattle.gn_top.proofs.RunLemmas.{cut_at_once, cut_answer, cut_failure, one_failed}
 use Rattle.gn_top.proofs.one.run_one.Goals as goal
 
 pub returns-in-Ok-clause-cut_short : goal.returns-in-Ok-clause-cut_short
