@@ -80,6 +80,8 @@ class Writer:
         if depth < 2 and self.chance.random() < 0.3:
             right = self.chance.choice(["string", "integer"])
             return f"{self.expression('string', depth + 1)} + {self.expression(right, 2)}"
+        if depth < 2 and self.chance.random() < 0.2:
+            return self.text_call(depth)
         pieces = ""
         for _ in range(self.chance.randint(0, 3)):
             names = self.known("integer") + self.known("string") + self.known("values")
@@ -92,9 +94,33 @@ class Writer:
     def values(self, depth):
         if depth < 2 and self.chance.random() < 0.25:
             return f"{self.expression('values', depth + 1)} + {self.expression('values', depth + 1)}"
+        if depth < 2 and self.chance.random() < 0.3:
+            return self.list_call(depth)
         kinds = ["integer", "string", "string"] + ([] if depth else ["boolean", "values"])
         items = [self.expression(self.chance.choice(kinds), depth + 1) for _ in range(self.chance.randint(0, 4))]
         return "[ " + ", ".join(items) + " ]" if items else "[]"
+
+    def strings(self, depth):
+        return f"[ {', '.join(self.expression('string', depth + 1) for _ in range(self.chance.randint(0, 3)))} ]"
+
+    def text_call(self, depth):
+        text = self.expression("string", depth + 1)
+        if self.chance.random() < 0.5:
+            return f"string_join({text}, {self.strings(depth)})"
+        old, most = self.chance.choice(["a", "/", ".cc", "A"]), self.chance.choice(["", ", 1", ", 2"])
+        return f'string_replace({text}, "{old}", {self.expression("string", 2)}{most})'
+
+    def list_call(self, depth):
+        form = self.chance.randrange(4)
+        if form == 0:
+            return f"string_split({self.expression('string', depth + 1)})"
+        if form == 1:
+            return f'string_split({self.expression("string", depth + 1)}, "{self.chance.choice(["a", "/", "c/", " "])}")'
+        if form == 2:
+            return f"split_list({self.expression('values', depth + 1)}, {self.chance.randint(1, 4)})"
+        name = self.chance.choice(["filter_include", "filter_exclude"])
+        patterns = ", ".join(self.chance.sample(['"*a*"', '"*.cc"', '"c\\bd*"', '"*\\bd"', '"x.cc\\b"', '""', '"a"'], 2))
+        return f"{name}({self.strings(depth)}, [ {patterns} ])"
 
     def entries(self, depth):
         kinds = ["integer", "string", "values", "boolean"]

@@ -46,7 +46,7 @@ usage=$'usage: gn gen|ls|desc|refs|path|check|args|sample ...\n'
 cannot_read=$'gn: cannot read //BUILD.gn\n'
 absent=$'ERROR at //BUILD.gn:1:1: No such file "//BUILD.gn".\n'
 
-mkdir -p "$folder/groups" "$folder/empty" "$folder/unread" "$folder/unfinished" "$folder/bytes" "$folder/returns" "$folder/folder/BUILD.gn" "$folder/dangling" "$folder/big"
+mkdir -p "$folder/groups" "$folder/empty" "$folder/unread" "$folder/unfinished" "$folder/bytes" "$folder/returns" "$folder/folder/BUILD.gn" "$folder/dangling" "$folder/big" "$folder/limit"
 printf 'group("b") {\n}\ngroup("a") {\n}\n' >"$folder/groups/BUILD.gn"
 printf 'x = 1\n' >"$folder/unread/BUILD.gn"
 printf 'print("before")\nx = [\n' >"$folder/unfinished/BUILD.gn"
@@ -62,6 +62,7 @@ mkdir -p "$folder/import_root" "$folder/pipe"
 printf 'import("//")\n' >"$folder/import_root/BUILD.gn"
 mkfifo "$folder/pipe/BUILD.gn"
 head -c 16777217 /dev/zero | tr '\0' ' ' >"$folder/big/BUILD.gn"
+head -c 16777216 /dev/zero | tr '\0' ' ' >"$folder/limit/BUILD.gn"
 
 run "$folder/groups" ls out
 expect "two groups" 0 $'//:a\n//:b\n'
@@ -77,6 +78,8 @@ run "$folder/returns" ls out
 expect "lines that end in a carriage return" 0 $'one\n//:g\n'
 run "$folder/bytes" ls out
 expect "bytes that are no text" 0 $'\xff\xfe\n'
+run "$folder/limit" ls out
+expect "a file of the limit" 0 ""
 run "$folder/big" ls out
 expect "a file beyond the limit" 1 $'ERROR at //BUILD.gn:1:1: File "//BUILD.gn" is too big.\n'
 run "$folder/folder" ls out

@@ -9,7 +9,7 @@ use crate::standing::at_root;
 use gn_define::{Block, DefineError, Field, Fields, ItemFault, Where, define};
 use gn_labels::Label;
 use gn_paths::{Path, PathError, Text};
-use gn_rows::ItemKind;
+use gn_rows::{ItemKind, rows_of};
 use gn_substs::Subst;
 use gn_values::{Entries, Value};
 use std::alloc::{AllocError, Global};
@@ -93,7 +93,7 @@ fn kind_named(name: &str) -> Option<ItemKind> {
     None
 }
 
-// A block whose values stand in a scope. It doesn't count what is read.
+// A block whose values stand in a scope.
 #[derive(Drop)]
 struct Assignments {
     entries: Entries,
@@ -101,10 +101,6 @@ struct Assignments {
 
 impl Block for Assignments {
     ghost values = { λ t name. value_at name t.entries };
-
-    ghost marked = { λ t name. t };
-
-    fn mark(&mut self, _name: &[u8]) {}
 
     fn value(&self, name: &[u8]) -> Option<&Value> {
         self.entries.get(name)
@@ -230,8 +226,9 @@ fn is_outcome(
 
 fn defines(alloc: Global, row: &str, kind: ItemKind) -> Result<bool, PathError> {
     let at = place(alloc, kind)?;
-    let mut block = block(alloc, field(row, 2))?;
-    let defined = define(alloc, &at, field(row, 1).as_bytes(), &mut block);
+    let block = block(alloc, field(row, 2))?;
+    let name = field(row, 1).as_bytes();
+    let defined = define(alloc, &at, rows_of(kind), name, &block);
     Ok(is_outcome(alloc, row, kind, &defined)?)
 }
 

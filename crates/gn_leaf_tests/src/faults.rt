@@ -210,7 +210,7 @@ fn details_may_be_missing_or_too_many(rt: HostRuntime) -> Result<(), Fail> {
 // A fault: its stage, its code, its details, its toolchain, and the file, the line and the column of its place. It has no place
 // where no file stands.
 const PLACED: &str = table! {
-    "Loading", "BadByte", "", "", "//a/BUILD.gn", 12, 4294967295;
+    "Loading", "BadByte", "", "//t:t", "//a/BUILD.gn", 12, 4294967295;
 };
 
 // Faults, each before the next. The one for a file that is missing names it.

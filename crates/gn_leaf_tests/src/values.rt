@@ -1,8 +1,9 @@
-// Overrides, which the program doesn't set yet.
+// Overrides, which the program doesn't set yet, and what is left of definitions once those that were added are taken out.
 
 use gn_paths::Text;
-use gn_values::{Overrides, Value};
+use gn_values::{Definitions, MadeBy, Overrides, Value};
 use std::alloc::{AllocError, Global};
+use std::sync::Arc;
 use std::test::Fail;
 
 fn set(alloc: Global, overrides: &mut Overrides, number: i64) -> Result<(), AllocError> {
@@ -27,5 +28,34 @@ fn last_counts(alloc: Global) -> Result<bool, AllocError> {
 #[test]
 fn the_last_override_counts(rt: HostRuntime) -> Result<(), Fail> {
     assert!(rt; last_counts(rt.alloc())?);
+    Ok(())
+}
+
+// An execution that made no definitions.
+fn made_by(alloc: Global, execution: &Text) -> Result<MadeBy, AllocError> {
+    let mut made = MadeBy::new(alloc);
+    let name = execution.copy(alloc)?;
+    made.set(name, Arc::new(alloc, Definitions::new(alloc))?)?;
+    Ok(made)
+}
+
+// Whether an addition makes an execution known, and nothing is known of it once the names that the addition gave are taken out.
+fn is_taken_out(alloc: Global, others: &MadeBy, execution: &Text) -> Result<bool, AllocError> {
+    let mut known = MadeBy::new(alloc);
+    let added = known.add(alloc, others)?;
+    let is_known = known.get(execution).is_some();
+    known.take_out(added);
+    Ok(is_known && known.get(execution).is_none())
+}
+
+fn an_addition_is_taken_out(alloc: Global) -> Result<bool, AllocError> {
+    let execution = Text::from_bytes(alloc, b"L//a")?;
+    let others = made_by(alloc, &execution)?;
+    is_taken_out(alloc, &others, &execution)
+}
+
+#[test]
+fn what_was_added_is_taken_out(rt: HostRuntime) -> Result<(), Fail> {
+    assert!(rt; an_addition_is_taken_out(rt.alloc())?);
     Ok(())
 }

@@ -25,6 +25,8 @@ const SAID: &str = said! {
     "print(\"a\\n\")\n" => "a\\n\n";
     "# only a comment" => "";
     "group(\"a\"){deps=[\":b\",]}group(\"b\"){deps=[]}" => "//:a\n//:b\n";
+    "group(\"a\") {\n  deps = [ \"\", \"b\", \":b:\", \"//..\", \":b$0x0D\" ]\n}\n" => "//:a\n";
+    "deps = [ \":b\" ]\ngroup(\"a\") {\n}\n" => "//:a\n";
     "group(\"z\") {\n}\ngroup(\"a/b\") {\n}\ngroup(\"Z\") {\n}\n" => "//:Z\n//:a/b\n//:z\n";
     "foreach(v, [ 1, 2 ]) {\n  print(v)\n}\nprint(defined(v))\n" => "1\n2\nfalse\n";
     "a = { x = 1 }\nb = a\nb.x = 2\nprint(a.x, b.x, b[\"x\"])\n" => "1 2 2\n";
@@ -98,6 +100,42 @@ const SAID: &str = said! {
         => "1\n//:g\n";
     "template(\"t\") {\n  foreach(invoker, [ 1 ]) {\n    print(invoker)\n  }\n  print(invoker.a)\n}\nt(\"n\") {\n  a = 2\n}"
         => "1\n2\n";
+    // Where the call of a template stands in the body of another one, the invoker of that body is a name around the call: a list
+    // finds it, but not `"*"`, and where no such body is, or it is excepted, it isn't there. All its names count as read.
+    "template(\"i\") {\n  group(\"g\") {\n    forward_variables_from(invoker, [ \"invoker\" ])\n    print(invoker.a)\n  }\n}\ntemplate(\"o\") {\n  i(\"x\") {\n  }\n}\no(\"n\") {\n  a = 1\n  b = 2\n}"
+        => "1\n//:g\n";
+    "template(\"i\") {\n  group(\"g\") {\n    forward_variables_from(invoker, [ \"invoker\" ])\n    print(invoker.a)\n  }\n}\ntemplate(\"m\") {\n  i(\"x\") {\n  }\n}\ntemplate(\"o\") {\n  print(invoker.a)\n  m(\"y\") {\n    a = 2\n  }\n}\no(\"n\") {\n  a = 1\n}"
+        => "1\n2\n//:g\n";
+    "invoker = { a = 3 }\ntemplate(\"i\") {\n  group(\"g\") {\n    forward_variables_from(invoker, [ \"invoker\" ])\n    print(invoker.a)\n  }\n}\ntemplate(\"o\") {\n  i(\"x\") {\n  }\n}\no(\"n\") {\n  a = 1\n}"
+        => "1\n//:g\n";
+    "template(\"i\") {\n  group(\"g\") {\n    forward_variables_from(invoker, [ \"invoker\" ])\n    print(invoker.a)\n  }\n}\ntemplate(\"o\") {\n  invoker = { }\n  invoker.a = 4\n  i(\"x\") {\n  }\n}\no(\"n\") {\n}"
+        => "4\n//:g\n";
+    "template(\"i\") {\n  group(\"g\") {\n    forward_variables_from(invoker, [ \"invoker\" ])\n    print(invoker.a)\n  }\n}\ni(\"x\") {\n  a = 5\n}"
+        => "5\n//:g\n";
+    "template(\"i\") {\n  forward_variables_from(invoker, [ \"invoker\" ])\n  print(invoker.a)\n}\ni(\"x\") {\n  a = 5\n}"
+        => "5\n";
+    "template(\"i\") {\n  forward_variables_from(invoker, [ \"a\", \"invoker\" ], [ \"invoker\" ])\n  print(a, invoker.target_name)\n}\ntemplate(\"o\") {\n  i(\"x\") {\n    a = 1\n  }\n}\no(\"n\") {\n}"
+        => "1 x\n";
+    "template(\"i\") {\n  group(\"g\") {\n    forward_variables_from(invoker, \"*\")\n    print(invoker.target_name)\n  }\n}\ntemplate(\"o\") {\n  i(\"x\") {\n  }\n}\no(\"n\") {\n}"
+        => "x\n//:g\n";
+    // Calls on texts and lists, each on its good way and at its bounds.
+    "print(string_replace(\"aaa\", \"a\", \"b\", 2), string_split(\"a,,b\", \",\"), split_list([ 1, 2, 3, 4, 5 ], 2))"
+        => "bba [\"a\", \"\", \"b\"] [[1, 2, 3], [4, 5]]\n";
+    "print(filter_include([ \"a.cc\", \"b.h\", \"c.cc\" ], [ \"*.cc\", \"?\" ]), filter_exclude([ \"a.cc\", \"b.h\" ], [ \"*.cc\" ]))"
+        => "[\"a.cc\", \"c.cc\"] [\"b.h\"]\n";
+    "print(filter_include([], [ \"*\" ]), filter_include([ \"a\" ], []), filter_exclude([ \"a\" ], []), filter_include([ \"\" ], [ \"\" ]))"
+        => "[] [] [\"a\"] [\"\"]\n";
+    "print(filter_include([ \"a/foo\", \"foo\", \"afoo\" ], [ \"*\\bfoo\" ]))" => "[\"a/foo\", \"foo\"]\n";
+    "print(split_list([], 2), split_list([ \"a\" ], 1), split_list([ true ], 3))" => "[[], []] [[\"a\"]] [[true], [], []]\n";
+    "print(string_join(\", \", [ \"a\", \"b\" ]), string_join(\",\", []) == \"\", string_join(\"\", [ \"a\", \"\", \"b\" ]))"
+        => "a, b true ab\n";
+    "print(string_replace(\"aaa\", \"a\", \"aa\"), string_replace(\"aaa\", \"a\", \"b\", 0), string_replace(\"abab\", \"ab\", \"\") == \"\")"
+        => "aaaaaa aaa true\n";
+    "print(string_split(\" a  b\"), string_split(\"\"), string_split(\"\", \",\"), string_split(\"a b\", \" b\"))"
+        => "[\"a\", \"b\"] [] [\"\"] [\"a\", \"\"]\n";
+    "foreach(part, string_split(string_join(\"-\", [ \"x\", \"y\" ]), \"-\")) {\n  group(part) {\n    print(split_list([ part ], 1))\n  }\n}"
+        => "[[\"x\"]]\n[[\"y\"]]\n//:x\n//:y\n";
+    "string_join(\"\", [])\ntemplate(\"string_join\") {\n  print(target_name)\n}\nstring_join(\"n\") {\n}" => "n\n";
 };
 
 // Faults of tokens, operators and calls.
@@ -127,6 +165,12 @@ const FAULTS: &str = faults! {
     "exec_script(\"x.py\")\n" => "1:1", "\"exec_script\" is not in this profile.";
     "group(\"a\") {\n  deps = 1\n}\n" => "1:1", "Wrong type for \"deps\".";
     "group(\"a\") {\n  deps = [ 1 ]\n}\n" => "1:1", "Wrong type for \"deps\".";
+    "group(\"a\") {\n  deps = \":b\"\n}\n" => "1:1", "Wrong type for \"deps\".";
+    "group(\"a\") {\n  deps = [ \":b$0x0A\" ]\n}\n" => "1:1", "Wrong type for \"deps\".";
+    "\n  group(\"a\") {\n  deps = [ \":b\", \"$0x00\" ]\n}\n" => "2:3", "Wrong type for \"deps\".";
+    "deps = [ \":b$0x0A\" ]\ngroup(\"a\") {\n  x = 1\n}\n" => "2:1", "Wrong type for \"deps\".";
+    "group(\"a:b\") {\n  deps = [ \":b$0x0A\" ]\n}\n" => "1:1", "Invalid label.";
+    "group(\"a\") {\n}\ngroup(\"a\") {\n  deps = [ 1 ]\n}\n" => "3:1", "Wrong type for \"deps\".";
     "group(\"a\") {\n}\ngroup(\"a\") {\n}\n" => "3:1", "Duplicate item \"//:a\".";
     "print(1)\nprint(nope)\n" => "2:7", "Undefined identifier \"nope\".";
     "x = y\nx = 1 + true" => "1:5", "Undefined identifier \"y\".";
@@ -160,6 +204,44 @@ const FAULTS: &str = faults! {
     "a = [ 1, 2 ]\na[1] += 9223372036854775807" => "2:6", "Integer overflow.";
     "a = [ 1 ]\na[0] += true" => "2:6", "Wrong type of value.";
     "x = [ 1 ]\nx -= []\nx = [ 2 ]" => "3:3", "Replacing nonempty list or scope \"x\".";
+    // Calls on texts and lists: the number of arguments and the block, the arguments from left to right, the types from left
+    // to right, then values that they don't take, then the limits.
+    "print(filter_include([]))" => "1:7", "Wrong arguments to \"filter_include\".";
+    "filter_exclude(q, q, q)" => "1:1", "Wrong arguments to \"filter_exclude\".";
+    "split_list(q)" => "1:1", "Wrong arguments to \"split_list\".";
+    "split_list([], 1, q)" => "1:1", "Wrong arguments to \"split_list\".";
+    "string_join(q)" => "1:1", "Wrong arguments to \"string_join\".";
+    "string_replace(q, q)" => "1:1", "Wrong arguments to \"string_replace\".";
+    "string_replace(q, q, q, q, q)" => "1:1", "Wrong arguments to \"string_replace\".";
+    "string_split()" => "1:1", "Wrong arguments to \"string_split\".";
+    "string_split(q, q, q)" => "1:1", "Wrong arguments to \"string_split\".";
+    "string_split(q) {\n}" => "1:1", "Wrong arguments to \"string_split\".";
+    "filter_include(1, [ q ])" => "1:21", "Undefined identifier \"q\".";
+    "split_list(1, q)" => "1:15", "Undefined identifier \"q\".";
+    "string_join(1, q)" => "1:16", "Undefined identifier \"q\".";
+    "string_replace(1, 1, 1, q)" => "1:25", "Undefined identifier \"q\".";
+    "string_split(1, q)" => "1:17", "Undefined identifier \"q\".";
+    "filter_include(\"a\", 1)" => "1:16", "Wrong type of value.";
+    "filter_exclude([ \"a\", 1 ], [])" => "1:16", "Wrong type of value.";
+    "filter_include([], \"*\")" => "1:20", "Wrong type of value.";
+    "filter_exclude([], [ 1 ])" => "1:20", "Wrong type of value.";
+    "split_list(\"a\", \"a\")" => "1:12", "Wrong type of value.";
+    "split_list([], (\"1\"))" => "1:16", "Wrong type of value.";
+    "string_join(1, 1)" => "1:13", "Wrong type of value.";
+    "string_join(\",\", \"a\")" => "1:18", "Wrong type of value.";
+    "string_join(\",\", [ [ \"a\" ] ])" => "1:18", "Wrong type of value.";
+    "string_replace(1, 1, 1)" => "1:16", "Wrong type of value.";
+    "string_replace(\"a\", 1, 1)" => "1:21", "Wrong type of value.";
+    "string_replace(\"a\", \"\", true)" => "1:25", "Wrong type of value.";
+    "string_replace(\"a\", \"\", \"b\", \"c\")" => "1:30", "Wrong type of value.";
+    "string_split([ \"a\" ])" => "1:14", "Wrong type of value.";
+    "string_split(\"a\", 1)" => "1:19", "Wrong type of value.";
+    "split_list([ 1 ], 0)" => "1:1", "Wrong arguments to \"split_list\".";
+    "x = split_list([ 1 ], -1)" => "1:5", "Wrong arguments to \"split_list\".";
+    "string_replace(\"a\", \"\", \"b\")" => "1:1", "Wrong arguments to \"string_replace\".";
+    "string_replace(\"a\", \"b\", \"c\", -1)" => "1:1", "Wrong arguments to \"string_replace\".";
+    "string_split(\"a\", \"\")" => "1:1", "Wrong arguments to \"string_split\".";
+    "x = split_list([], 1048577)" => "1:5", "Value is too long.";
 };
 
 // Faults of scopes and templates. A checked scope reports the name whose last assignment stands first, where nothing has
@@ -206,6 +288,21 @@ const SCOPE_FAULTS: &str = faults! {
         => "3:3", "\"invoker\" is already set.";
     "set_defaults(\"t\") {\n  invoker = 1\n}\ntemplate(\"t\") {\n  forward_variables_from(invoker, [ \"invoker\" ])\n}\nt(\"n\") {\n}"
         => "5:3", "\"invoker\" is already set.";
+    // So is that of the body in which the call stands, as a name around the call.
+    "template(\"i\") {\n  forward_variables_from(invoker, [ \"invoker\" ])\n}\ntemplate(\"o\") {\n  i(\"x\") {\n  }\n}\no(\"n\") {\n}"
+        => "2:3", "\"invoker\" is already set.";
+    "template(\"i\") {\n  forward_variables_from(invoker, [ \"invoker\" ])\n}\ntemplate(\"m\") {\n  i(\"x\") {\n  }\n}\ntemplate(\"o\") {\n  m(\"y\") {\n  }\n}\no(\"n\") {\n}"
+        => "2:3", "\"invoker\" is already set.";
+    "template(\"i\") {\n  forward_variables_from(invoker, [ \"invoker\" ])\n}\ntemplate(\"o\") {\n  group(\"g\") {\n    i(\"x\") {\n    }\n  }\n}\no(\"n\") {\n}"
+        => "2:3", "\"invoker\" is already set.";
+    "template(\"o\") {\n  template(\"i\") {\n    forward_variables_from(invoker, [ \"invoker\" ])\n  }\n  i(\"x\") {\n  }\n}\no(\"n\") {\n}"
+        => "3:5", "\"invoker\" is already set.";
+    "template(\"i\") {\n  forward_variables_from(invoker, [ \"a\", \"b\", \"invoker\" ], [ \"b\" ])\n}\ntemplate(\"o\") {\n  b = 1\n  i(\"x\") {\n    a = 1\n  }\n}\no(\"n\") {\n}"
+        => "2:3", "\"invoker\" is already set.";
+    "template(\"i\") {\n  a = 1\n  forward_variables_from(invoker, [ \"a\", \"invoker\" ])\n}\ntemplate(\"o\") {\n  i(\"x\") {\n    a = 2\n  }\n}\no(\"n\") {\n}"
+        => "3:3", "\"a\" is already set.";
+    "template(\"i\") {\n  group(\"g\") {\n    forward_variables_from(invoker, [ \"invoker\" ])\n    print(invoker.a)\n  }\n}\ntemplate(\"o\") {\n  i(\"x\") {\n    b = 1\n  }\n}\no(\"n\") {\n  a = 1\n}"
+        => "9:7", "Assignment had no effect: \"b\".";
 };
 
 #[test]

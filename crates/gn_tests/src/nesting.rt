@@ -146,17 +146,25 @@ fn calls_nest_up_to_the_limit(rt: HostRuntime) -> Result<(), Fail> {
 // A template that assigns an entry of its invoker, and a call of it with the variable `x`.
 const INVOKER: &str = "\ntemplate(\"t\") {\n  invoker.y = 1\n}\nt(\"n\") {\n  z = x\n}\n";
 
+// A template that forwards the invoker around its call, and a call of it in the body of another one, whose call has the
+// variable `x`.
+const OUTER_INVOKER: &str =
+    "\ntemplate(\"i\") {\n  forward_variables_from(invoker, [ \"invoker\" ])\n}\ntemplate(\"o\") {\n  i(\"m\") {\n  }\n}\no(\"n\") {\n  z = x\n}\n";
+
 // What nests too deep only as a value: a list that is written out, once all its items have their values, an item that is added to, one that is
-// replaced, and the invoker where an entry is assigned to it. A scope of the greatest depth is none of these.
+// replaced, the invoker where an entry is assigned to it, and that around a call where it is forwarded, before it is said that
+// the name is set. A scope of the greatest depth is none of these.
 #[test]
 fn values_nest_up_to_the_limit(rt: HostRuntime) -> Result<(), Fail> {
     let printed = "1ERROR at //BUILD.gn:2:7: Value is too long.\n";
     let missing = "1ERROR at //BUILD.gn:2:12: Undefined identifier \"q\".\n";
     let invoker = "1ERROR at //BUILD.gn:3:13: Value is too long.\n";
+    let forwarded = "1ERROR at //BUILD.gn:3:3: Value is too long.\n";
     let added = "1ERROR at //BUILD.gn:3:6: Value is too long.\n";
     assert!(rt; lists_say(&rt, rt.alloc(), "x = ", "\nprint([ x ])\n", printed)?);
     assert!(rt; lists_say(&rt, rt.alloc(), "x = ", "\nprint([ x, q ])\n", missing)?);
     assert!(rt; lists_say(&rt, rt.alloc(), "x = ", INVOKER, invoker)?);
+    assert!(rt; lists_say(&rt, rt.alloc(), "x = ", OUTER_INVOKER, forwarded)?);
     assert!(rt; lists_say(&rt, rt.alloc(), "x = ", "\ny = [ [] ]\ny[0] += x\n", added)?);
     assert!(rt; lists_say(&rt, rt.alloc(), "x = ", "\ny = [ [] ]\ny[0] = x\n", added)?);
     assert!(rt; scopes_say(&rt, rt.alloc(), "print(defined(x199.a))\n", "0true\n")?);

@@ -1,13 +1,15 @@
 // Scopes and environments by themselves: the calls that the program doesn't make, or never to their good end.
 
 use gn_env::Env;
+use gn_environment::Context;
 use gn_faults::{FileKind, Stage};
 use gn_paths::{Path, Text};
 use gn_scopes::{ScopeError, Scopes};
 use gn_text::Names;
 use gn_tree::{AssignOp, Position};
-use gn_values::Value;
+use gn_values::{MadeBy, Value};
 use std::alloc::{AllocError, Global};
+use std::sync::Arc;
 use std::test::Fail;
 
 // Scopes of which the innermost is checked and has the name with this number as 7.
@@ -68,17 +70,26 @@ fn scopes_report_what_nothing_reads(rt: HostRuntime) -> Result<(), Fail> {
     Ok(())
 }
 
+fn context(alloc: Global) -> Context {
+    Context {
+        stage: Stage::Loading,
+        kind: FileKind::BuildFile,
+        toolchain: Text::new(alloc),
+        fault_toolchain: Text::new(alloc),
+        default_toolchain: Text::new(alloc),
+    }
+}
+
 fn environment(alloc: Global) -> Result<Env, AllocError> {
     Ok(Env::new(
         alloc,
-        Stage::Loading,
-        Text::new(alloc),
+        Arc::new(alloc, context(alloc))?,
         Text::from_bytes(alloc, b"//BUILD.gn")?,
         Path::root(alloc)?,
-        FileKind::BuildFile,
         Text::new(alloc),
         false,
         Vec::new(alloc),
+        MadeBy::new(alloc),
     ))
 }
 
