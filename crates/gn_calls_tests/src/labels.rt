@@ -19,6 +19,7 @@ const LABELS: &str = calls! {
     inner: get_label_info("//:d(//t:t)", "target_gen_dir") => "//out/gen";
     inner: get_label_info("//c(//t:t)", "label_with_toolchain") => "//c:c(//t:t)";
     inner: get_label_info("//c:d(//x:m/n)", "root_out_dir") => "//out/m/n";
+    colon: get_label_info(":b(:n)", "root_out_dir") => "//out/n";
     early: get_label_info(":b", "label_with_toolchain") => "//a:b()";
     early: get_label_info(":b", "root_out_dir") => "//out";
     early: get_label_info(":b(//x:n)", "root_out_dir") => "//out/n";

@@ -1,6 +1,6 @@
 // Where the tests' calls on paths and labels stand, and whether one answers as it should. A call at `root` stands in the root
-// directory under the default toolchain `//t:t`, one at `inner` in `//a` under the toolchain `//t:u`, and one at `early` in
-// `//a` while no toolchain is known.
+// directory under the default toolchain `//t:t`, one at `inner` in `//a` under the toolchain `//t:u`, one at `colon` under that
+// one in the directory `//..:a`, and one at `early` in `//a` while no toolchain is known.
 
 use crate::rows::{field, is_answer, values};
 use gn_calls_path::{PathCall, Where, call_path};
@@ -32,6 +32,7 @@ fn place_named(alloc: Global, name: &str) -> Result<Where, PathError> {
     match name {
         "root" => standing(alloc, "//", "//t:t", "//t:t"),
         "inner" => standing(alloc, "//a", "//t:u", "//t:t"),
+        "colon" => standing(alloc, "//..:a", "//t:u", "//t:t"),
         _ => standing(alloc, "//a", "", ""),
     }
 }

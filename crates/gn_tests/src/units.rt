@@ -17,6 +17,8 @@ enum File<'a> {
     Absent,
     TooBig,
     Unread,
+    // Its bytes, for which there is no memory.
+    Unkept,
 }
 
 // A library that tells nothing of which something is claimed.
@@ -57,6 +59,7 @@ impl Library for OneFile<'_> {
                 }
                 None => Err(LibStop::Memory),
             },
+            File::Unkept => Err(LibStop::Memory),
             _ => Ok(Found::TooBig),
         }
     }
@@ -107,6 +110,8 @@ enum Expected<'a> {
     Wrong(Code, &'a [u8], u32),
     // The library has stopped.
     Stopped,
+    // Want of memory.
+    Memory,
 }
 
 // Whether a fault has this code in this file, in this line.
@@ -139,6 +144,7 @@ fn is_so(done: &Done, expected: Expected<'_>) -> bool {
             is_fault(fault, code, file, line) && is_own(asked.as_slice(), file)
         }
         (Err((_, EvalStop::Stopped)), Expected::Stopped) => true,
+        (Err((_, EvalStop::Memory)), Expected::Memory) => true,
         _ => false,
     }
 }
@@ -190,5 +196,6 @@ fn files_that_cannot_run_are_wrong(rt: HostRuntime) -> Result<(), Fail> {
     let bad = Expected::Wrong(Code::Unexpected, b"//a/b.gni", 2);
     assert!(rt; imports(alloc, File::Bytes(b"\nx = = 1\n"), bad)?);
     assert!(rt; imports(alloc, File::Unread, Expected::Stopped)?);
+    assert!(rt; imports(alloc, File::Unkept, Expected::Memory)?);
     Ok(())
 }
