@@ -6,6 +6,7 @@ use Rattle.std.specs.Set.{is_member}
 use Rattle.std.proofs.lemmas.Bool.Decides.{Decides-ltb}
 use Rattle.std.proofs.lemmas.Map.Made.{length-le_from_is_member}
 use Rattle.std.proofs.lemmas.Map.Keys.{IsDistinct-from_sorted}
+use Rattle.std.proofs.lemmas.Bool.{or_cases, or_left, or_right, not-true, not_from_false}
 use Rattle.gn_values.specs.Imported.{ImportState}
 use Rattle.gn_runs.specs.Runs.{Question, content_of, import_of, End, ended, wrong, spoiled, needs, Run}
 use Rattle.gn_runs.specs.Laws.{IsAsked}
@@ -53,18 +54,6 @@ in_one : (ps : List (List ℕ)) (p : List ℕ) → In ps p → IsOneOf p ps
 in_one [] p h = absurd h
 in_one (q ∷ ps) p (inl e) = inl (sym e)
 in_one (q ∷ ps) p (inr h) = inr (in_one ps p h)
-
-or_cases : (b c : Bool) → (b || c) ≡ true → (b ≡ true) ⊎ (c ≡ true)
-or_cases true c h = inl refl
-or_cases false c h = inr h
-
-or_left : (b c : Bool) → b ≡ true → (b || c) ≡ true
-or_left true c h = refl
-or_left false c h = cc
-
-or_right : (b c : Bool) → c ≡ true → (b || c) ≡ true
-or_right true c h = refl
-or_right false c h = h
 
 module _ {A : Type 0} (test : A → Bool) where
   any_some : (xs : List A) → list_any test xs ≡ true → (x : A) × In xs x × (test x ≡ true)
@@ -179,14 +168,6 @@ import_exact l p q e = cc
 
 read_exact : (p q : List ℕ) → Read p ≡ Read q → p ≡ q
 read_exact p q e = cc
-
-not_known : (b : Bool) → not b ≡ true → b ≡ false
-not_known true h = cc
-not_known false h = refl
-
-known_not : (b : Bool) → b ≡ false → not b ≡ true
-known_not true h = cc
-known_not false h = refl
 
 step_unit : (s : Step) (u : Unit_key) → In (unit_in_step s) u → s ≡ Holding (Is_reached u)
 step_unit (Holding (Is_reached k)) u (inl e) = ap (λ z. Holding (Is_reached z)) e
@@ -341,14 +322,14 @@ module _ (w : World) (l : IsLayered w) where
             in_one new_paths path
                 (filter_in (λ p. not (known p)) (flat_map (files_of w) (units_reached w)) path
                 (flat_in (files_of w) (units_reached w) r.0 path (reached_listed r.0 r.1) (one_in (files_of w r.0) path (content_one (unit_asks w r.0) path (subst (IsAsked (unit_asks w r.0)) q r.4))))
-                (known_not (known path) new)),
+                (not_from_false (known path) new)),
           )
 
       new_from : (p : List ℕ) → IsOneOf p new_paths → Reads_new (Read p)
       new_from p o =
           let f = in_filter (λ path. not (known path)) (flat_map (files_of w) (units_reached w)) p (one_in new_paths p o) in
           let u = in_flat (files_of w) (units_reached w) p f.0 in
-          (p, refl, not_known (known p) f.1, needed_unit u.0 (listed_reached u.0 u.1) (content_of p) (one_content (unit_asks w u.0) p (in_one (files_of w u.0) p u.2)))
+          (p, refl, not-true (known p) f.1, needed_unit u.0 (listed_reached u.0 u.1) (content_of p) (one_content (unit_asks w u.0) p (in_one (files_of w u.0) p u.2)))
 
       reads_there : HasMore Reads_new read_limit → ltb read_limit (length (files_read w known)) ≡ true
       unfolding files_read

@@ -1,16 +1,13 @@
 -- What a map of keys holds after a put.
-use Rattle.std.proofs.Common.{◌≡◌, Option, Some, None, refl, ◌∙◌, ap, subst, ◌⊎◌, inl, inr, Bool, true, false, ◌&&◌, cond}
+use Rattle.std.proofs.Common.{◌≡◌, Option, Some, None, refl, ◌∙◌, ap, subst, ◌⊎◌, inl, inr, Bool, true, false, cond}
 use Rattle.std.specs.Str.{bytes_eq}
 use Rattle.std.proofs.lemmas.Slice.Eq.{bytes_eq-Decides}
+use Rattle.std.proofs.lemmas.Bool.{and_parts}
 use Rattle.gn_labels.specs.declared.label.Label.{Label}
 use Rattle.gn_closure.specs.Reach.{Unit_key, Is_reached, Is_generated}
 use Rattle.gn_closure.specs.Ground.{Holding}
 use Rattle.gn_closure.proofs.SameStep.{step_tested}
 use Rattle.gn_core.specs.Keys.{Layer, early, usual, Key, Read, Import, Unit_of, Resolve, same_layer, same_key, put}
-
-both : (b c : Bool) → (b && c) ≡ true → (b ≡ true) × (c ≡ true)
-both true c h = (refl, h)
-both false c h = cc
 
 layer_is : (l m : Layer) → same_layer l m ≡ true → l ≡ m
 layer_is (early t) (early u) h = ap early ((bytes_eq-Decides t u).0 h)
@@ -27,7 +24,7 @@ label_same l m e = cc
 pub same_key_is : (k q : Key) → same_key k q ≡ true → k ≡ q
 same_key_is (Read p) (Read q) h = ap Read ((bytes_eq-Decides p q).0 h)
 same_key_is (Import l p) (Import m q) h =
-    let w = both (same_layer l m) (bytes_eq p q) h in
+    let w = and_parts (same_layer l m) (bytes_eq p q) h in
     ap (λ z. Import z p) (layer_is l m w.0) ∙ ap (Import m) ((bytes_eq-Decides p q).0 w.1)
 same_key_is (Unit_of k) (Unit_of q) h = ap Unit_of (unit_same k q ((step_tested (Holding (Is_reached k)) (Holding (Is_reached q))).0 h))
 same_key_is (Resolve l) (Resolve m) h = ap Resolve (label_same l m ((step_tested (Holding (Is_generated l)) (Holding (Is_generated m))).0 h))

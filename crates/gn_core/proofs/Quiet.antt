@@ -9,6 +9,7 @@ use Rattle.gn_imports.specs.Rounds.{final}
 use Rattle.gn_imports.specs.Causes.{outcome}
 use Rattle.gn_imports.specs.Laws.{spoiled_at_need}
 use Rattle.gn_imports.proofs.Final.{final_run}
+use Rattle.gn_imports.proofs.AskedFor.{same_need}
 use Rattle.gn_labels.specs.declared.label.Label.{Label}
 use Rattle.gn_closure.specs.Reach.{Unit_key, Setup, Load, Target, Done, Fact, Is_reached, Is_generated, Holds}
 use Rattle.gn_closure.proofs.GroundRules.{holds_grows, holds_back}
@@ -72,9 +73,6 @@ settled_not (ended x) q p s h = cc
 settled_not (wrong f) q p s h = cc
 settled_not (spoiled path place) q p s h = cc
 settled_not (needs r place) q p s h = absurd s
-
-one_question : {A : Type 0} (end : End A) (q r : Question) (p m : Place) → end ≡ needs q p → end ≡ needs r m → q ≡ r
-one_question end q r p m h e = cc
 
 module _ (w : World) (l : IsLayered w) (first s : State) (inv : Inv w (all_meanings w) s) (bases : AllBased w s) (sc : Scope w first s)
     (none_resolved : (m : Label) → first.filed (Resolve m) ≡ None) (none_units : (k : Unit_key) → first.filed (Unit_of k) ≡ None) where
@@ -163,7 +161,7 @@ module _ (w : World) (l : IsLayered w) (first s : State) (inv : Inv w (all_meani
       go (inl h) = inl h
       go (inr h) =
           let n = tree_asks_known (w.import_run m (all_meanings w) path) (import_tree w l.is (all_meanings w) m path) (shown s.filed m) q i (unknown_here m q h) in
-          let same : import_of r ≡ q = one_question (w.import_run m (all_meanings w) path (shown s.filed m)).end (import_of r) q p n.0 e n.1 in
+          let same : import_of r ≡ q = same_need (w.import_run m (all_meanings w) path (shown s.filed m)).end (import_of r) q p n.0 e n.1 in
           let on : b.0.on ≡ Import m r = closing_on w l.is (all_meanings w) s inv m path r p e b.0 b.1 b.2 in
           subst (IsKnown s) (on ∙ ap (key_of m) same) (sc.blocked (Import m path) b.0 b.1)
 

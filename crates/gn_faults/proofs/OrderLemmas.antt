@@ -1,14 +1,15 @@
 -- The order of faults.
-use Rattle.std.proofs.Common.{◌≡◌, ◌⊎◌, inl, inr, List, ℕ, true, false, refl, ap, ◌∙◌}
+use Rattle.std.proofs.Common.{◌≡◌, ◌⊎◌, inl, inr, ℕ, true, false, refl, ap, ◌∙◌}
 use Rattle.std.specs.declared.cmp.Ordering.{Ordering}
 use Rattle.std.specs.declared.cmp.Ordering.TheVariants.{Less, Equal, Greater}
 use Rattle.std.specs.declared.option.Option.{Option}
 use Rattle.std.specs.declared.option.Option.TheVariants.{None, Some}
-use Rattle.std.specs.Ordering.{is_lt, is_eq, ordering_then, ordering_reverse, nat_cmp}
+use Rattle.std.specs.Ordering.{is_lt, ordering_reverse}
 use Rattle.std.specs.Option.{option_map, option_cmp}
 use Rattle.std.specs.Cmp.{IsTotalOrder, nat_cmp_total, then_total, on_total, tied_itself}
-use Rattle.std.specs.Cmp.Lexicographic.{slice_cmp, lists_total, lists_ties, options_total, texts_ties, nat_list_cmp_total, pointwise_decides, bytes_decides}
+use Rattle.std.specs.Cmp.Lexicographic.{lists_total, options_total, nat_list_cmp_total}
 use Rattle.std.proofs.lemmas.Map.Lookups.{exact_unsigned, exact_bytes}
+use Rattle.gn_basics.proofs.Orders.{both_equal, less_from_test, texts_same}
 use Rattle.gn_paths.specs.declared.place.Place.{Place}
 use Rattle.gn_faults.specs.declared.fault.Fault.{Fault}
 use Rattle.gn_faults.specs.Numbers.{code_number, stage_number}
@@ -27,16 +28,6 @@ faults_total =
     (then_total (on_total position_of (options_total positions_total))
     (then_total (on_total (λ (f : Fault). code_number f.code) nat_cmp_total)
     (on_total (λ (f : Fault). f.detail) (lists_total nat_list_cmp_total))))))
-
--- of two comparisons in turn that find no difference neither does
-both_equal : (r s : Ordering) → ordering_then r s ≡ Equal → (r ≡ Equal) × (s ≡ Equal)
-both_equal Less s e = cc
-both_equal Equal s e = (refl, e)
-both_equal Greater s e = cc
-
-details_same : (xs ys : List (List ℕ)) → slice_cmp text_cmp xs ys ≡ Equal → xs ≡ ys
-details_same xs ys e =
-    (pointwise_decides bytes_decides xs ys).0 (lists_ties (slice_cmp nat_cmp) texts_ties xs ys ∙ ap is_eq e)
 
 position_same : (p q : ℕ × ℕ) → position_cmp p q ≡ Equal → p ≡ q
 position_same p q e =
@@ -68,13 +59,8 @@ fault_same a b e =
     let place = place_same a.place b.place e2.0 e4.0 in
     let toolchain = exact_bytes a.toolchain b.toolchain e3.0 in
     let code = code_same a.code b.code (exact_unsigned _ _ e5.0) in
-    let detail = details_same a.detail b.detail e5.1 in
+    let detail = texts_same a.detail b.detail e5.1 in
     λ i. record { stage = stage i; place = place i; toolchain = toolchain i; code = code i; detail = detail i }
-
-lt_is : (r : Ordering) → is_lt r ≡ true → r ≡ Less
-lt_is Less e = refl
-lt_is Equal e = cc
-lt_is Greater e = cc
 
 -- no fault comes before itself
 pub before_itself : (a : Fault) → is_before a a ≡ false
@@ -82,7 +68,7 @@ before_itself a = ap is_lt (tied_itself faults_total a)
 
 -- the order of faults is transitive
 pub before_before : (a b c : Fault) → is_before a b ≡ true → is_before b c ≡ true → is_before a c ≡ true
-before_before a b c h g = ap is_lt (faults_total.trans a b c (lt_is _ h) (lt_is _ g))
+before_before a b c h g = ap is_lt (faults_total.trans a b c (less_from_test _ h) (less_from_test _ g))
 
 -- of two faults one comes before the other, unless they are one
 pub one_before : (a b : Fault) → (is_before a b ≡ true) ⊎ ((a ≡ b) ⊎ (is_before b a ≡ true))

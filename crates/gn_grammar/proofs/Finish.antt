@@ -1,5 +1,6 @@
 -- Whatever the machine wants, some tokens are taken: a file that was begun can be finished.
 use Rattle.std.proofs.Common.{◌≡◌, ℕ, Bool, true, false, ◌&&◌, List, [], ◌∷◌, ◌++◌, Option, Some, None, refl, ◌∙◌}
+use Rattle.gn_basics.proofs.Tests.{second_true}
 use Rattle.gn_tokens.specs.declared.token.TokenKind.{TokenKind}
 use Rattle.gn_tokens.specs.declared.token.TokenKind.TheVariants as k
 use Rattle.gn_grammar.specs.Lexemes.{Lexeme}
@@ -36,18 +37,10 @@ is_linked b [] = true
 is_linked true (s ∷ stack) = may_stand s && is_linked (ends_open s) stack
 is_linked false (s ∷ stack) = is_linked (ends_open s) stack
 
-and_right : (a b : Bool) → (a && b) ≡ true → b ≡ true
-and_right true b h = h
-and_right false b h = absurd_false h
-
-and_left : (a b : Bool) → (a && b) ≡ true → a ≡ true
-and_left true b h = refl
-and_left false b h = absurd_false h
-
 linked_below : (b : Bool) (stack : List Symbol) → is_linked b stack ≡ true → is_linked false stack ≡ true
 linked_below false stack h = h
 linked_below true [] h = h
-linked_below true (s ∷ stack) h = and_right (may_stand s) (is_linked (ends_open s) stack) h
+linked_below true (s ∷ stack) h = second_true (may_stand s) (is_linked (ends_open s) stack) h
 
 -- What comes in place of a symbol keeps this.
 abbrev KeepsLinks : Reaction → List Symbol → Type 0

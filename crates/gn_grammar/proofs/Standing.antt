@@ -81,10 +81,10 @@ item_one_line (Field name entry) rest h =
 abbrev position_after : List ℕ → Position
 position_after before = record { line = counted (line_behind before); column = counted (column_behind before) }
 
-abbrev at : ℕ → ℕ → Position
+abbrev pub at : ℕ → ℕ → Position
 at l c = record { line = l; column = c }
 
-same_place : (l c m d : ℕ) → l ≡ m → c ≡ d → at l c ≡ at m d
+pub same_place : (l c m d : ℕ) → l ≡ m → c ≡ d → at l c ≡ at m d
 same_place l c m d e f = λ i. at (e i) (f i)
 
 line_kept : (before : List ℕ) (b : ℕ) → (b == 10) ≡ false → line_behind (before ++ b ∷ []) ≡ line_behind before

@@ -6,7 +6,7 @@ use Rattle.std.proofs.lemmas.Bool.{cases_lt}
 use Rattle.std.proofs.lemmas.Slice.Eq.{bytes_eq-Decides}
 use Rattle.gn_runs.specs.Runs.{Question, content_of, import_of, is_absent, Answers, End, ended, wrong, spoiled, needs}
 use Rattle.gn_runs.specs.Laws.{Below, IsSettled, IsAsked}
-use Rattle.gn_runs.proofs.TreeLaws.{tree_stays_settled, tree_asks_known}
+use Rattle.gn_runs.proofs.TreeLaws.{import_path, tree_stays_settled, tree_asks_known}
 use Rattle.gn_imports.specs.Rounds.{Project, final}
 use Rattle.gn_imports.specs.Asked.{asked_by, behind, asked_through, all_asked}
 use Rattle.gn_imports.specs.Loading.{IsOneOf, IsWrong, IsProject, set_at}
@@ -32,9 +32,6 @@ asked_left (x ∷ xs) ys q (inr h) = inr (asked_left xs ys q h)
 asked_right : (xs ys : List Question) (q : Question) → IsAsked ys q → IsAsked (xs ++ ys) q
 asked_right [] ys q h = h
 asked_right (x ∷ xs) ys q h = inr (asked_right xs ys q h)
-
-pub import_path : (p q : List ℕ) → import_of p ≡ import_of q → p ≡ q
-import_path p q e = cc
 
 -- One level: questions, and what is asked behind each of them
 

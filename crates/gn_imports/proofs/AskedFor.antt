@@ -5,12 +5,12 @@ use Rattle.gn_values.specs.Imported.{ImportState}
 use Rattle.gn_faults.specs.declared.fault.Fault.{Fault}
 use Rattle.gn_runs.specs.Runs.{Question, content_of, import_of, Content, Imported, is_unusable, Answers, End, ended, wrong, spoiled, needs, Run, IsTree}
 use Rattle.gn_runs.specs.Laws.{Below, IsUnknown, IsSettled, IsAsked}
-use Rattle.gn_runs.proofs.TreeLaws.{tree_stays_settled, tree_asks_more, tree_needs_unknown, tree_asks_known}
+use Rattle.gn_runs.proofs.TreeLaws.{tree_stays_settled, tree_asks_more, tree_needs_unknown, tree_asks_known, import_path}
 use Rattle.gn_imports.specs.Rounds.{Project, imported_of, values, knowing, final}
 use Rattle.gn_imports.specs.Causes.{Link}
 use Rattle.gn_imports.specs.Asked.{all_asked}
 use Rattle.gn_imports.specs.Loading.{IsProject, Known, nothing, answers_of, set_at, with_content, with_import, OneIs, Needs, Waits, IsRight, IsKnownOrWaits, IsAskedFor}
-use Rattle.gn_imports.proofs.Asked.{import_path, all_asked_given, all_asked_closed, all_asked_least}
+use Rattle.gn_imports.proofs.Asked.{all_asked_given, all_asked_closed, all_asked_least}
 use Rattle.gn_imports.proofs.Final.{needs_final}
 use Rattle.gn_imports.proofs.Valued.{needs_last}
 use Rattle.gn_imports.proofs.Sets.{set_cases}
@@ -33,7 +33,7 @@ settled_leaves (wrong fault) h = (_, refl)
 settled_leaves (spoiled path place) h = (_, refl)
 settled_leaves (needs question place) h = absurd h
 
-same_need : {A : Type 0} (end : End A) (q r : Question) (m n : Place) → end ≡ needs q m → end ≡ needs r n → q ≡ r
+pub same_need : {A : Type 0} (end : End A) (q r : Question) (m n : Place) → end ≡ needs q m → end ≡ needs r n → q ≡ r
 same_need end q r m n e f = cc
 
 module _ {A : Type 0} (project : Project) (unit : Answers → Run A) where

@@ -1,5 +1,6 @@
 -- Where links lead, and the fault to which they lead.
 use Rattle.std.proofs.Common.{◌≡◌, ℕ, suc, zero, ◌+◌, ◌-◌, ◌≤◌, ◌<◌, length, List, ◌∷◌, Option, Some, None, refl, sym, ◌∙◌, ap, subst, ◌⊎◌, inl, inr, arith, false, zero-add, suc-add}
+use Rattle.std.proofs.lemmas.Option.{same_Some}
 use Rattle.gn_paths.specs.declared.place.Place.{Place}
 use Rattle.gn_values.specs.Imported.{ImportState}
 use Rattle.gn_faults.specs.declared.fault.Fault.{Fault}
@@ -13,9 +14,6 @@ use Rattle.gn_imports.proofs.Final.{unusable_leads}
 use Rattle.gn_imports.proofs.Links.{wrong_outcome, outcome_wrong, spoiled_link, link_spoils}
 use Rattle.gn_imports.proofs.Places.{neither_before, IsAmong, least_found, least_first, least_each}
 use Rattle.gn_imports.proofs.Walks.{Listed, led_step, led_add, short_walk}
-
-some_same : {A : Type 0} (x y : A) → Some x ≡ Some y → x ≡ y
-some_same x y h = cc
 
 -- a wrong end has no link
 wrong_no_link : (end : End ImportState) (l : Link) → IsWrong end → link_of end ≡ Some l → ⊥
@@ -34,9 +32,9 @@ wrong_fault (needs question place) h = absurd h
 linked_next : (end : End ImportState) (l : Link) (next : List ℕ → Fault) (cycle : Fault) → link_of end ≡ Some l → linked_cause end (link_of end) next cycle ≡ next l.path
 linked_next (ended x) l next cycle h = cc
 linked_next (wrong fault) l next cycle h = cc
-linked_next (spoiled path place) l next cycle h = ap (λ (x : Link). next x.path) (some_same _ l h)
+linked_next (spoiled path place) l next cycle h = ap (λ (x : Link). next x.path) (same_Some _ l h)
 linked_next (needs (content_of path) place) l next cycle h = cc
-linked_next (needs (import_of path) place) l next cycle h = ap (λ (x : Link). next x.path) (some_same _ l h)
+linked_next (needs (import_of path) place) l next cycle h = ap (λ (x : Link). next x.path) (same_Some _ l h)
 
 module _ (project : Project) where
   pub leads_step : (path q : List ℕ) (l : Link) → link project path ≡ Some l → LeadsTo project l.path q → LeadsTo project path q
@@ -51,7 +49,7 @@ module _ (project : Project) where
   -- the import to which the link of one on a cycle leads is on it too
   pub cycle_next : (z : List ℕ) (l : Link) → link project z ≡ Some l → IsOnCycle project z → IsOnCycle project l.path
   cycle_next z l e (k, f, r) =
-      let same : k ≡ l = some_same k l (sym f ∙ e) in
+      let same : k ≡ l = same_Some k l (sym f ∙ e) in
       by (subst (λ (x : Link). LeadsTo project x.path z) same r)
     where
       go : (n : ℕ) (x : Option Link) → link project l.path ≡ x → led_by x (led (link project) n) ≡ Some z → IsOnCycle project l.path

@@ -2,7 +2,7 @@
 use Rattle.std.proofs.Common.{◌≡◌, ℕ, suc, ◌≤◌, length, List, [], ◌∷◌, map, Bool, true, false, ◌||◌, ◌&&◌, Option, Some, None, refl, sym, ◌∙◌, ap, subst, inl, inr}
 use Rattle.std.specs.Prelude.{◌↔◌, T, is_some, Decides}
 use Rattle.std.specs.declared.cmp.Ordering.{Ordering}
-use Rattle.std.specs.declared.cmp.Ordering.TheVariants.{Less, Equal, Greater}
+use Rattle.std.specs.declared.cmp.Ordering.TheVariants.{Less}
 use Rattle.std.specs.Ordering.{is_lt, eq_by_cmp, nat_cmp}
 use Rattle.std.specs.Cmp.{Equal-is, both_ways, eq_by_cmp_equiv, tied_itself}
 use Rattle.std.specs.Cmp.Lexicographic.{slice_cmp, nat_list_cmp_total}
@@ -13,11 +13,14 @@ use Rattle.std.specs.FinMap.Entries.{find, below_all, is_sorted, is_some-find}
 use Rattle.std.proofs.lemmas.Map.Keys.{sorted_head, sorted_tail, IsDistinct-from_sorted, IsDistinct-cons}
 use Rattle.std.proofs.lemmas.Map.Made.{length-le_from_is_member, length-from_same_keys, AllPairs-from_IsDistinct, IsDistinct-from_AllPairs}
 use Rattle.std.proofs.lemmas.Map.Lookups.{exact_bytes}
+use Rattle.std.proofs.lemmas.Bool.{or_left, or_right}
+use Rattle.gn_basics.proofs.Tests.{second_holds}
+use Rattle.gn_basics.proofs.Orders.{less_from_test}
 use Rattle.gn_runs.specs.Runs.{Question, content_of, import_of}
 use Rattle.gn_runs.specs.Laws.{IsAsked}
 use Rattle.gn_imports.specs.Asked.{contents_asked, imports_asked, in_path_order}
 use Rattle.gn_imports.specs.Loading.{IsOneOf}
-use Rattle.gn_imports.proofs.Asked.{import_path}
+use Rattle.gn_runs.proofs.TreeLaws.{import_path}
 
 -- The order of paths, and whether two are the same by it
 abbrev pub path_cmp : List ℕ → List ℕ → Ordering
@@ -35,14 +38,6 @@ or_cases : (b c : Bool) → (b || c) ≡ true → (b ≡ true → ⊥) → c ≡
 or_cases true c h none = absurd (none refl)
 or_cases false c h none = h
 
-or_left : (b c : Bool) → b ≡ true → (b || c) ≡ true
-or_left true c e = refl
-or_left false c e = cc
-
-or_right : (b c : Bool) → c ≡ true → (b || c) ≡ true
-or_right true c e = refl
-or_right false c e = e
-
 and_both : (b c : Bool) → b ≡ true → T c → T (b && c)
 and_both true c e h = h
 and_both false c e h = cc
@@ -50,15 +45,6 @@ and_both false c e h = cc
 and_first : (b c : Bool) → T (b && c) → b ≡ true
 and_first true c h = refl
 and_first false c h = absurd h
-
-and_second : (b c : Bool) → T (b && c) → T c
-and_second true c h = h
-and_second false c h = absurd h
-
-is_less : (r : Ordering) → is_lt r ≡ true → r ≡ Less
-is_less Less e = refl
-is_less Equal e = cc
-is_less Greater e = cc
 
 pub any_one : (ps : List (List ℕ)) (q : List ℕ) → list_any (path_eq q) ps ≡ true → IsOneOf q ps
 any_one [] q h = cc
@@ -112,13 +98,13 @@ sorted_marked (p ∷ ps) h =
 module _ {X : Type 0} where
   below_keys : (p : List ℕ) (es : List (List ℕ × X)) → T (below_all path_cmp p es) → AllByRecursion (λ y. path_cmp p y ≡ Less) (map (λ e. e.0) es)
   below_keys p [] h = tt
-  below_keys p (e ∷ es) h = (is_less (path_cmp p e.0) (and_first (is_lt (path_cmp p e.0)) (below_all path_cmp p es) h), below_keys p es (and_second (is_lt (path_cmp p e.0)) (below_all path_cmp p es) h))
+  below_keys p (e ∷ es) h = (less_from_test (path_cmp p e.0) (and_first (is_lt (path_cmp p e.0)) (below_all path_cmp p es) h), below_keys p es (second_holds (is_lt (path_cmp p e.0)) (below_all path_cmp p es) h))
 
   pub keys_sorted : (es : List (List ℕ × X)) → T (is_sorted path_cmp es) → IsStrictlySortedBy path_cmp (map (λ e. e.0) es)
   unfolding IsStrictlySortedBy
   keys_sorted [] h = tt
   keys_sorted (e ∷ es) h =
-      (below_keys e.0 es (subst T (sym (and_first (below_all path_cmp e.0 es) (is_sorted path_cmp es) h)) tt), keys_sorted es (and_second (below_all path_cmp e.0 es) (is_sorted path_cmp es) h))
+      (below_keys e.0 es (subst T (sym (and_first (below_all path_cmp e.0 es) (is_sorted path_cmp es) h)) tt), keys_sorted es (second_holds (below_all path_cmp e.0 es) (is_sorted path_cmp es) h))
 
 -- Paths in their order
 

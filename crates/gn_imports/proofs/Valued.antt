@@ -43,9 +43,6 @@ needs_unspoiled end q p h path m e = cc
 pub needs_valued : {A : Type 0} (meaning : Answers → Run A) → IsTree meaning → (a : Answers) (q : Question) (p : Place) → (meaning a).end ≡ needs q p → meaning (valued a) ≡ meaning a
 needs_valued meaning t a q p h = unspoiled_valued meaning t a (needs_unspoiled (meaning a).end q p h)
 
-some_same : {A : Type 0} (x y : A) → Some x ≡ Some y → x ≡ y
-some_same x y h = cc
-
 valued_last : (x : Option Imported) (v : Option Imported) (y : Imported) → ((u : Imported) → x ≡ Some u → Some (usable v) ≡ Some u) → valued_of x ≡ Some y → v ≡ Some y
 valued_last None v y f h = cc
 valued_last (Some is_unusable) v y f h = cc

@@ -1,40 +1,24 @@
 -- Label order.
-use Rattle.std.proofs.Common.{◌≡◌, ◌⊎◌, inl, inr, List, [], ◌∷◌, ℕ, Bool, true, false, cond, refl, sym, ap, ◌∙◌, true≢false}
+use Rattle.std.proofs.Common.{◌≡◌, ◌⊎◌, inl, inr, List, [], ◌∷◌, ℕ, Bool, true, false, cond, refl, sym, ap, ◌∙◌}
 use Rattle.std.specs.declared.cmp.Ordering.{Ordering}
 use Rattle.std.specs.declared.cmp.Ordering.TheVariants.{Less, Equal, Greater}
-use Rattle.std.specs.Ordering.{is_lt, is_eq, ordering_then, ordering_reverse, nat_cmp}
+use Rattle.std.specs.Ordering.{is_lt, ordering_then, ordering_reverse, nat_cmp}
 use Rattle.std.specs.Str.{bytes_eq}
-use Rattle.std.specs.Cmp.{IsTotalOrder, nat_cmp_total, tied_itself}
-use Rattle.std.specs.Cmp.Lexicographic.{slice_cmp, lists_total, lists_ties, texts_ties, pointwise_decides, bytes_decides}
+use Rattle.std.specs.Cmp.{tied_itself}
+use Rattle.std.specs.Cmp.Lexicographic.{slice_cmp, bytes_decides}
 use Rattle.gn_labels.specs.declared.label.Label.{Label}
 use Rattle.gn_labels.specs.contracts.key.LabelKeyOrd.TheImpl.{cmp-value}
 use Rattle.gn_labels.specs.Keys.{other_than, key_of}
 use Rattle.gn_labels.specs.Labels.{toolchain_key, order_key, label_order, is_before}
 use Rattle.std.specs.Option.{option_cmp}
 use Rattle.std.specs.Prelude.{None, Some}
+use Rattle.gn_basics.proofs.Orders.{then_equal, texts_cmp, texts_total, texts_same, less_from_test}
 
 -- a comparison that comes last decides alone
 pub lt_then_equal : (r : Ordering) → is_lt (ordering_then r Equal) ≡ is_lt r
 lt_then_equal Less = refl
 lt_then_equal Equal = refl
 lt_then_equal Greater = refl
-
-pub then_equal : (r : Ordering) → r ≡ ordering_then r Equal
-then_equal Less = refl
-then_equal Equal = refl
-then_equal Greater = refl
-
--- the order of lists of texts
-abbrev texts_cmp : List (List ℕ) → List (List ℕ) → Ordering
-texts_cmp = slice_cmp (slice_cmp nat_cmp)
-
-texts_total : IsTotalOrder texts_cmp
-texts_total = lists_total (lists_total nat_cmp_total)
-
-lt_is : (r : Ordering) → is_lt r ≡ true → r ≡ Less
-lt_is Less e = refl
-lt_is Equal e = absurd (true≢false (sym e))
-lt_is Greater e = absurd (true≢false (sym e))
 
 -- no label comes before itself
 pub before_itself : (default : List ℕ) (a : Label) → is_before default a a ≡ false
@@ -43,11 +27,7 @@ before_itself default a = ap is_lt (tied_itself texts_total (order_key default a
 -- label order is transitive
 pub before_before : (default : List ℕ) (a b c : Label) → is_before default a b ≡ true → is_before default b c ≡ true → is_before default a c ≡ true
 before_before default a b c h g =
-    ap is_lt (texts_total.trans (order_key default a) (order_key default b) (order_key default c) (lt_is _ h) (lt_is _ g))
-
--- lists of texts that compare equal are one
-texts_same : (xs ys : List (List ℕ)) → texts_cmp xs ys ≡ Equal → xs ≡ ys
-texts_same xs ys e = (pointwise_decides bytes_decides xs ys).0 (lists_ties (slice_cmp nat_cmp) texts_ties xs ys ∙ ap is_eq e)
+    ap is_lt (texts_total.trans (order_key default a) (order_key default b) (order_key default c) (less_from_test _ h) (less_from_test _ g))
 
 -- toolchains that are ordered alike are one
 key_same : (default s t : List ℕ) → toolchain_key default s ≡ toolchain_key default t → s ≡ t

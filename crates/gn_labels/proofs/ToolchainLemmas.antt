@@ -1,5 +1,5 @@
 -- A toolchain's text is cut where it was joined.
-use Rattle.std.proofs.Common.{◌≡◌, ℕ, ◌+◌, ◌-◌, ◌<◌, ◌≤◌, Bool, true, false, cond, not, ◌&&◌, ◌||◌, ◌==◌, List, [], ◌∷◌, ◌++◌, length, take, drop, None, Some, refl, sym, ap, ◌∙◌, arith, get_or, append_assoc}
+use Rattle.std.proofs.Common.{◌≡◌, ℕ, ◌+◌, ◌-◌, ◌<◌, ◌≤◌, Bool, true, false, cond, not, ◌&&◌, ◌||◌, ◌==◌, List, [], ◌∷◌, ◌++◌, length, drop, None, Some, refl, sym, ap, ◌∙◌, arith, get_or, append_assoc, Ok}
 use Rattle.std.specs.List.{All, list_any, list_all, suffix_len, before_last, after_last}
 use Rattle.std.proofs.lemmas.Bool.{false≢true, and_parts}
 use Rattle.std.proofs.lemmas.List.{take_at, drop_at, length-append, get_or_at, get_or-append_right}
@@ -8,12 +8,11 @@ use Rattle.std.proofs.lemmas.List.Sums.{suffix_len_is}
 use Rattle.gn_paths.specs.Components.{two_slashes, pieces}
 use Rattle.std.specs.Str.{is_utf8}
 use Rattle.gn_paths.specs.Directory.{leads_down}
-use Rattle.gn_paths.specs.Normal.{is_path_byte}
+use Rattle.gn_paths.specs.Normal.{is_path_byte, IsNormal}
 use Rattle.gn_paths.specs.Resolve.{path_meant}
-use Rattle.gn_paths.proofs.LawLemmas.{means_itself}
 use Rattle.gn_labels.specs.declared.named.Named.{Named}
 use Rattle.gn_labels.specs.Labels.{spelling}
-use Rattle.gn_labels.specs.Names.{is_mark, is_name_byte, is_name}
+use Rattle.gn_labels.specs.Names.{is_name_byte, is_name}
 use Rattle.gn_labels.specs.Reading.{is_colon}
 use Rattle.gn_labels.specs.Toolchains.{named_at, toolchain_named}
 use Rattle.gn_labels.specs.Laws.{IsNamed}
@@ -63,9 +62,9 @@ some_colon (x ∷ xs) c = by (is_colon x) (some_colon xs c)
     by true h = refl
     by false h = h
 
-pub spelled_named : (part : Named) → IsNamed part → toolchain_named (spelling part.dir part.name) ≡ Some part
+pub spelled_named : ((current path : List ℕ) → IsNormal path → path_meant current path ≡ Ok path) → (part : Named) → IsNamed part → toolchain_named (spelling part.dir part.name) ≡ Some part
 unfolding toolchain_named
-spelled_named part h =
+spelled_named means_itself part h =
     let text = spelling part.dir part.name in
     let plain = name_no_colon part.name h.name in
     ap (λ b. cond b (named_at (after_last is_colon text) (path_meant two_slashes (before_last is_colon text))) None) (some_colon part.dir part.name) ∙ ap (λ n. named_at n (path_meant two_slashes (before_last is_colon text))) (behind_colon part.dir part.name plain) ∙ ap (λ d. named_at part.name (path_meant two_slashes d)) (before_colon part.dir part.name plain) ∙ ap (named_at part.name) (means_itself two_slashes part.dir h.directory)

@@ -34,7 +34,7 @@ impl Label {
 
     /// How this label compares with the other in label order: by directory bytes, then name bytes, then
     /// the toolchain, where `default` is first and the others go by their text. It takes no memory.
-    #[tactic(auto, using(crate::proofs::OrderLemmas::then_equal))]
+    #[tactic(auto, using(gn_basics::proofs::Orders::then_equal))]
     pub fn compare(&self, other: &Label, default: &Text) -> Ordering
         ensures { result ≡ label_order default.now self.now other.now }
     {

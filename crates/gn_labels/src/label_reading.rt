@@ -27,7 +27,7 @@ fn dotted(alloc: Global, text: &[u8]) -> Result<Text, AllocError>
 }
 
 // The path of a directory, without a final slash.
-#[tactic(auto, using(crate::proofs::NameLemmas::bytes_eq_nil))]
+#[tactic(auto, using(gn_basics::proofs::Texts::bytes_eq_nil))]
 pub(crate) fn directory(
     alloc: Global,
     current: &Path,

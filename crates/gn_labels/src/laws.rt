@@ -16,6 +16,9 @@ ghost use Rattle.gn_labels.specs.Toolchains.{toolchain_named};
 ghost use Rattle.gn_labels.specs.declared.named.Named.{Named};
 
 use crate::key::LabelKey;
+use gn_paths::{
+    a_path_means_itself, what_ends_in_no_slash_is_a_directory, what_is_meant_is_in_normal_form,
+};
 
 /// No label comes before itself.
 pub fn label_order_is_strict()
@@ -36,7 +39,10 @@ pub fn label_order_has_no_ties()
 /// toolchain that was given or one that is spelled.
 pub fn what_is_read_is_a_label()
     ensures { (current toolchain text : List ℕ) → (label : Label) → IsNormal current → label_read current toolchain text ≡ Ok label → IsReadLabel toolchain label }
-{}
+{
+    what_is_meant_is_in_normal_form();
+    what_ends_in_no_slash_is_a_directory();
+}
 
 /// A text with a bad form before its toolchain or in it is a bad label, whatever its paths are.
 pub fn a_bad_form_is_a_bad_label()
@@ -56,7 +62,9 @@ pub fn a_star_in_the_toolchain_alone_is_a_bad_pattern()
 /// A toolchain's text spells the name and the directory that it was made of.
 pub fn a_toolchain_spells_its_name()
     ensures { (part : Named) → IsNamed part → toolchain_named (spelling part.dir part.name) ≡ Some part }
-{}
+{
+    a_path_means_itself();
+}
 
 /// Keys of labels that are made with one default toolchain are in label order.
 pub fn keys_are_in_label_order()

@@ -3,17 +3,11 @@ use Rattle.std.proofs.Common.{◌≡◌, ℕ, Bool, true, false, cond, not, leng
 use Rattle.std.proofs.lemmas.Bool.{eqb-true}
 use Rattle.std.proofs.Math.Dec.{eqb-suc-zero}
 use Rattle.std.specs.List.{list_all}
+use Rattle.gn_basics.proofs.Tests.{first_true}
+use Rattle.gn_basics.proofs.Texts.{not_one, one_of_more}
 use Rattle.gn_ninja_text.specs.Marks.{is_one_of, all_marked, unmarked}
 use Rattle.gn_ninja_text.specs.Escapes.{path_special, path_escaped, path_read, value_escaped, value_read, without_first_spaces, has_bare, has_bare_separator}
 use Rattle.gn_ninja_text.specs.Words.{is_plain, quotes_special, quotes_read, shell_word_of, word_read}
-
--- a byte that isn't one of these is none of them
-not_one : (special : List ℕ) (s b : ℕ) → is_one_of special s ≡ true → is_one_of special b ≡ false → b == s ≡ false
-not_one special s b h e = by (b == s) refl
-  where
-    by : (v : Bool) → b == s ≡ v → v ≡ false
-    by false q = refl
-    by true q = sym (ap (is_one_of special) (eqb-true b s q) ∙ h) ∙ e
 
 -- the marks before the bytes of `written` are read back where those of `known` are read
 read_marked : (mark : ℕ) (written known bytes : List ℕ) → is_one_of written mark ≡ true → ((b : ℕ) → is_one_of written b ≡ true → is_one_of known b ≡ true) → unmarked mark known false (all_marked mark written bytes) ≡ Some bytes
@@ -43,15 +37,8 @@ unfolding has_bare_separator path_escaped
 path_has_no_end path = none_bare path
 
 -- the marks of a value are among those that are read
-value_marks : (b : ℕ) → is_one_of (36 ∷ []) b ≡ true → is_one_of (36 ∷ 32 ∷ []) b ≡ true
-value_marks b e = by (36 == b) e
-  where
-    by : (v : Bool) → v || false ≡ true → v || ((32 == b) || false) ≡ true
-    by true e = refl
-    by false e = absurd (true≢false (sym e))
-
 value_rest : (value : List ℕ) → unmarked 36 (36 ∷ 32 ∷ []) false (all_marked 36 (36 ∷ []) value) ≡ Some value
-value_rest value = read_marked 36 (36 ∷ []) (36 ∷ 32 ∷ []) value refl value_marks
+value_rest value = read_marked 36 (36 ∷ []) (36 ∷ 32 ∷ []) value refl (one_of_more (36 ∷ []) (32 ∷ []))
 
 -- a value that begins with another byte than a space keeps its beginning
 value_begins : (b : ℕ) (more : List ℕ) → b == 32 ≡ false → without_first_spaces (all_marked 36 (36 ∷ []) (b ∷ more)) ≡ all_marked 36 (36 ∷ []) (b ∷ more)
@@ -75,11 +62,6 @@ value_reads_back (b ∷ more) = by (32 == b) refl
 second_fails : (p q : Bool) → p || q ≡ false → q ≡ false
 second_fails true q e = absurd (true≢false e)
 second_fails false q e = e
-
--- the first of two tests that both pass
-first_passes : (p q : Bool) → p && q ≡ true → p ≡ true
-first_passes true q e = refl
-first_passes false q e = e
 
 -- what stands between double quotes is read back
 quotes_read_back : (word : List ℕ) → quotes_read false (all_marked 92 quotes_special word ++ 34 ∷ []) ≡ Some word
@@ -107,7 +89,7 @@ plain_no_quote b h = by (b == 34) refl
 
 plain_reads_back : (b : ℕ) (more : List ℕ) → list_all is_plain (b ∷ more) ≡ true → word_read (b ∷ more) ≡ Some (b ∷ more)
 unfolding word_read
-plain_reads_back b more e = rw (plain_no_quote b (first_passes (is_plain b) (list_all is_plain more) e), e) refl
+plain_reads_back b more e = rw (plain_no_quote b (first_true (is_plain b) (list_all is_plain more) e), e) refl
 
 -- a word of a shell is read back
 pub word_reads_back : (word : List ℕ) → word_read (shell_word_of word) ≡ Some word

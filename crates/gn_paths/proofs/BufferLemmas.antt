@@ -4,17 +4,17 @@ use Rattle.std.specs.List.{position_or_len}
 use Rattle.std.proofs.Math.Seq.{take-length}
 use Rattle.std.proofs.lemmas.Bool.{cases_lt}
 use Rattle.std.proofs.lemmas.List.{take_rest}
+use Rattle.gn_basics.proofs.Lists.{split_last, split_more}
 use Rattle.gn_paths.specs.declared.error.PathError.{PathError}
 use Rattle.gn_paths.specs.declared.error.PathError.TheVariants.{AboveRoot, Memory}
 use Rattle.gn_paths.specs.Components.{is_slash, pieces}
 use Rattle.gn_paths.specs.Buffer.{buffer_stepped, buffer_walked}
-use Rattle.gn_paths.proofs.PieceLemmas.{pieces_last, pieces_more}
 
 -- at the last piece
 pub walked_last : (top : ℕ) (buffer t : List ℕ) (n : ℕ) → n ≡ position_or_len is_slash t → n ≡ length t → buffer_walked top buffer (pieces t) ≡ buffer_stepped top buffer (take n t)
 walked_last top buffer t n e l =
     let whole : take n t ≡ t = ap (λ m. take m t) l ∙ take-length t in
-    ap (buffer_walked top buffer) (pieces_last t (sym e ∙ l)) ∙ by (buffer_stepped top buffer t) ∙ ap (buffer_stepped top buffer) (sym whole)
+    ap (buffer_walked top buffer) (split_last is_slash t (sym e ∙ l)) ∙ by (buffer_stepped top buffer t) ∙ ap (buffer_stepped top buffer) (sym whole)
   where
     by : (o : Option (List ℕ)) → option_and_then (λ after. Some after) o ≡ o
     by None = refl
@@ -22,7 +22,7 @@ walked_last top buffer t n e l =
 
 -- at a piece before a slash
 pub walked_more : (top : ℕ) (buffer t : List ℕ) (n : ℕ) → n ≡ position_or_len is_slash t → n < length t → buffer_walked top buffer (pieces t) ≡ option_and_then (λ after. buffer_walked top after (pieces (drop (n + 1) t))) (buffer_stepped top buffer (take n t))
-walked_more top buffer t n e l = ap (buffer_walked top buffer) (pieces_more t n e l)
+walked_more top buffer t n e l = ap (buffer_walked top buffer) (split_more is_slash t n e l)
 
 -- where the first piece leads above the top, all of them do
 pub walked_above : (top : ℕ) (buffer t : List ℕ) (n : ℕ) → n ≡ position_or_len is_slash t → n ≤ length t → buffer_stepped top buffer (take n t) ≡ None → buffer_walked top buffer (pieces t) ≡ None

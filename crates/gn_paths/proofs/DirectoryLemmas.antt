@@ -1,11 +1,12 @@
 -- A path without its final slashes, and up to its last slash, is in normal form.
-use Rattle.std.proofs.Common.{◌≡◌, ℕ, ◌+◌, ◌-◌, ◌<◌, ◌≤◌, Bool, true, false, cond, not, ◌||◌, List, [], ◌∷◌, ◌++◌, length, take, replicate, refl, sym, ap, ◌∙◌, subst, true≢false, arith, get_or, append_assoc, ◌⊎◌, inl, inr, suc, zero}
+use Rattle.std.proofs.Common.{◌≡◌, ℕ, ◌+◌, ◌-◌, ◌<◌, ◌≤◌, Bool, true, false, cond, not, ◌||◌, List, [], ◌∷◌, ◌++◌, length, take, replicate, refl, sym, ap, ◌∙◌, subst, arith, get_or, append_assoc, ◌⊎◌, inl, inr, suc, zero}
 use Rattle.std.specs.List.{All, suffix_len}
 use Rattle.std.specs.Str.{bytes_eq}
 use Rattle.std.proofs.lemmas.Bool.{false≢true}
 use Rattle.std.proofs.lemmas.List.{append-nil, take_at, length-append, get_or_at, get_or-append_right, length-replicate, get_or-replicate}
 use Rattle.std.proofs.lemmas.List.Elements.{All-nil, All-cons, All-head, All-tail}
 use Rattle.std.proofs.lemmas.List.Sums.{suffix_len_is}
+use Rattle.gn_basics.proofs.Tests.{neither_but_second}
 use Rattle.gn_paths.specs.Components.{is_slash, slash, two_slashes, HasNoSlash, trail, top_of, is_absolute, is_source, is_system, spelled, ends_in_slash, without_final_slashes, up_to_last_slash}
 use Rattle.gn_paths.specs.Normal.{is_path_text, IsNormal, IsInSource, IsPlain}
 use Rattle.gn_paths.specs.Directory.{as_directory, is_directory}
@@ -128,12 +129,8 @@ path_text-filled [] h w = absurd (omega (arith, ap length w.is, length-append w.
 path_text-filled (b ∷ bs) h w = path_text-clean b bs h
 
 -- what is left of a system path is one
-system-parts : (a b : Bool) → cond a false b ≡ true → (a ≡ false) × (b ≡ true)
-system-parts true b e = absurd (false≢true e)
-system-parts false b e = (refl, e)
-
 system-first : (x : ℕ) (r : List ℕ) → is_system (x ∷ r) ≡ true → is_slash x ≡ true
-system-first x r s = sym (one_slash x) ∙ (system-parts (is_source (x ∷ r)) (is_absolute (x ∷ r)) s).1
+system-first x r s = sym (one_slash x) ∙ (neither_but_second (is_source (x ∷ r)) (is_absolute (x ∷ r)) s).1
 
 system-left : (u r : List ℕ) → EndsPlain u → is_system (u ++ r) ≡ true → is_system u ≡ true
 system-left [] r w s = absurd (omega (arith, ap length w.is, length-append w.front (w.last ∷ [])))

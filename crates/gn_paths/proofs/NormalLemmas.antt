@@ -1,9 +1,10 @@
 -- Facts of texts that may name a path.
-use Rattle.std.proofs.Common.{◌≡◌, ℕ, Bool, true, false, ◌==◌, List, [], ◌∷◌, length, IsTrue, refl, rules, tests, inr, sym, ◌∙◌}
+use Rattle.std.proofs.Common.{◌≡◌, ℕ, true, false, ◌==◌, List, [], length, IsTrue, refl, rules, inr, sym, ◌∙◌}
 use Rattle.std.proofs.lemmas.Slice.Eq.{bytes_eq-Decides}
 use lib.Utf8.{encode}
-use Rattle.std.specs.Str.{IsUtf8, is_utf8, chars, bytes_eq}
+use Rattle.std.specs.Str.{IsUtf8, is_utf8, chars}
 use Rattle.std.proofs.lemmas.Str.{IsUtf8-from_is_utf8}
+use Rattle.gn_basics.proofs.Texts.{bytes_eq_nil}
 use Rattle.gn_paths.specs.Components.{two_slashes}
 use Rattle.gn_paths.specs.Normal.{is_path_text, IsNormal}
 
@@ -20,19 +21,6 @@ IsNormal-root = record {
   shape = inr (record { parts = []; final = false; plain = search rules; spelling = refl });
 }
 
--- the test for UTF-8 fails where a text isn't
-pub is_utf8-from_not : (t : List ℕ) → (IsUtf8 t → ⊥) → is_utf8 t ≡ false
-is_utf8-from_not t isnt = by (is_utf8 t) refl
-  where
-    by : (b : Bool) → is_utf8 t ≡ b → is_utf8 t ≡ false
-    by true e = absurd (isnt (IsUtf8-from_is_utf8 t e))
-    by false e = e
-
--- the test for the empty text, as code makes it
-pub bytes_eq_nil : (t : List ℕ) → bytes_eq t [] ≡ (length t == 0)
-bytes_eq_nil [] = refl
-bytes_eq_nil (b ∷ bs) = search (rules, tests)
-
--- a text that passes that test is empty
+-- a text that passes the test for the empty text, as code makes it, is empty
 pub empty_text : (t : List ℕ) → true ≡ (length t == 0) → t ≡ []
 empty_text t h = (bytes_eq-Decides t []).0 (bytes_eq_nil t ∙ sym h)

@@ -1,13 +1,13 @@
 -- A text and its pieces, components behind slashes, and the last byte of a text.
 use Rattle.std.proofs.Common.{◌≡◌, ℕ, ◌+◌, ◌-◌, Bool, true, false, cond, not, Decides, List, [], ◌∷◌, ◌++◌, length, take, drop, refl, sym, ap, ◌∙◌, subst, true≢false, arith, ◌⊎◌, inl, inr, ◌<◌, ◌≤◌, append_assoc, get_or}
-use Rattle.std.specs.List.{All, onto_first, position_or_len, suffix_len, before_last}
+use Rattle.std.specs.List.{All, onto_first, suffix_len, before_last}
 use Rattle.std.specs.Str.{bytes_eq}
 use Rattle.std.proofs.lemmas.Bool.Decides.{Decides-eqb, same_from_decides}
 use Rattle.std.proofs.lemmas.List.{append-nil, take_at, drop_at, length-append, get_or_at, get_or-append_right}
 use Rattle.std.proofs.lemmas.Slice.Eq.{bytes_eq-Decides}
 use Rattle.std.proofs.lemmas.List.Elements.{All-nil, All-cons, All-head, All-tail}
-use Rattle.std.proofs.lemmas.List.Splits.{slice_split-cons_yes, slice_split-cons_no, slice_split_none, slice_split_at, slice_split_first}
-use Rattle.std.proofs.lemmas.List.Sums.{suffix_len_is, fails_before_first}
+use Rattle.std.proofs.lemmas.List.Splits.{slice_split-cons_yes, slice_split-cons_no, slice_split_none, slice_split_at}
+use Rattle.std.proofs.lemmas.List.Sums.{suffix_len_is}
 use Rattle.gn_paths.specs.Components.{is_slash, HasNoSlash, pieces, trail, ends_in_slash, without_final_slash, top_of, is_absolute, components}
 
 -- the byte that passes for a slash is 47
@@ -79,13 +79,6 @@ pieces_plain t = let k = cut t in subst (All HasNoSlash) (sym k.pieces_are) (All
 pub trail-append : (cs ds : List (List ℕ)) → trail (cs ++ ds) ≡ trail cs ++ trail ds
 trail-append [] ds = refl
 trail-append (c ∷ cs) ds = ap (λ x. 47 ∷ (c ++ x)) (trail-append cs ds) ∙ ap (λ x. 47 ∷ x) (sym (append_assoc c (trail cs) (trail ds)))
-
--- the first piece, as it is found by the place of the first slash
-pub pieces_last : (t : List ℕ) → position_or_len is_slash t ≡ length t → pieces t ≡ t ∷ []
-pieces_last t e = slice_split_none is_slash t (λ k d l. fails_before_first is_slash t k d (omega (arith, e)))
-
-pub pieces_more : (t : List ℕ) (n : ℕ) → n ≡ position_or_len is_slash t → n < length t → pieces t ≡ take n t ∷ pieces (drop (n + 1) t)
-pieces_more t n e l = subst (λ m. pieces t ≡ take m t ∷ pieces (drop (m + 1) t)) (sym e) (slice_split_first is_slash t 0 (omega (arith, e)))
 
 -- a list that isn't empty as its front and its last element
 pub record Ends {X : Type 0} (xs : List X) : Type 0 where

@@ -1,5 +1,5 @@
 -- Components that lead from one directory to another, over texts in which each stands behind a slash.
-use Rattle.std.proofs.Common.{◌≡◌, ℕ, ◌+◌, ◌-◌, ◌<◌, ◌≤◌, Bool, true, false, cond, ◌&&◌, List, [], ◌∷◌, ◌++◌, length, take, drop, map, replicate, refl, sym, ap, ◌∙◌, subst, true≢false, arith, get_or, append_assoc, ◌⊎◌, inl, inr, not, add-one, suc, zero}
+use Rattle.std.proofs.Common.{◌≡◌, ℕ, ◌+◌, ◌-◌, ◌<◌, ◌≤◌, Bool, true, false, cond, List, [], ◌∷◌, ◌++◌, length, take, drop, map, replicate, refl, sym, ap, ◌∙◌, subst, true≢false, arith, get_or, append_assoc, ◌⊎◌, inl, inr, not, add-one, suc, zero}
 use Rattle.std.specs.List.{All, position_or_len, count_by, onto_first}
 use Rattle.std.specs.Str.{bytes_eq}
 use Rattle.std.proofs.lemmas.Bool.{cases_lt}
@@ -8,9 +8,10 @@ use Rattle.std.proofs.lemmas.List.Elements.{All-append}
 use Rattle.std.proofs.lemmas.List.Splits.{slice_split-cons_no, length-slice_split}
 use Rattle.std.proofs.lemmas.List.Sums.{prefix_len_stops}
 use Rattle.std.proofs.Math.Seq.{take-length, drop-cons, drop-length}
+use Rattle.gn_basics.proofs.Lists.{split_last, split_more}
 use Rattle.gn_paths.specs.Components.{is_slash, two_dots, HasNoSlash, pieces, trail, is_absolute, is_source, components, without_final_slash}
 use Rattle.gn_paths.specs.Rebase.{relative, joined, parts, IsTrail, rooted, root_components, system_components, closed, or_dot, dotted}
-use Rattle.gn_paths.proofs.PieceLemmas.{Cut, cut, IsRooted, trail-parts, parts-trail, parts_plain, components_plain, pieces_last, pieces_more, trail-append, slash_is, one_slash}
+use Rattle.gn_paths.proofs.PieceLemmas.{Cut, cut, IsRooted, trail-parts, parts-trail, parts_plain, components_plain, trail-append, slash_is, one_slash}
 
 -- a text of components without slashes is their trail
 pub parts-from_trail : (t : List ℕ) (cs : List (List ℕ)) → t ≡ trail cs → All HasNoSlash cs → parts t ≡ cs
@@ -54,14 +55,14 @@ split_at_slash r n e w = by (cases_lt n (length r))
         let s : is_slash (get_or r n 0) ≡ true = slash_at r n e l in
         let here : drop n r ≡ 47 ∷ drop (n + 1) r = drop-cons r n 0 l ∙ ap (λ x. x ∷ drop (suc n) r) (slash_is _ s) ∙ ap (λ m. 47 ∷ drop m r) (sym (add-one n)) in
         record {
-          value = pieces_more r n e l ∙ ap (λ x. take n r ∷ x) (sym (ap parts here));
+          value = split_more is_slash r n e l ∙ ap (λ x. take n r ∷ x) (sym (ap parts here));
           more_trail = trail-parts (drop n r) (inr (drop (n + 1) r, here));
         }
     by (inr l) =
         let whole : n ≡ length r = omega arith in
         let none : drop n r ≡ [] = ap (λ m. drop m r) whole ∙ drop-length r in
         record {
-          value = pieces_last r (sym e ∙ whole) ∙ ap (λ x. x ∷ []) (sym (ap (λ m. take m r) whole ∙ take-length r)) ∙ ap (λ x. take n r ∷ x) (sym (ap parts none));
+          value = split_last is_slash r (sym e ∙ whole) ∙ ap (λ x. x ∷ []) (sym (ap (λ m. take m r) whole ∙ take-length r)) ∙ ap (λ x. take n r ∷ x) (sym (ap parts none));
           more_trail = trail-parts (drop n r) (inl none);
         }
 

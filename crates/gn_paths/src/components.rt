@@ -36,7 +36,7 @@ pub fn is_system(text: &[u8]) -> bool
 }
 
 /// Whether a piece of a text leads nowhere: it is empty or `.`.
-#[tactic(auto, using(crate::proofs::NormalLemmas::bytes_eq_nil))]
+#[tactic(auto, using(gn_basics::proofs::Texts::bytes_eq_nil))]
 pub fn stays_there(piece: &[u8]) -> bool
     ensures { result ≡ stays_there piece.now }
 {

@@ -71,7 +71,7 @@ pub(crate) fn as_directory(path: &[u8]) -> &[u8]
     left_or_root(path)
 }
 
-#[tactic(auto, using(crate::proofs::NormalLemmas::bytes_eq_nil), unfolding(crate::specs::Directory::as_directory))]
+#[tactic(auto, using(gn_basics::proofs::Texts::bytes_eq_nil), unfolding(crate::specs::Directory::as_directory))]
 fn left_or_root(path: &[u8]) -> &[u8]
     ensures { result.now ≡ as_directory path.now }
 {

@@ -70,7 +70,7 @@ fn extension(file: &[u8]) -> &[u8]
     }
 }
 
-#[tactic(auto, using(crate::proofs::NormalLemmas::bytes_eq_nil))]
+#[tactic(auto, using(gn_basics::proofs::Texts::bytes_eq_nil))]
 fn shown_dir(front: &[u8]) -> &[u8]
     ensures { result.now ≡ shown_dir front.now }
 {

@@ -29,7 +29,7 @@ pub fn rebase(alloc: Global, input: &Path, new_base: &[u8], root: &[u8]) -> Resu
     Ok(Text::from_vec(text))
 }
 
-#[tactic(auto, using(crate::proofs::NormalLemmas::bytes_eq_nil), unfolding(crate::specs::Rebase::rebased))]
+#[tactic(auto, using(gn_basics::proofs::Texts::bytes_eq_nil), unfolding(crate::specs::Rebase::rebased))]
 fn rebased(alloc: Global, path: &[u8], new_base: &[u8], root: &[u8]) -> Result<Vec<u8>, AllocError>
     requires path { IsNormal path.now }
     requires base { (new_base.now ≡ []) ⊎ IsNormal new_base.now }
@@ -247,7 +247,7 @@ fn append_down(text: &mut Vec<u8>, path: &[u8]) -> Result<(), AllocError>
     Ok(())
 }
 
-#[tactic(auto, using(crate::proofs::NormalLemmas::bytes_eq_nil))]
+#[tactic(auto, using(gn_basics::proofs::Texts::bytes_eq_nil))]
 fn append_dotted(text: &mut Vec<u8>, down: &[u8]) -> Result<(), AllocError>
     ensures { OnOk result (text.new.items ≡ text.old.items ++ dotted down.now) }
 {

@@ -7,6 +7,10 @@ use Rattle.gn_runs.specs.Runs.{Question, content_of, import_of, Content, Importe
 use Rattle.gn_runs.specs.Laws.{Below, IsUnknown, Agree, IsSettled, IsAsked, StaysSettled, StaysInNeed, AsksMore, NeedsUnknown, AsksKnown, SpoiledByUnusable, UnusableSpoils, DependsOnAsked}
 use Rattle.gn_runs.proofs.Trees.{asked_first}
 
+-- answers include themselves
+pub below_itself : (a : Answers) → Below a a
+below_itself a = record { contents = λ path y h. h; imports = λ path y h. h }
+
 -- the meaning that a tree has
 tree_meaning : {A : Type 0} (meaning : Answers → Run A) (t : IsTree meaning) → run_tree t.0 ≡ meaning
 tree_meaning meaning t = fun_ext (λ a. sym (t.1 a))
@@ -17,7 +21,7 @@ needs_question q r m n e = cc
 spoiled_path : {A : Type 0} (q r : List ℕ) (m n : Place) → ◌≡◌ {A = End A} (spoiled q m) (spoiled r n) → r ≡ q
 spoiled_path q r m n e = cc
 
-import_path : (q r : List ℕ) → import_of q ≡ import_of r → q ≡ r
+pub import_path : (q r : List ℕ) → import_of q ≡ import_of r → q ≡ r
 import_path q r e = cc
 
 module _ {A : Type 0} where

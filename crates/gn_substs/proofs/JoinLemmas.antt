@@ -1,28 +1,24 @@
 -- The pieces of a text, joined again, are the text.
-use Rattle.std.proofs.Common.{◌≡◌, ℕ, zero, suc, ◌+◌, ◌<◌, ◌≤◌, Bool, true, false, ◌&&◌, ◌==◌, cond, List, [], ◌∷◌, ◌++◌, length, take, drop, Option, None, Some, Result, Ok, refl, sym, ◌∙◌, ap, subst, add-one, append_assoc, arith}
+use Rattle.std.proofs.Common.{◌≡◌, ℕ, zero, suc, ◌+◌, ◌<◌, Bool, true, false, ◌&&◌, ◌==◌, cond, List, [], ◌∷◌, ◌++◌, length, take, drop, Some, Ok, refl, sym, ◌∙◌, ap, subst, append_assoc, arith}
 use Rattle.std.specs.List.{flat_map}
 use Rattle.std.specs.Str.{bytes_eq}
 use Rattle.std.proofs.lemmas.Bool.Decides.{Decides-eqb}
-use Rattle.std.proofs.lemmas.List.{take-append-drop}
+use Rattle.std.proofs.lemmas.List.{take-append-drop, drop-drop}
 use Rattle.std.proofs.lemmas.List.Concat.{flat_map-cons}
 use Rattle.std.proofs.lemmas.Slice.Eq.{bytes_eq-Decides}
+use Rattle.std.proofs.lemmas.Bool.{and_parts}
 use Rattle.gn_substs.specs.declared.names.Substitution.{Substitution}
 use Rattle.gn_substs.specs.declared.positions.Position.{Position}
 use Rattle.gn_substs.specs.declared.pieces.Piece.{Piece}
 use Rattle.gn_substs.specs.declared.subst.Subst.{Subst}
 use Rattle.gn_substs.specs.declared.subst.Found.{Found}
 use Rattle.gn_substs.specs.Names.{name_of}
-use Rattle.gn_substs.specs.Positions.{first_named, names_at, substitution_at, StandsAt}
+use Rattle.gn_substs.specs.Positions.{first_named, names_at, substitution_at}
 use Rattle.gn_substs.specs.Pieces.{first_is, pair_at, name_from, piece_of}
-use Rattle.gn_substs.specs.Reading.{LeadsTo, IsReadAs, subst_read}
+use Rattle.gn_substs.specs.Reading.{LeadsTo, subst_read}
 use Rattle.gn_substs.specs.Expansions.{piece_with, with_texts}
-use Rattle.gn_substs.specs.Laws.{HasOneReading, braced, IsPieceAt, ArePiecesAt, IsWrittenAs}
-use Rattle.gn_substs.proofs.ReadLemmas.{FoundIn, is_found, found_room, one_reading}
-
-and_parts : (a b : Bool) → (a && b) ≡ true → (a ≡ true) × (b ≡ true)
-and_parts true true h = (refl, refl)
-and_parts true false h = absurd cc
-and_parts false b h = absurd cc
+use Rattle.gn_substs.specs.Laws.{braced, IsPieceAt, ArePiecesAt, IsWrittenAs}
+use Rattle.gn_substs.proofs.ReadLemmas.{is_found, found_room, one_reading}
 
 first_head : (b : ℕ) (t : List ℕ) → first_is b t ≡ true → t ≡ b ∷ drop 1 t
 first_head b [] h = absurd cc
@@ -47,16 +43,6 @@ pair_there b (x ∷ more) lt = by ((x == b) && first_is b more) refl lt (pair_th
         drop_more (pair_at b more) x more ∙ again (omega (arith, lt))
         ∙ ap (λ z. b ∷ b ∷ z) (sym (ap (λ m. drop m (x ∷ more)) n ∙ drop_more (pair_at b more + 2) x more))
 
-drop_none : (n : ℕ) (xs : List ℕ) → xs ≡ [] → drop n xs ≡ []
-drop_none zero xs e = e
-drop_none (suc n) [] e = refl
-drop_none (suc n) (x ∷ xs) e = absurd cc
-
-drop_drop : (i n : ℕ) (xs : List ℕ) → drop n (drop i xs) ≡ drop (i + n) xs
-drop_drop zero n xs = let e : 0 + n ≡ n = omega arith in rw e refl
-drop_drop (suc i) n [] = drop_none n [] refl ∙ sym (drop_none (suc i + n) [] refl)
-drop_drop (suc i) n (x ∷ xs) = let e : suc i + n ≡ suc (i + n) = omega arith in rw e (drop_drop i n xs)
-
 name_is : (ns : List Substitution) (name : List ℕ) (s : Substitution) → first_named ns name ≡ Some s → name_of s ≡ name
 name_is [] name s h = absurd cc
 name_is (n ∷ ns) name s h = name_by n ns name s (bytes_eq (name_of n) name) refl h (name_is ns name s)
@@ -77,7 +63,7 @@ piece_whole position text found h =
     let lt = (found_room position text start found h).0 in
     let name : name_of found.substitution ≡ take close inside = name_is (names_at position) (take close inside) found.substitution f.named in
     let end : drop found.end text ≡ drop (close + 2) inside =
-    let e : found.end ≡ (start + 2) + (close + 2) = omega (arith, f.ends) in ap (λ n. drop n text) e ∙ sym (drop_drop (start + 2) (close + 2) text) in
+    let e : found.end ≡ (start + 2) + (close + 2) = omega (arith, f.ends) in ap (λ n. drop n text) e ∙ sym (drop-drop (close + 2) (start + 2) text) in
     let behind : name_of found.substitution ++ 125 ∷ 125 ∷ drop found.end text ≡ inside =
     ap (λ n. n ++ 125 ∷ 125 ∷ drop found.end text) name ∙ ap (λ z. take close inside ++ 125 ∷ 125 ∷ z) end
     ∙ ap (λ z. take close inside ++ z) (sym (pair_there 125 inside f.within)) ∙ take-append-drop close inside in

@@ -4,6 +4,8 @@ use Rattle.std.specs.List.{list_all, flat_map}
 use Rattle.std.proofs.lemmas.Bool.{eqb-true}
 use Rattle.std.proofs.lemmas.List.{append-nil}
 use Rattle.std.proofs.lemmas.Grind.{flat_map-append}
+use Rattle.gn_basics.proofs.Tests.{first_true, second_true}
+use Rattle.gn_basics.proofs.Texts.{not_one, one_of_more}
 use Rattle.gn_ninja_text.specs.Marks.{is_one_of}
 use Rattle.gn_ninja_text.specs.Escapes.{doubled, value_escaped, without_first_spaces}
 use Rattle.gn_ninja_text.specs.Values.{ValuePart, Byte, Variable, Bytes, Name, is_name_byte, with_byte, with_variable, parts_from, value_parts_read, part_bytes, parts_bytes, value_made}
@@ -13,22 +15,6 @@ use Rattle.gn_substs.specs.declared.pieces.Piece.{Piece}
 use Rattle.gn_substs.specs.Expansions.{piece_with}
 use Rattle.gn_substs.specs.Variables.{variable_name, variable_of, doubled_with, tool_text, piece_parts, value_parts, with_values}
 
--- a byte that isn't one of these is none of them
-not_one : (special : List ℕ) (s b : ℕ) → is_one_of special s ≡ true → is_one_of special b ≡ false → b == s ≡ false
-not_one special s b h e = by (b == s) refl
-  where
-    by : (v : Bool) → b == s ≡ v → v ≡ false
-    by false q = refl
-    by true q = absurd (true≢false (sym (ap (is_one_of special) (eqb-true b s q) ∙ h) ∙ e))
-
--- a doubled byte is among those that are read behind a `$`
-doubled_known : (b : ℕ) → is_one_of (36 ∷ []) b ≡ true → is_one_of (36 ∷ 32 ∷ []) b ≡ true
-doubled_known b e = by (36 == b) e
-  where
-    by : (v : Bool) → v || false ≡ true → v || ((32 == b) || false) ≡ true
-    by true e = refl
-    by false e = absurd (true≢false (sym e))
-
 -- bytes behind the beginning are read back
 doubled_read : (bytes rest : List ℕ) (parts : List ValuePart) → parts_from Bytes rest ≡ Some parts → parts_from Bytes (doubled bytes ++ rest) ≡ Some (map Byte bytes ++ parts)
 doubled_read [] rest parts h = h
@@ -36,7 +22,7 @@ doubled_read (b ∷ more) rest parts h = by (is_one_of (36 ∷ []) b) refl (doub
   where
     by : (v : Bool) → is_one_of (36 ∷ []) b ≡ v → parts_from Bytes (doubled more ++ rest) ≡ Some (map Byte more ++ parts) →
         parts_from Bytes ((cond v (36 ∷ b ∷ []) (b ∷ []) ++ doubled more) ++ rest) ≡ Some (map Byte (b ∷ more) ++ parts)
-    by true e again = rw (doubled_known b e) (ap (with_byte b) again)
+    by true e again = rw (one_of_more (36 ∷ []) (32 ∷ []) b e) (ap (with_byte b) again)
     by false e again = rw (not_one (36 ∷ []) 36 b refl e) (ap (with_byte b) again)
 
 -- a byte of a name doesn't close it
@@ -47,20 +33,12 @@ name_goes_on b h = by (b == 125) refl
     by false q = refl
     by true q = absurd (true≢false (sym h ∙ ap is_name_byte (eqb-true b 125 q)))
 
-first_passes : (p q : Bool) → p && q ≡ true → p ≡ true
-first_passes true q e = refl
-first_passes false q e = absurd (true≢false (sym e))
-
-second_passes : (p q : Bool) → p && q ≡ true → q ≡ true
-second_passes true q e = e
-second_passes false q e = absurd (true≢false (sym e))
-
 -- the rest of a name is read up to the brace that closes it
 name_read : (so_far name rest : List ℕ) → list_all is_name_byte name ≡ true → parts_from (Name so_far) ((name ++ 125 ∷ []) ++ rest) ≡ with_variable (so_far ++ name) (parts_from Bytes rest)
 name_read so_far [] rest h = ap (λ n. with_variable n (parts_from Bytes rest)) (sym (append-nil so_far))
 name_read so_far (b ∷ name) rest h =
-    let here = first_passes (is_name_byte b) (list_all is_name_byte name) h in
-    let behind = second_passes (is_name_byte b) (list_all is_name_byte name) h in
+    let here = first_true (is_name_byte b) (list_all is_name_byte name) h in
+    let behind = second_true (is_name_byte b) (list_all is_name_byte name) h in
     rw (name_goes_on b here, here)
     (name_read (so_far ++ b ∷ []) name rest behind ∙ ap (λ n. with_variable n (parts_from Bytes rest)) (append_assoc so_far (b ∷ []) name))
 
@@ -110,7 +88,7 @@ variable_read : (s : Substitution) (rest : List ℕ) (parts : List ValuePart) �
 variable_read s rest parts h =
     let name = variable_name s in
     let good = has_variable_name s in
-    name_read [] name rest (second_passes (not (length name == 0)) (list_all is_name_byte name) good)
+    name_read [] name rest (second_true (not (length name == 0)) (list_all is_name_byte name) good)
     ∙ ap (with_variable name) h ∙ named name parts good
 
 -- pieces behind the beginning are read back

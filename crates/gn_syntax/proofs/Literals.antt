@@ -1,7 +1,9 @@
 -- String literals, read from the left.
-use Rattle.std.proofs.Common.{◌≡◌, ◌≢◌, ◌⊎◌, ℕ, zero, suc, ◌+◌, ◌-◌, ◌≤◌, Bool, true, false, not, ◌&&◌, ◌==◌, List, [], ◌∷◌, ◌++◌, length, take, drop, IsTrue, refl, sym, ◌∙◌, ap, subst, inl, inr, arith, append_assoc, length-append}
+use Rattle.std.proofs.Common.{◌≡◌, ◌≢◌, ◌⊎◌, ℕ, zero, suc, ◌+◌, ◌-◌, ◌≤◌, true, false, not, ◌&&◌, ◌==◌, List, [], ◌∷◌, ◌++◌, length, take, drop, IsTrue, refl, sym, ◌∙◌, ap, subst, inl, inr, arith, append_assoc, length-append}
 use Rattle.std.proofs.lemmas.Bool.{cases_Bool}
 use Rattle.std.proofs.lemmas.Bool.Decides.{eqb_tells}
+use Rattle.std.proofs.lemmas.List.{drop-drop}
+use Rattle.gn_basics.proofs.Tests.{first_true, second_true}
 use Rattle.gn_tree.specs.declared.position.Position.{Position}
 use Rattle.gn_tree.specs.declared.piece.Piece.{Piece}
 use Rattle.gn_tree.specs.declared.piece.Piece.TheVariants as piece
@@ -69,13 +71,6 @@ some_bytes (Variable name) = omega arith
 some_bytes (Braced name) = omega arith
 some_bytes (Element name index) = omega arith
 some_bytes (Field name field) = omega arith
-
-abbrev nothing : List ℕ
-nothing = []
-
-drop_none : (n : ℕ) → drop n nothing ≡ nothing
-drop_none zero = refl
-drop_none (suc n) = refl
 
 drop_front : (xs ys : List ℕ) → drop (length xs) (xs ++ ys) ≡ ys
 drop_front [] ys = refl
@@ -221,14 +216,6 @@ index_digits bs l h = elim (cases_Bool (begins_run bs && (is_integer (take (run_
   | inr m ↦ absurd (let k = rw (m, l) at h in cc)
 ]
 
-and_left : (a b : Bool) → (a && b) ≡ true → a ≡ true
-and_left true b h = refl
-and_left false b h = absurd cc
-
-and_right : (a b : Bool) → (a && b) ≡ true → b ≡ true
-and_right true b h = h
-and_right false b h = absurd cc
-
 written_name : (position : Position) (x : List ℕ) (n : ℕ) → n ≡ length x + 1 → IsWritten position (Variable x) (piece.Name position x) n
 written_name position x n e = record { piece = record { is = λ later. refl; apart = λ b later. refl }; len = omega arith }
 
@@ -293,9 +280,9 @@ element_written position cs nm r y s n e f h k g su en =
 
 pub index_closes : (cs r inner : List ℕ) → IsBraced cs → r ≡ past_word cs → begins_with 125 r ≡ false → begins_with 46 r ≡ false → inner ≡ drop 1 r → closes_behind (index_len inner) inner ≡ true
 index_closes cs r inner b f h k g =
-    let end : is_braced_end r ≡ true = subst (λ (x : List ℕ). is_braced_end x ≡ true) (sym f) (and_right (is_name cs) (is_braced_end (past_word cs)) b.is_right) in
+    let end : is_braced_end r ≡ true = subst (λ (x : List ℕ). is_braced_end x ≡ true) (sym f) (second_true (is_name cs) (is_braced_end (past_word cs)) b.is_right) in
     let both : (begins_with 91 r && closes_behind (index_len (drop 1 r)) (drop 1 r)) ≡ true = rw (h, k) at end in
-    subst (λ (x : List ℕ). closes_behind (index_len x) x ≡ true) (sym g) (and_right (begins_with 91 r) (closes_behind (index_len (drop 1 r)) (drop 1 r)) both)
+    subst (λ (x : List ℕ). closes_behind (index_len x) x ≡ true) (sym g) (second_true (begins_with 91 r) (closes_behind (index_len (drop 1 r)) (drop 1 r)) both)
 
 pub index_right : (cs r y : List ℕ) → IsBraced cs → r ≡ past_word cs → begins_with 125 r ≡ false → begins_with 46 r ≡ false → y ≡ front_index (index_len (drop 1 r)) (drop 1 r) → IsIdentifier y ⊎ IsInteger y
 index_right cs r y b f h k g =
@@ -310,7 +297,7 @@ number_index [] (inl h) l = absurd h.0
 number_index (b ∷ bs) (inl h) l = absurd (let k : is_letter b ≡ true = h.0.0 in cc)
 
 pub hex_digits : (b c d e : ℕ) (bs : List ℕ) → is_hex (b ∷ c ∷ d ∷ e ∷ bs) ≡ true → IsTrue (is_hex_digit d) × IsTrue (is_hex_digit e)
-hex_digits b c d e bs h = (and_right (b == 48 && c == 120) (is_hex_digit d) (and_left ((b == 48 && c == 120) && is_hex_digit d) (is_hex_digit e) h), and_right ((b == 48 && c == 120) && is_hex_digit d) (is_hex_digit e) h)
+hex_digits b c d e bs h = (second_true (b == 48 && c == 120) (is_hex_digit d) (first_true ((b == 48 && c == 120) && is_hex_digit d) (is_hex_digit e) h), second_true ((b == 48 && c == 120) && is_hex_digit d) (is_hex_digit e) h)
 
 pub hex_right : (bs : List ℕ) → begins_with 48 bs ≡ true → Expands bs → is_hex bs ≡ true
 hex_right bs h e = (hex_front bs h e.is_right).0
@@ -351,11 +338,6 @@ pub escape_len : (b : ℕ) (bs : List ℕ) → (b == 92 && begins is_escapable b
 escape_len b bs h = sym (ap (λ i. length (item_bytes i)) (front_escape b bs h))
 
 -- The whole literal.
-drop_drop : (i n : ℕ) (xs : List ℕ) → drop n (drop i xs) ≡ drop (i + n) xs
-drop_drop zero n xs = let e : 0 + n ≡ n = omega arith in rw e refl
-drop_drop (suc i) n [] = drop_none n ∙ sym (drop_none (suc i + n))
-drop_drop (suc i) n (x ∷ xs) = let e : suc i + n ≡ suc (i + n) = omega arith in rw e (drop_drop i n xs)
-
 pub literal_long : (text : List ℕ) → IsString text → 1 ≤ length text
 literal_long text h = omega (arith, ap length h.2)
 
@@ -367,11 +349,11 @@ literal_rest text law h =
 pub literal_more : (position : Position) (text : List ℕ) (at n : ℕ) (before : List Piece) (run : List ℕ) (after : List Piece) (run2 rest : List ℕ) → rest ≡ drop at text →
     Stepped position at rest before run after run2 n → meaning position before run at (drop at text) ≡ pieces_of position text → meaning position after run2 (at + n) (drop (at + n) text) ≡ pieces_of position text
 literal_more position text at n before run after run2 rest e h m =
-    ap (λ x. meaning position after run2 (at + n) x) (sym (drop_drop at n text) ∙ ap (drop n) (sym e)) ∙ h.same ∙ ap (meaning position before run at) e ∙ m
+    ap (λ x. meaning position after run2 (at + n) x) (sym (drop-drop n at text) ∙ ap (drop n) (sym e)) ∙ h.same ∙ ap (meaning position before run at) e ∙ m
 
 pub rest_more : (position : Position) (text : List ℕ) (at n : ℕ) (before : List Piece) (run : List ℕ) (after : List Piece) (run2 rest : List ℕ) → rest ≡ drop at text →
     Stepped position at rest before run after run2 n → IsRest (drop (at + n) text)
-rest_more position text at n before run after run2 rest e h = subst (λ (x : List ℕ). IsRest x) (ap (drop n) e ∙ drop_drop at n text) h.rest
+rest_more position text at n before run after run2 rest e h = subst (λ (x : List ℕ). IsRest x) (ap (drop n) e ∙ drop-drop n at text) h.rest
 
 pub literal_whole : (position : Position) (text : List ℕ) (at n : ℕ) (before : List Piece) (run : List ℕ) (after : List Piece) (run2 rest : List ℕ) → rest ≡ drop at text →
     Stepped position at rest before run after run2 n → n ≡ 0 → meaning position before run at (drop at text) ≡ pieces_of position text → after ++ run_pieces run2 ≡ pieces_of position text

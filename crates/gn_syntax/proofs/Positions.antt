@@ -1,23 +1,18 @@
 -- Positions, counted a byte at a time, are those of the bytes before.
 use Rattle.std.proofs.Common.{◌≡◌, ℕ, zero, suc, ◌+◌, ◌-◌, ◌≤◌, ◌==◌, Bool, true, false, not, cond, if◌then◌else◌, List, [], ◌∷◌, ◌++◌, length, take, drop, reverse, refl, sym, ◌∙◌, ap, arith, append_assoc}
 use Rattle.std.specs.List.{prefix_len, count_by, slice_range}
-use Rattle.std.proofs.lemmas.List.{reverse-append, length-reverse}
+use Rattle.std.proofs.lemmas.List.{reverse-append, length-reverse, append-nil}
 use Rattle.std.proofs.lemmas.List.Sums.{sum_by-append, count_by-le-length, prefix_len-le-length}
 use Rattle.gn_tree.specs.declared.position.Position.{Position}
 use Rattle.gn_grammar.specs.Position.{counted, line_behind, column_behind, position_of}
+use Rattle.gn_grammar.proofs.Standing.{at, same_place}
 use Rattle.gn_syntax.specs.Counting.{behind_byte, behind_bytes, behind_first}
-
-abbrev at : ℕ → ℕ → Position
-at l c = record { line = l; column = c }
-
-same_position : (l c m d : ℕ) → l ≡ m → c ≡ d → at l c ≡ at m d
-same_position l c m d e f = λ i. at (e i) (f i)
 
 -- one byte more, by whether it is a newline
 step : (v : Bool) (lines run l c : ℕ) → l ≡ lines + cond v 1 0 → c ≡ cond (not v) (1 + run) 0 →
     (if v then at (counted (counted (lines + 1) + 1)) 1 else at (counted (lines + 1)) (counted (counted (run + 1) + 1))) ≡ at (counted (l + 1)) (counted (c + 1))
-step true lines run l c e f = same_position (counted (counted (lines + 1) + 1)) 1 (counted (l + 1)) (counted (c + 1)) (omega arith) (omega arith)
-step false lines run l c e f = same_position (counted (lines + 1)) (counted (counted (run + 1) + 1)) (counted (l + 1)) (counted (c + 1)) (omega arith) (omega arith)
+step true lines run l c e f = same_place (counted (counted (lines + 1) + 1)) 1 (counted (l + 1)) (counted (c + 1)) (omega arith) (omega arith)
+step false lines run l c e f = same_place (counted (lines + 1)) (counted (counted (run + 1) + 1)) (counted (l + 1)) (counted (c + 1)) (omega arith) (omega arith)
 
 abbrev is_newline : ℕ → Bool
 is_newline b = b == 10
@@ -36,12 +31,8 @@ behind_push before b =
     step (b == 10) (count_by is_newline before) (prefix_len no_newline (reverse before)) (count_by is_newline (before ++ b ∷ []))
     (prefix_len no_newline (reverse (before ++ b ∷ []))) (lines_push before b) (run_push before b)
 
-append_nothing : (bs : List ℕ) → bs ++ [] ≡ bs
-append_nothing [] = refl
-append_nothing (b ∷ bs) = ap (λ x. b ∷ x) (append_nothing bs)
-
 pub behind_from : (before bs : List ℕ) → behind_bytes (behind_first before) bs ≡ behind_first (before ++ bs)
-behind_from before [] = ap behind_first (sym (append_nothing before))
+behind_from before [] = ap behind_first (sym (append-nil before))
 behind_from before (b ∷ bs) =
     ap (λ p. behind_bytes p bs) (behind_push before b) ∙ behind_from (before ++ b ∷ []) bs ∙ ap behind_first (append_assoc before (b ∷ []) bs)
 

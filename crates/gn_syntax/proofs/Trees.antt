@@ -1,9 +1,9 @@
 -- How spelled trees grow.
-use Rattle.std.proofs.Common.{◌≡◌, ℕ, ◌≤◌, List, [], ◌∷◌, ◌++◌, Some, Result, Ok, Err, IfOk, OnOk, refl, sym, ◌∙◌, subst, arith, inl, inr}
+use Rattle.std.proofs.Common.{◌≡◌, ℕ, List, [], ◌∷◌, ◌++◌, Some, Result, Ok, Err, IfOk, OnOk, refl, sym, ◌∙◌, subst, inl, inr}
 use Rattle.gn_tree.specs.declared.position.Position.{Position}
 use Rattle.gn_tree.specs.declared.tree.Expr.{Expr}
 use Rattle.gn_tree.specs.declared.tree.Statement.{Statement}
-use Rattle.gn_tree.specs.Tree.{ExprTree, binary_expr, no_exprs}
+use Rattle.gn_tree.specs.Tree.{no_exprs}
 use Rattle.gn_tree.specs.Views.{expr_of, exprs_of, statement_of, block_of}
 use Rattle.gn_tokens.specs.declared.token.TokenKind.{TokenKind}
 use Rattle.gn_tokens.specs.declared.token.TokenKind.TheVariants as k
@@ -24,11 +24,6 @@ mark_at kind position s rest f p r = (text_at s, token_at kind position (text_at
 
 pub kind_at : (kind : TokenKind) (s rest : List Lexeme) → front s ≡ Some kind → rest ≡ rest_of s → IsKind kind s rest
 kind_at kind s rest f r = (position_at s, mark_at kind (position_at s) s rest f refl r)
-
--- Operators that bind more tightly bind tightly enough.
-pub spells_weaker : (m n : ℕ) (e : ExprTree) (s rest : List Lexeme) → n ≤ m → Spells m e s rest → Spells n e s rest
-spells_weaker m n (binary_expr o p l r) s rest le h = (h.0, h.1, omega (arith, h.2), h.3, h.4, h.5)
-spells_weaker m n _ s rest le h = h
 
 -- A list of expressions grows by one.
 more_push : (later : List Expr) (x : Expr) (s s1 s2 rest : List Lexeme) → SpellsMore (exprs_of later) s s1 → IsKind k.Comma s1 s2 → Spells 1 (expr_of x) s2 rest →

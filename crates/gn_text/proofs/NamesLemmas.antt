@@ -10,19 +10,16 @@ use Rattle.std.proofs.lemmas.List.Sums.{position_or_len_is}
 use Rattle.std.proofs.lemmas.Map.Keys.{apart_from_distinct, any_passes_from_place}
 use Rattle.std.proofs.lemmas.Option.{slice_get_within, slice_get-get_or, get_or_from_slice_get, slice_get-map}
 use Rattle.std.proofs.lemmas.Slice.Eq.{bytes_eq-Decides}
+use Rattle.gn_basics.proofs.Texts.{bytes_eq-itself}
 use Rattle.gn_text.specs.declared.names.Names.TheInside.{Inside}
 use Rattle.gn_text.specs.Kept.{texts_of, HasDistinctKeys}
 use Rattle.gn_text.specs.Names.{AllDifferent, with_name, number_of}
-
--- a text is equal to itself
-pub bytes_eq_same : (t : List ℕ) → bytes_eq t t ≡ true
-bytes_eq_same t = (bytes_eq-Decides t t).1 refl
 
 -- two places with one text aren't in order, where no text is equal to a later one
 not_before : (ns : List (List ℕ)) → IsDistinct bytes_eq ns → (i j : ℕ) (x : List ℕ) → slice_get ns i ≡ Some x → slice_get ns j ≡ Some x → i < j → ⊥
 not_before ns h i j x a b l =
     let apart = apart_from_distinct bytes_eq ns i j [] h l (slice_get_within ns j x b) in
-    let same = sym (bytes_eq_same x) ∙ ap (λ t. bytes_eq t x) (sym (get_or_from_slice_get ns i x [] a)) ∙ ap (bytes_eq (get_or ns i [])) (sym (get_or_from_slice_get ns j x [] b)) ∙ apart in
+    let same = sym (bytes_eq-itself x) ∙ ap (λ t. bytes_eq t x) (sym (get_or_from_slice_get ns i x [] a)) ∙ ap (bytes_eq (get_or ns i [])) (sym (get_or_from_slice_get ns j x [] b)) ∙ apart in
     true≢false same
 
 -- texts of which none is equal to a later one are all different
@@ -69,7 +66,7 @@ module _ {K : Type 0} (f : K → List ℕ) where
 -- the table with a name that it has is the table
 pub stays_found : (names : List (List ℕ)) (name : List ℕ) (n : ℕ) → slice_get names n ≡ Some name → names ≡ with_name names name
 stays_found names name n h =
-    sym (ap (λ b. cond b names (names ++ name ∷ [])) (any_passes_from_place (bytes_eq name) names n name h (bytes_eq_same name)))
+    sym (ap (λ b. cond b names (names ++ name ∷ [])) (any_passes_from_place (bytes_eq name) names n name h (bytes_eq-itself name)))
 
 -- a name that is found stands at its number
 pub record IsFoundAt (names : List (List ℕ)) (name : List ℕ) (n : ℕ) : Type 0 where

@@ -4,10 +4,11 @@ use Rattle.std.specs.List.{prefix_len}
 use Rattle.std.proofs.lemmas.Bool.{cases_Bool}
 use Rattle.std.proofs.lemmas.Bool.Decides.{eqb_tells, nat_tests}
 use Rattle.std.proofs.lemmas.List.Elements.{All-cons, All-append, All-weaker, All-nil}
+use Rattle.gn_basics.proofs.Tests.{first_true, second_true}
 use Rattle.gn_tokens.specs.Bytes.{is_letter, is_word_byte, is_digit, is_hex_digit, begins, begins_with, IsWord, IsIdentifier, front_word, past_word, is_name}
 use Rattle.gn_tokens.specs.Number.{IsDigits, IsRun, IsInteger, integer_len}
 use Rattle.gn_tokens.specs.Text.{Item, Plain, Escape, Hex, Variable, Braced, Element, Field, item_bytes, IsExpansion, is_hex, is_field, index_len, closes, closes_behind, is_braced_end, is_braced, expands, front_index, braced_item, hex_item, expansion_item}
-use Rattle.gn_tokens.proofs.Words.{and_left, and_right, begins_with_tells, all_in_front, behind_fails, word_bytes, word_begins, word_past, name_here, name_is, word_whole}
+use Rattle.gn_tokens.proofs.Words.{begins_with_tells, all_in_front, behind_fails, word_bytes, word_begins, word_past, name_here, name_is, word_whole}
 use Rattle.gn_tokens.proofs.Numbers.{integer_is_run, integer_here, IsIntegerHere, integer_len_is, digit_no_letter, first_digit}
 
 -- The bytes behind a `$` are those of the expansion, and then others.
@@ -23,16 +24,16 @@ hex_sound (b ∷ []) h = absurd cc
 hex_sound (b ∷ c ∷ []) h = absurd cc
 hex_sound (b ∷ c ∷ d ∷ []) h = absurd cc
 hex_sound (b ∷ c ∷ d ∷ e ∷ bs) h =
-    let three = and_left ((b == 48 && c == 120) && is_hex_digit d) (is_hex_digit e) h in
-    let two = and_left (b == 48 && c == 120) (is_hex_digit d) three in
+    let three = first_true ((b == 48 && c == 120) && is_hex_digit d) (is_hex_digit e) h in
+    let two = first_true (b == 48 && c == 120) (is_hex_digit d) three in
     elim (eqb_tells b 48) [
-      | inr x ↦ absurd (let k = x.0 in let l = and_left (b == 48) (c == 120) two in cc)
+      | inr x ↦ absurd (let k = x.0 in let l = first_true (b == 48) (c == 120) two in cc)
       | inl x ↦ elim (eqb_tells c 120) [
-        | inr y ↦ absurd (let k = y.0 in let l = and_right (b == 48) (c == 120) two in cc)
+        | inr y ↦ absurd (let k = y.0 in let l = second_true (b == 48) (c == 120) two in cc)
         | inl y ↦ (
           bs,
           ap (λ z. 36 ∷ z ∷ c ∷ d ∷ e ∷ bs) x.1 ∙ ap (λ z. 36 ∷ 48 ∷ z ∷ d ∷ e ∷ bs) y.1,
-          (and_right (b == 48 && c == 120) (is_hex_digit d) three, and_right ((b == 48 && c == 120) && is_hex_digit d) (is_hex_digit e) h),
+          (second_true (b == 48 && c == 120) (is_hex_digit d) three, second_true ((b == 48 && c == 120) && is_hex_digit d) (is_hex_digit e) h),
         )
       ]
     ]
@@ -45,17 +46,17 @@ field_joined name field later = append_assoc name (46 ∷ (field ++ 125 ∷ []))
 
 field_sound : (name r : List ℕ) → IsIdentifier name → is_field r ≡ true → Splits (123 ∷ (name ++ 46 ∷ r)) (Field name (front_word r))
 field_sound name r h f =
-    let end = begins_with_tells 125 (past_word r) (and_right (is_name r) (begins_with 125 (past_word r)) f) in
+    let end = begins_with_tells 125 (past_word r) (second_true (is_name r) (begins_with 125 (past_word r)) f) in
     let whole : r ≡ front_word r ++ 125 ∷ end.0 = sym (word_whole r) ∙ ap (λ x. front_word r ++ x) end.1 in (
       end.0,
       ap (λ x. 36 ∷ 123 ∷ (name ++ 46 ∷ x)) whole ∙ ap (λ x. 36 ∷ 123 ∷ x) (sym (field_joined name (front_word r) end.0)),
-      (h, name_is r (and_left (is_name r) (begins_with 125 (past_word r)) f)),
+      (h, name_is r (first_true (is_name r) (begins_with 125 (past_word r)) f)),
     )
 
 closes_tells : (bs : List ℕ) → closes bs ≡ true → (later : List ℕ) × (bs ≡ 93 ∷ 125 ∷ later)
 closes_tells bs h =
-    let one = begins_with_tells 93 bs (and_left (begins_with 93 bs) (begins_with 125 (drop 1 bs)) h) in
-    let second : begins_with 125 (drop 1 bs) ≡ true = and_right (begins_with 93 bs) (begins_with 125 (drop 1 bs)) h in
+    let one = begins_with_tells 93 bs (first_true (begins_with 93 bs) (begins_with 125 (drop 1 bs)) h) in
+    let second : begins_with 125 (drop 1 bs) ≡ true = second_true (begins_with 93 bs) (begins_with 125 (drop 1 bs)) h in
     let two = begins_with_tells 125 one.0 (subst (λ x. begins_with 125 (drop 1 x) ≡ true) one.1 second) in
     (two.0, one.1 ∙ ap (λ x. 93 ∷ x) two.1)
 
@@ -98,8 +99,8 @@ expands_sound bs h = elim (cases_Bool (begins_with 123 bs)) [
       let open_brace = begins_with_tells 123 bs b in
       let cs = open_brace.0 in
       let inner : is_braced cs ≡ true = subst (λ x. expands x ≡ true) open_brace.1 h in
-      let name : IsIdentifier (front_word cs) = name_is cs (and_left (is_name cs) (is_braced_end (past_word cs)) inner) in
-      let found = end_sound (front_word cs) (past_word cs) name (and_right (is_name cs) (is_braced_end (past_word cs)) inner) in
+      let name : IsIdentifier (front_word cs) = name_is cs (first_true (is_name cs) (is_braced_end (past_word cs)) inner) in
+      let found = end_sound (front_word cs) (past_word cs) name (second_true (is_name cs) (is_braced_end (past_word cs)) inner) in
       subst (λ x. Splits x (expansion_item x)) (sym open_brace.1) (subst (λ x. Splits (123 ∷ x) (braced_item (front_word cs) (past_word cs))) (word_whole cs) found)
   | inr b ↦ elim (cases_Bool (is_name bs)) [
     | inl n ↦ rw (b, n) (name_sound bs n)

@@ -5,6 +5,7 @@ use Rattle.std.proofs.lemmas.Bool.{cases_Bool}
 use Rattle.std.proofs.lemmas.Bool.Decides.{eqb_tells, nat_tests}
 use Rattle.std.proofs.lemmas.List.Elements.{All-head, All-tail, All-from_recursion}
 use Rattle.std.proofs.lemmas.List.Sums.{prefix_len-le-length}
+use Rattle.gn_basics.proofs.Tests.{first_true}
 use Rattle.gn_tokens.specs.declared.token.TokenKind.{TokenKind}
 use Rattle.gn_tokens.specs.declared.token.TokenKind.TheVariants as k
 use Rattle.gn_tokens.specs.Bytes.{is_letter, is_word_byte, is_digit, is_escapable, begins, begins_with, IsWord, front_word, is_text}
@@ -12,7 +13,7 @@ use Rattle.gn_tokens.specs.Number.{IsInteger, IsBadRun, begins_run, run_len, int
 use Rattle.gn_tokens.specs.Text.{Item, Plain, Escape, Hex, Variable, Braced, Element, Field, item_bytes, IsExpansion, IsItem, Reads, AllExpand, IsString, IsOpen, IsBadDollarBehind, is_stop, text_len, first_bad, text_items}
 use Rattle.gn_tokens.specs.Token.{IsToken}
 use Rattle.gn_tokens.specs.Front.{Front, Found, WrongByte, WrongNumber, NotClosed, WrongDollar, word_kind, front_number, front_closed, front_string, or_equal, twice, front_mark, front_of}
-use Rattle.gn_tokens.proofs.Words.{begins_with_tells, passing, letter_in_word, word_bytes, front_is_word, is_text_same, is_identifier, and_left, or_true}
+use Rattle.gn_tokens.proofs.Words.{begins_with_tells, passing, letter_in_word, word_bytes, front_is_word, is_text_same, is_identifier, or_true}
 use Rattle.gn_tokens.proofs.Numbers.{digit_no_letter, run_at_most, run_within, integer_is_run, IsIntegerHere, integer_len_is, bad_run_here}
 use Rattle.gn_tokens.proofs.Expansions.{expansion_ordinary, dollar_first, behind_first}
 use Rattle.gn_tokens.proofs.Texts.{len_over, IsJudged, IsRead, read}
@@ -39,7 +40,7 @@ run_no_letter b bs h = elim (or_true (is_digit b) ((b == 45) && begins is_digit 
   | inl d ↦ digit_no_letter b d
   | inr d ↦ elim (eqb_tells b 45) [
     | inl e ↦ rw e.1 refl
-    | inr e ↦ absurd (let x = e.0 in let y = and_left (b == 45) (begins is_digit bs) d.1 in cc)
+    | inr e ↦ absurd (let x = e.0 in let y = first_true (b == 45) (begins is_digit bs) d.1 in cc)
   ]
 ]
 
@@ -233,7 +234,7 @@ run_some b bs h = elim (eqb_tells b 45) [
   | inl e ↦ rw e.0 (omega arith)
   | inr e ↦ rw e.0 (elim (or_true (is_digit b) ((b == 45) && begins is_digit bs) h) [
     | inl d ↦ rw d (omega arith)
-    | inr d ↦ absurd (let x = e.0 in let y = and_left (b == 45) (begins is_digit bs) d.1 in cc)
+    | inr d ↦ absurd (let x = e.0 in let y = first_true (b == 45) (begins is_digit bs) d.1 in cc)
   ])
 ]
 

@@ -1,12 +1,13 @@
 -- Integers: the function finds the runs of digits that are one.
 use Rattle.std.proofs.Common.{◌≡◌, ◌≢◌, ℕ, zero, suc, ◌-◌, ◌≤◌, ◌^◌, Bool, true, false, not, ◌&&◌, IsTrue, ◌==◌, nat_le, if◌then◌else◌, List, [], ◌∷◌, ◌++◌, length, take, drop, Option, Some, None, refl, sym, ◌∙◌, ap, subst, inl, inr, arith, All, length-take-le, take-append-drop, take_at, drop_at}
 use Rattle.std.specs.List.{prefix_len}
-use Rattle.std.proofs.lemmas.Bool.{cases_Bool}
+use Rattle.std.proofs.lemmas.Bool.{cases_Bool, not-true}
 use Rattle.std.proofs.lemmas.Bool.Decides.{eqb_tells, leb_tells, nat_tests}
 use Rattle.std.proofs.lemmas.List.Sums.{prefix_len-le-length}
+use Rattle.gn_basics.proofs.Tests.{first_true, second_true}
 use Rattle.gn_tokens.specs.Bytes.{is_letter, is_digit, begins}
 use Rattle.gn_tokens.specs.Number.{decimal, IsDigits, IsNumeral, IsInteger, IsRun, IsBadRun, begins_run, run_len, is_magnitude, is_integer, integer_len}
-use Rattle.gn_tokens.proofs.Words.{and_left, and_right, or_true, not_true, all_in_front, passing, all_pass, behind_fails}
+use Rattle.gn_tokens.proofs.Words.{or_true, all_in_front, passing, all_pass, behind_fails}
 
 digit_no_minus : (b : ℕ) → is_digit b ≡ true → (b == 45) ≡ false
 digit_no_minus b h = grind (arith, nat_tests)
@@ -73,7 +74,7 @@ front_is_run (b ∷ bs) h = elim (eqb_tells b 45) [
       subst (λ x. IsRun (take (run_len (x ∷ bs)) (x ∷ bs))) (sym e.1) (inr (take (prefix_len is_digit bs) bs, refl, digits_front bs begin))
   | inr e ↦ rw e.0 (inl (digits_front (b ∷ bs) (elim (or_true (is_digit b) ((b == 45) && begins is_digit bs) h) [
     | inl d ↦ d
-    | inr d ↦ absurd (let k = e.0 in let l = and_left (b == 45) (begins is_digit bs) d.1 in cc)
+    | inr d ↦ absurd (let k = e.0 in let l = first_true (b == 45) (begins is_digit bs) d.1 in cc)
   ])))
 ]
 
@@ -110,8 +111,8 @@ magnitude_sound : (is_negative : Bool) (d : ℕ) (ds : List ℕ) → IsDigits (d
 magnitude_sound is_negative d ds digits h = elim (eqb_tells d 48) [
   | inl e ↦
       let both : (nat_le (length (d ∷ ds)) 1 && not is_negative) ≡ true = rw e.0 at h in
-      let none : ds ≡ [] = no_more d ds (and_left (nat_le (length (d ∷ ds)) 1) (not is_negative) both) in
-      let plain : is_negative ≡ false = not_true is_negative (and_right (nat_le (length (d ∷ ds)) 1) (not is_negative) both) in
+      let none : ds ≡ [] = no_more d ds (first_true (nat_le (length (d ∷ ds)) 1) (not is_negative) both) in
+      let plain : is_negative ≡ false = not-true is_negative (second_true (nat_le (length (d ∷ ds)) 1) (not is_negative) both) in
       ((digits, λ _. none), omega (arith, one_zero d ds e.1 none), λ n. absurd cc)
   | inr e ↦
       let fits : nat_le (decimal (d ∷ ds)) (limit is_negative) ≡ true = rw e.0 at h in (

@@ -29,7 +29,7 @@ pub further_more : (n : ℕ) (x : Option ℕ) → further 1 (further n x) ≡ fu
 further_more n None = refl
 further_more n (Some i) = ap Some (omega arith)
 
-further_none : (x : Option ℕ) → further 0 x ≡ x
+pub further_none : (x : Option ℕ) → further 0 x ≡ x
 further_none None = refl
 further_none (Some i) = ap Some (omega arith)
 

@@ -3,6 +3,8 @@ use Rattle.std.proofs.Common.{◌≡◌, ◌≢◌, ◌⊎◌, ℕ, zero, suc, �
 use Rattle.std.proofs.lemmas.Bool.{cases_Bool}
 use Rattle.std.proofs.lemmas.Bool.Decides.{eqb_tells, nat_tests}
 use Rattle.std.proofs.lemmas.List.Elements.{All-head, All-tail, All-from_recursion}
+use Rattle.std.proofs.lemmas.List.{append-nil}
+use Rattle.gn_basics.proofs.Tests.{first_true}
 use Rattle.gn_tokens.specs.declared.token.Token.{Token}
 use Rattle.gn_tokens.specs.declared.token.TokenError.{TokenError}
 use Rattle.gn_tokens.specs.declared.token.TokenError.TheVariants.{BadByte, BadNumber, OpenString, BadDollar}
@@ -14,10 +16,10 @@ use Rattle.gn_tokens.specs.Text.{Item, Plain, Escape, Hex, Variable, Braced, Ele
 use Rattle.gn_tokens.specs.Token.{IsGap, nothing, white, comment, IsToken}
 use Rattle.gn_tokens.specs.Front.{Front, Found, WrongByte, WrongNumber, NotClosed, WrongDollar, gap_len, word_kind, front_number, front_closed, front_string, front_mark, front_of}
 use Rattle.gn_tokens.specs.Next.{Reader, IsNext, IsNextToken, IsBadByte, IsBadNumber, IsOpenString, IsBadDollar, IsOnlyGap, front_answer, answer, next_token}
-use Rattle.gn_tokens.proofs.Words.{and_left, or_true, not_text}
+use Rattle.gn_tokens.proofs.Words.{or_true, not_text}
 use Rattle.gn_tokens.proofs.Numbers.{integer_is_run, bad_run_here, run_at_most}
 use Rattle.gn_tokens.proofs.Expansions.{Splits, expands_sound, expands_complete, expansion_ordinary, dollar_first, behind_first}
-use Rattle.gn_tokens.proofs.Texts.{bad_over, further_more, bad_no_escape}
+use Rattle.gn_tokens.proofs.Texts.{bad_over, further_more, bad_no_escape, further_none}
 use Rattle.gn_tokens.proofs.Longest.{begins_longer, item_len, reads_some, front_of_run, run_no_letter, IsFront, front_is, IsAtMost, at_most}
 
 -- Gaps.
@@ -64,13 +66,9 @@ gap_short false (b ∷ bs) more h = elim (cases_Bool (b == 35)) [
   ]
 ]
 
-append_none : (bs : List ℕ) → bs ++ [] ≡ bs
-append_none [] = refl
-append_none (b ∷ bs) = ap (λ x. b ∷ x) (append_none bs)
-
 only_gap : (bs : List ℕ) → IsGap (bs ++ 10 ∷ []) → gap_len false bs ≡ length bs
 only_gap bs h =
-    let whole : gap_len false (bs ++ 10 ∷ []) ≡ length bs + 1 = ap (gap_len false) (sym (append_none (bs ++ 10 ∷ []))) ∙ gap_over [] h ∙ omega (arith, length-append bs (10 ∷ [])) in
+    let whole : gap_len false (bs ++ 10 ∷ []) ≡ length bs + 1 = ap (gap_len false) (sym (append-nil (bs ++ 10 ∷ []))) ∙ gap_over [] h ∙ omega (arith, length-append bs (10 ∷ [])) in
     elim (cases_Bool (eqb (gap_len false bs) (length bs))) [
       | inl e ↦ elim (eqb_tells (gap_len false bs) (length bs)) [ inl x ↦ x.1 | inr x ↦ absurd (let y = x.0 in cc) ]
       | inr e ↦ elim (eqb_tells (gap_len false bs) (length bs)) [
@@ -131,10 +129,6 @@ further_sum : (n m : ℕ) (x : Option ℕ) → further n (further m x) ≡ furth
 further_sum n m None = refl
 further_sum n m (Some i) = ap Some (omega arith)
 
-further_zero : (x : Option ℕ) → further 0 x ≡ x
-further_zero None = refl
-further_zero (Some i) = ap Some (omega arith)
-
 pub record IsPassed (items : List Item) (bs rest : List ℕ) : Type 0 where
   pub front : List ℕ
   pub bytes : bs ≡ front ++ rest
@@ -142,7 +136,7 @@ pub record IsPassed (items : List Item) (bs rest : List ℕ) : Type 0 where
   pub bad : AllExpand items → first_bad false bs ≡ further (length front) (first_bad false rest)
 
 pub passed : (items : List Item) (bs rest : List ℕ) → Reads items bs rest → IsPassed items bs rest
-passed [] bs rest h = record { front = []; bytes = h; len = ap (text_len false) h ∙ omega arith; bad = λ _. ap (first_bad false) h ∙ sym (further_zero (first_bad false rest)) }
+passed [] bs rest h = record { front = []; bytes = h; len = ap (text_len false) h ∙ omega arith; bad = λ _. ap (first_bad false) h ∙ sym (further_none (first_bad false rest)) }
 passed (item ∷ items) bs rest (later, bytes, is_item, reads) =
     let inner = passed items later rest reads in
     let size = length-append (item_bytes item) inner.front in
@@ -346,7 +340,7 @@ equal_true b c h = elim (eqb_tells b c) [
 token_in_run : (b : ℕ) (bs : List ℕ) → begins_run (b ∷ bs) ≡ true → (kind : TokenKind) × IsToken kind (take 1 (b ∷ bs))
 token_in_run b bs h = elim (or_true (is_digit b) ((b == 45) && begins is_digit bs) h) [
   | inl d ↦ (k.Integer, inl ((All-from_recursion (λ c. IsTrue (is_digit c)) (b ∷ []) (d, tt), λ _. refl), omega (arith, digit_small b d)))
-  | inr d ↦ (k.Minus, ap (λ x. x ∷ []) (equal_true b 45 (and_left (b == 45) (begins is_digit bs) d.1)))
+  | inr d ↦ (k.Minus, ap (λ x. x ∷ []) (equal_true b 45 (first_true (b == 45) (begins is_digit bs) d.1)))
 ]
 
 byte_at : (b : ℕ) (bs : List ℕ) (f : Front) → ((kind : TokenKind) (m : ℕ) → m ≤ length (b ∷ bs) → ¬ IsToken kind (take m (b ∷ bs))) → b ≢ 34 → IsFront b bs f → f ≡ WrongByte

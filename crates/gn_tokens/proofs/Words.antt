@@ -1,27 +1,16 @@
 -- Words: how far they go, and which of them are identifiers.
-use Rattle.std.proofs.Common.{◌≡◌, ◌≢◌, ◌⊎◌, ℕ, zero, suc, ◌+◌, ◌<◌, ◌≤◌, Bool, true, false, not, ◌&&◌, ◌||◌, IsTrue, ◌==◌, List, [], ◌∷◌, ◌++◌, length, take, drop, codes, refl, sym, ap, inl, inr, arith, All, length-take, get_or-take, take-append-drop, drop_at, take_at}
+use Rattle.std.proofs.Common.{◌≡◌, ◌≢◌, ◌⊎◌, ℕ, zero, suc, ◌+◌, ◌<◌, ◌≤◌, Bool, true, false, not, ◌||◌, IsTrue, ◌==◌, List, [], ◌∷◌, ◌++◌, length, take, drop, codes, refl, sym, ap, inl, inr, arith, All, length-take, get_or-take, take-append-drop, drop_at, take_at}
 use Rattle.std.specs.List.{prefix_len}
-use Rattle.std.proofs.lemmas.Bool.{cases_Bool}
+use Rattle.std.proofs.lemmas.Bool.{cases_Bool, not-true}
 use Rattle.std.proofs.lemmas.Bool.Decides.{eqb_tells, nat_tests}
 use Rattle.std.proofs.lemmas.List.Elements.{All-cons, All-tail}
 use Rattle.std.proofs.lemmas.List.Sums.{prefix_len_passes}
+use Rattle.gn_basics.proofs.Tests.{first_true, second_true}
 use Rattle.gn_tokens.specs.Bytes.{is_letter, is_word_byte, begins, begins_with, IsWord, IsIdentifier, front_word, past_word, is_text, is_reserved, is_name}
-
-pub and_left : (x y : Bool) → (x && y) ≡ true → x ≡ true
-and_left true y h = refl
-and_left false y h = cc
-
-pub and_right : (x y : Bool) → (x && y) ≡ true → y ≡ true
-and_right true y h = h
-and_right false y h = cc
 
 pub or_true : (x y : Bool) → (x || y) ≡ true → (x ≡ true) ⊎ ((x ≡ false) × (y ≡ true))
 or_true true y h = inl refl
 or_true false y h = inr (refl, h)
-
-pub not_true : (x : Bool) → not x ≡ true → x ≡ false
-not_true true h = cc
-not_true false h = refl
 
 pub not_false : (x : Bool) → not x ≡ false → x ≡ true
 not_false true h = refl
@@ -95,8 +84,8 @@ is_text_same [] [] h = refl
 is_text_same [] (b ∷ w) h = cc
 is_text_same (x ∷ c) [] h = cc
 is_text_same (x ∷ c) (b ∷ w) h = elim (eqb_tells b x) [
-  | inl e ↦ let rest : w ≡ c = is_text_same c w (and_right (b == x) (is_text c w) h) in let first = e.1 in cc
-  | inr e ↦ absurd (let k = e.0 in let l = and_left (b == x) (is_text c w) h in cc)
+  | inl e ↦ let rest : w ≡ c = is_text_same c w (second_true (b == x) (is_text c w) h) in let first = e.1 in cc
+  | inr e ↦ absurd (let k = e.0 in let l = first_true (b == x) (is_text c w) h in cc)
 ]
 
 -- A word that is not reserved.
@@ -129,8 +118,8 @@ name_here w rest h stop =
 -- A name is an identifier.
 pub name_is : (bs : List ℕ) → is_name bs ≡ true → IsIdentifier (front_word bs)
 name_is bs h =
-    is_identifier (front_word bs) (front_is_word bs (and_left (begins is_letter bs) (not (is_reserved (front_word bs))) h))
-    (not_true (is_reserved (front_word bs)) (and_right (begins is_letter bs) (not (is_reserved (front_word bs))) h))
+    is_identifier (front_word bs) (front_is_word bs (first_true (begins is_letter bs) (not (is_reserved (front_word bs))) h))
+    (not-true (is_reserved (front_word bs)) (second_true (begins is_letter bs) (not (is_reserved (front_word bs))) h))
 
 pub word_whole : (bs : List ℕ) → front_word bs ++ past_word bs ≡ bs
 word_whole bs = take-append-drop (prefix_len is_word_byte bs) bs

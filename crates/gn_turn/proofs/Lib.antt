@@ -9,4 +9,3 @@ pub mod SlotSteps
 pub mod SeatSteps
 pub mod LastSeat
 pub mod Finish
-pub mod Numbers

@@ -1,6 +1,6 @@
 use Rattle.std.proofs.Common.{sym}
 use Rattle.std.proofs.lemmas.Str.{is_utf8-from_IsUtf8}
-use Rattle.gn_labels.proofs.NameLemmas.{is_utf8-from_not}
+use Rattle.gn_basics.proofs.Texts.{is_utf8-from_not}
 use Rattle.gn_labels.proofs.name.is_utf8.Goals as goal
 
 pub returns-in-Ok : goal.returns-in-Ok

@@ -11,7 +11,8 @@ use Rattle.gn_grammar.specs.Grammar.{priority, mark_of, assign_mark, Spells, Spe
 use Rattle.gn_grammar.specs.Machine.{Operand, Operators, Args, MoreArgs, Items, MoreItems, Test, Bad, verdict}
 use Rattle.gn_syntax.specs.Parsing.{front, rest_of, position_at, level, refusal, sign_of, Begun}
 use Rattle.gn_syntax.proofs.Steps.{arg_comes, item_comes}
-use Rattle.gn_syntax.proofs.Trees.{token_at, mark_at, kind_at, spells_weaker, list_push, begun_push}
+use Rattle.gn_grammar.proofs.Longer.{Spells_weaker}
+use Rattle.gn_syntax.proofs.Trees.{token_at, mark_at, kind_at, list_push, begun_push}
 use Rattle.gn_syntax.proofs.Calls.{rest_shorter, inside_refused, sign_mark, assignment_read, binary_read, list_read, list_refused, statement_whole, begun_new, list_none, items_end, items_none, assigned_spelled, statements_grown}
 use Rattle.gn_syntax.proofs.parser.Parser.+parser.Goals as goal
 use Rattle.gn_syntax.proofs.parser.Parser.+parser.Goals.{statements-in-Some-Identifier+in_ok-statement-in-Some-Identifier, statements-in-Some-If+in_ok-condition-in-Some-If}
@@ -86,7 +87,7 @@ binary-loop-operator-preserved t c =
         c.loop-operator.self.ahead.tokens,
         c.deepen.new.self.ahead.tokens,
         omega (arith, c.in-Some.ensures, c.in_ok-right.ensures.stops, c.priority.ensures),
-        (spells_weaker (max c.args.least (level c.loop-operator.self.ahead.tokens)) (priority c.in-Some.operator) (expr_of c.loop-operator.left) c.args.self.now.ahead.tokens c.loop-operator.self.ahead.tokens (omega (arith, c.in-Some.ensures)) c.loop-operator.invariant.spells),
+        (Spells_weaker (max c.args.least (level c.loop-operator.self.ahead.tokens)) (priority c.in-Some.operator) (expr_of c.loop-operator.left) c.args.self.now.ahead.tokens c.loop-operator.self.ahead.tokens (omega (arith, c.in-Some.ensures)) c.loop-operator.invariant.spells),
         mark_at (mark_of c.in-Some.operator) c.position-position.result c.loop-operator.self.ahead.tokens c.deepen.new.self.ahead.tokens c.in-Some.ensures.3 c.position-position.ensures c.in_ok-deepen.ensures.tokens,
         (subst (λ (n : ℕ). Spells (n + 1) (expr_of c.in_ok-right.right) c.deepen.new.self.ahead.tokens c.binary.new.self.ahead.tokens) c.priority.ensures c.in_ok-right.ensures.spells),
       );

@@ -1,0 +1,3 @@
+pub mod Val
+pub mod Limits
+pub mod Equal

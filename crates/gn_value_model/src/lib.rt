@@ -1,0 +1,2 @@
+//! Values as contracts see them, their limits and when they are equal: definitions, and lemmas on them.
+#![tactic(auto)]
