@@ -1,30 +1,14 @@
 -- Loops that ask a question of each item, which they see by a view.
 use Rattle.std.proofs.Common.{◌≡◌, ℕ, zero, suc, ◌+◌, ◌<◌, ◌≤◌, Bool, true, false, cond, ◌||◌, ◌&&◌, not, List, [], ◌∷◌, ◌++◌, length, get_or, take, map, filter, refl, sym, ap, ◌∙◌, arith, max}
 use Rattle.std.specs.List.{list_any, list_all}
-use Rattle.std.proofs.lemmas.List.{take_more, get_or-map}
 use Rattle.gn_values.specs.Val.{Val, vals_of, depth_of, deepest_item}
 use Rattle.gn_values.specs.Limits.{IsList, list_fits}
 use Rattle.gn_values.specs.Operators.{is_among, without}
 use Rattle.gn_values.specs.View.{val_of}
 use Rattle.gn_values.specs.declared.value.Value.{Value}
-use Rattle.gn_values.proofs.Mapped.{length_map}
-use Rattle.gn_values.proofs.Depths.{list_fits-list}
-
-or_right : (a : Bool) {b : Bool} → b ≡ true → (a || b) ≡ true
-or_right true h = refl
-or_right false h = h
-
-or_left : (a b : Bool) → a ≡ true → (a || b) ≡ true
-or_left true b h = refl
-or_left false b h = absurd (let f : false ≡ true = h in cc)
-
-and_right : (a : Bool) {b : Bool} → b ≡ false → (a && b) ≡ false
-and_right true h = h
-and_right false h = refl
-
-and_left : (a b : Bool) → a ≡ false → (a && b) ≡ false
-and_left true b h = absurd (let f : true ≡ false = h in cc)
-and_left false b h = refl
+use Rattle.gn_value_model.proofs.Within.{list_fits-list}
+use Rattle.gn_basics.proofs.Lists.{took_more}
+use Rattle.std.proofs.lemmas.Bool.{or_left, or_right, and_left, and_right}
 
 module _ {Y : Type 0} (p : Y → Bool) where
   list_any-push : (xs : List Y) (y : Y) → list_any p xs ≡ false → p y ≡ false → list_any p (xs ++ y ∷ []) ≡ false
@@ -54,30 +38,25 @@ module _ {Y : Type 0} (p : Y → Bool) where
       by false false h = h
 
 module _ {X Y : Type 0} (f : X → Y) where
-  pub took_more : (xs : List X) (i : ℕ) (x : X) → i < length xs → x ≡ get_or xs i x → take (i + 1) (map f xs) ≡ take i (map f xs) ++ f x ∷ []
-  took_more xs i x h is =
-      let within : i < length (map f xs) = omega (arith, length_map f xs) in
-      take_more (map f xs) i (f x) within ∙ ap (λ y. take i (map f xs) ++ y ∷ []) (get_or-map f xs i x (f x) h ∙ ap f (sym is))
-
   module _ (p : Y → Bool) where
     pub any_at : (xs : List X) (i : ℕ) (x : X) → i < length xs → x ≡ get_or xs i x → p (f x) ≡ true → list_any p (map f xs) ≡ true
     any_at [] i x l e h = absurd (omega arith)
     any_at (y ∷ ys) zero x l e h = or_left (p (f y)) _ (ap (λ z. p (f z)) (sym e) ∙ h)
-    any_at (y ∷ ys) (suc i) x l e h = or_right (p (f y)) (any_at ys i x (omega arith) e h)
+    any_at (y ∷ ys) (suc i) x l e h = or_right (p (f y)) _ (any_at ys i x (omega arith) e h)
 
     pub any_more : (xs : List X) (i : ℕ) (x : X) → i < length xs → x ≡ get_or xs i x → list_any p (take i (map f xs)) ≡ false → p (f x) ≡ false → list_any p (take (i + 1) (map f xs)) ≡ false
-    any_more xs i x l e h g = ap (list_any p) (took_more xs i x l e) ∙ list_any-push p (take i (map f xs)) (f x) h g
+    any_more xs i x l e h g = ap (list_any p) (took_more f xs i x l e) ∙ list_any-push p (take i (map f xs)) (f x) h g
 
     pub not_all_at : (xs : List X) (i : ℕ) (x : X) → i < length xs → x ≡ get_or xs i x → p (f x) ≡ false → list_all p (map f xs) ≡ false
     not_all_at [] i x l e h = absurd (omega arith)
     not_all_at (y ∷ ys) zero x l e h = and_left (p (f y)) _ (ap (λ z. p (f z)) (sym e) ∙ h)
-    not_all_at (y ∷ ys) (suc i) x l e h = and_right (p (f y)) (not_all_at ys i x (omega arith) e h)
+    not_all_at (y ∷ ys) (suc i) x l e h = and_right (p (f y)) _ (not_all_at ys i x (omega arith) e h)
 
     pub all_more : (xs : List X) (i : ℕ) (x : X) → i < length xs → x ≡ get_or xs i x → list_all p (take i (map f xs)) ≡ true → p (f x) ≡ true → list_all p (take (i + 1) (map f xs)) ≡ true
-    all_more xs i x l e h g = ap (list_all p) (took_more xs i x l e) ∙ list_all-push p (take i (map f xs)) (f x) h g
+    all_more xs i x l e h g = ap (list_all p) (took_more f xs i x l e) ∙ list_all-push p (take i (map f xs)) (f x) h g
 
     pub filter_more : (xs : List X) (i : ℕ) (x : X) → i < length xs → x ≡ get_or xs i x → filter p (take (i + 1) (map f xs)) ≡ cond (p (f x)) (filter p (take i (map f xs)) ++ f x ∷ []) (filter p (take i (map f xs)))
-    filter_more xs i x l e = ap (filter p) (took_more xs i x l e) ∙ filter-push p (take i (map f xs)) (f x)
+    filter_more xs i x l e = ap (filter p) (took_more f xs i x l e) ∙ filter-push p (take i (map f xs)) (f x)
 
 pub deepest_item-filter : (p : Val → Bool) (vs : List Val) → deepest_item (vals_of (filter p vs)) ≤ deepest_item (vals_of vs)
 deepest_item-filter p [] = omega arith

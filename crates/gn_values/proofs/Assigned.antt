@@ -16,7 +16,7 @@ use Rattle.gn_values.specs.declared.error.ValueError.{ValueError}
 use Rattle.gn_values.specs.declared.error.ValueError.TheVariants.{BadTypes, Overflow, NotInList, BadIndex, TooLong}
 use Rattle.gn_values.specs.declared.error.ElementError.{ElementError}
 use Rattle.gn_values.specs.declared.error.ElementError.TheVariants.{Operator}
-use Rattle.gn_values.proofs.Depths.{deepest_item-append}
+use Rattle.gn_value_model.proofs.Within.{deepest_item-append}
 use Rattle.gn_values.proofs.Among.{deepest_item-filter}
 use Rattle.gn_values.proofs.Elements.{fits_set, fits_with, item_there}
 use Rattle.std.proofs.lemmas.List.{map-set, length-map}
@@ -83,15 +83,12 @@ sum_deep vs ws h = by (list_fits (list_of vs ++ list_of ws))
     by true = ap operator_fault (no_element (vlist (vals_of (list_of vs ++ list_of ws))) (omega (arith, deepest_sum vs ws)))
     by false = refl
 
-not_both : {P : Type 0} → false ≡ true → P
-not_both t = absurd (cc)
-
 -- one that does
 pub combined_deep : (op : AssignOp) (l r : Val) → grows_too_deep op l r ≡ true → put_back element_value (combined op l r) ≡ Err (Operator TooLong)
 combined_deep Set l r t = ap operator_fault (no_element r (grind (arith, nat_tests)))
 combined_deep Add (vlist vs) (vlist ws) t = sum_deep vs ws (grind (arith, nat_tests))
-combined_deep Add (vlist vs) r t = not_both t
-combined_deep Add l r t = not_both t
+combined_deep Add (vlist vs) r t = absurd (let f : false ≡ true = t in cc)
+combined_deep Add l r t = absurd (let f : false ≡ true = t in cc)
 combined_deep Subtract l r t = absurd (let f : false ≡ true = t in cc)
 
 -- an element that was made isn't too deep

@@ -10,11 +10,11 @@ use Rattle.gn_values.specs.Operators.{value_at, with_entry}
 use Rattle.gn_values.specs.View.{val_of, entry_of, vals_in, entries_in, KeepsItems, KeepsEntries}
 use Rattle.gn_values.specs.declared.value.Value.{Value}
 use Rattle.gn_values.specs.declared.value.Entry.{Entry}
-use Rattle.gn_values.proofs.Among.{took_more}
+use Rattle.gn_basics.proofs.Lists.{took_more}
 use Rattle.gn_values.proofs.Setting.{depth_with, depth_with_former, put_there}
 use Rattle.gn_values.proofs.Sorted.{value_at_place}
 use Rattle.gn_values.specs.Search.{IsPlaceOf}
-use Rattle.gn_values.proofs.Depths.{deepest_item-append}
+use Rattle.gn_value_model.proofs.Within.{deepest_item-append}
 
 -- one more item looked at
 pub deepest_item_more : (xs : List Value) (i : ℕ) (x : Value) → i < length xs → x ≡ get_or xs i x → deepest_item (vals_of (take (i + 1) (map val_of xs))) ≡ max (deepest_item (vals_of (take i (map val_of xs)))) (depth_of (val_of x))
@@ -71,6 +71,10 @@ module _ (xs : List Value) (i : ℕ) (old new : Value) (d d' before after : ℕ)
 
   pub keeps_same : old ≡ get_or xs i old → KeepsItems (vals_in xs) d → val_of new ≡ val_of old → KeepsItems (vals_in (slice_set xs i new)) d
   keeps_same e k same = subst (λ (vs : List Val). KeepsItems vs d) (sym (map-set_same val_of xs i new old (same ∙ ap val_of e))) k
+
+  -- an item is one level less deep than the list
+  pub item_shallow : i < length xs → old ≡ get_or xs i old → KeepsItems (vals_in xs) d → depth_of (val_of old) < max_depth
+  item_shallow l e k = let h = (change_there l e).had in omega (arith, k.limits.shallow)
 
 -- how long the list of the values is
 pub within_items : (xs : List Value) (vs : List Val) (i : ℕ) → vals_in xs ≡ vs → i < length vs → i < length xs

@@ -9,7 +9,7 @@ use Rattle.gn_values.specs.Assigning.{element_assigned, item_assigned, entry_ass
 use Rattle.gn_values.specs.declared.error.ValueError.TheVariants.{NotInList, Undefined, TooLong, Memory}
 use Rattle.gn_values.specs.declared.error.ValueError.{ValueError}
 use Rattle.gn_values.specs.Limits.{list_fits}
-use Rattle.gn_values.proofs.Mapped.{list_of-vals, entries_of-binds}
+use Rattle.gn_value_model.proofs.Items.{list_of-vals, entries_of-binds}
 
 pub sum_of-lists : (vs ws : List Val) → sum_of (vlist (vals_of vs)) (vlist (vals_of ws)) ≡ list_value (vs ++ ws)
 unfolding sum_of

@@ -14,7 +14,7 @@ use Rattle.gn_values.specs.Operators.{is_among}
 use Rattle.gn_values.specs.View.{val_of}
 use Rattle.gn_values.specs.declared.value.Value.{Value}
 use Rattle.gn_values.specs.declared.value.Value.TheVariants.{Bool as VBool, Int, Str, List as VList, Scope}
-use Rattle.gn_values.proofs.Among.{took_more}
+use Rattle.gn_basics.proofs.Lists.{took_more}
 
 list_any-push : {Y : Type 0} (p : Y → Bool) (ys : List Y) (y : Y) → list_any p (ys ++ y ∷ []) ≡ (list_any p ys || p y)
 list_any-push p [] y = by (p y)

@@ -6,7 +6,7 @@ use Rattle.gn_values.specs.Text.{inner_text, items_text, further_text, entries_t
 use Rattle.gn_values.specs.View.{val_of, entry_of}
 use Rattle.gn_values.specs.declared.value.Value.{Value}
 use Rattle.gn_values.specs.declared.value.Entry.{Entry}
-use Rattle.gn_values.proofs.Among.{took_more}
+use Rattle.gn_basics.proofs.Lists.{took_more}
 
 further_text-push : (vs : List Val) (v : Val) → further_text (vals_of (vs ++ v ∷ [])) ≡ further_text (vals_of vs) ++ (codes ", " ++ inner_text v)
 unfolding inner_text items_text further_text entries_text

@@ -13,8 +13,9 @@ use Rattle.gn_values.specs.Operators.{value_at, with_entry}
 use Rattle.gn_values.specs.View.{val_of, entry_of, entries_in, KeepsEntries}
 use Rattle.gn_values.specs.declared.value.Entry.{Entry}
 use Rattle.gn_values.specs.Search.{IsPlaceOf}
-use Rattle.gn_values.proofs.Among.{took_more}
-use Rattle.gn_values.proofs.Sorted.{order, by_answer, AboveFirst, StandsAt, at_entry, between, value_there, no_value}
+use Rattle.gn_basics.proofs.Lists.{took_more}
+use Rattle.gn_basics.proofs.Orders.{order, by_answer}
+use Rattle.gn_values.proofs.Sorted.{AboveFirst, StandsAt, at_entry, between, value_there, no_value}
 
 module _ (k : List ℕ) (v : Val) where
   set_step : (b : List ℕ × Val) (bs : List (List ℕ × Val)) (r : Ordering) → order k b.0 ≡ r → with_entry (b ∷ bs) k v ≡ match_ordering r ((k, v) ∷ b ∷ bs) ((b.0, v) ∷ bs) (b ∷ with_entry bs k v)
@@ -92,7 +93,7 @@ pub deepest_more : (es : List Entry) (i : ℕ) (x : Entry) → i < length es →
 deepest_more es i x l e =
     ap (λ bs. deepest_entry (binds_of bs)) (took_more entry_of es i x l e) ∙ deepest_entry-append (take i (map entry_of es)) (entry_of x ∷ []) ∙ omega arith
 
-place_moved : (k ns : List ℕ) (es fs : List Entry) (r : Result ℕ ℕ) → ns ≡ k → fs ≡ es → IsPlaceOf ns fs r → IsPlaceOf k es r
+pub place_moved : (k ns : List ℕ) (es fs : List Entry) (r : Result ℕ ℕ) → ns ≡ k → fs ≡ es → IsPlaceOf ns fs r → IsPlaceOf k es r
 place_moved k ns es fs r n e p = subst (λ (l : List Entry). IsPlaceOf k l r) e (subst (λ (m : List ℕ). IsPlaceOf m fs r) n p)
 
 module _ (k : List ℕ) (v : Val) (ns : List ℕ) (es fs : List Entry) (i : ℕ) where

@@ -1,34 +1,22 @@
 -- Entries in the order of their names: what a search finds, and what setting a name does.
 use Rattle.std.proofs.Common.{◌≡◌, ℕ, zero, suc, ◌+◌, ◌<◌, ◌≤◌, cond, List, [], ◌∷◌, length, get_or, Some, None, Ok, Err, Ordering, refl, sym, ap, ◌∙◌, subst, arith}
-use Rattle.std.specs.Ordering.{nat_cmp, is_eq, ordering_index, ordering_reverse}
+use Rattle.std.specs.Ordering.{is_eq, ordering_index, ordering_reverse}
 use Rattle.std.specs.declared.cmp.Ordering.TheVariants.{Less, Equal, Greater}
-use Rattle.std.specs.Cmp.Lexicographic.{slice_cmp, nat_list_cmp_total, texts_ties}
+use Rattle.std.specs.Cmp.Lexicographic.{nat_list_cmp_total}
 use Rattle.std.specs.List.{AllByRecursion, AllWithin, HoldsAt}
-use Rattle.std.proofs.lemmas.List.{get_or_default}
+use Rattle.std.proofs.lemmas.List.{get_or_default, length-map}
 use Rattle.std.specs.List.Sorted.{IsStrictlySortedBy, IsNonDecreasingBy, IsPartitionPoint}
 use Rattle.std.specs.Map.{lookup}
 use Rattle.std.specs.BTreeMap.{is_at}
-use Rattle.std.proofs.lemmas.Slice.Eq.{bytes_eq-Decides}
-use Rattle.gn_values.specs.Search.{IsPlaceOf}
+use Rattle.gn_basics.proofs.Orders.{order, tied, by_answer}
+use Rattle.gn_values.specs.Search.{IsPlaceOf, IsEntryAt}
 use Rattle.gn_values.specs.Operators.{value_at}
 use Rattle.gn_values.specs.Val.{Val, IsSortedByName, names_of}
-use Rattle.gn_values.specs.View.{val_of, entries_in}
+use Rattle.gn_values.specs.View.{val_of, entries_in, entry_of}
 use Rattle.gn_values.specs.declared.value.Entry.{Entry}
-
-abbrev pub order : List ℕ → List ℕ → Ordering
-order = slice_cmp nat_cmp
-
--- names that the order doesn't tell apart are equal
-pub tied : (x y : List ℕ) → order x y ≡ Equal → x ≡ y
-tied x y h = (bytes_eq-Decides x y).0 (texts_ties x y ∙ ap is_eq h)
 
 flipped : (x y : List ℕ) (r : Ordering) → order x y ≡ r → order y x ≡ ordering_reverse r
 flipped x y r h = nat_list_cmp_total.antisymm y x ∙ ap ordering_reverse h
-
-pub by_answer : {P : Type 0} (r : Ordering) → (r ≡ Less → P) → (r ≡ Equal → P) → (r ≡ Greater → P) → P
-by_answer Less a b c = a refl
-by_answer Equal a b c = b refl
-by_answer Greater a b c = c refl
 
 index_at_most_two : (r : Ordering) → ordering_index r ≤ 2
 index_at_most_two Less = omega arith
@@ -170,3 +158,21 @@ module _ (k : List ℕ) (es : List Entry) (s : IsStrictlySortedBy order (names_o
 
   pub holds_there : m < length es → x ≡ get_or es m x → order x.name k ≡ Equal → HoldsAt (λ e. order e.name k ≡ Equal) es m
   holds_there l is h d = middle d Equal l is h
+
+-- a search that ends at an entry, by what the entries stand for
+module _ (k : List ℕ) where
+  name_seen : (es : List Entry) (i : ℕ) → i < length es → HoldsAt (λ e. order e.name k ≡ Equal) es i → HoldsAt (λ b. order b.0 k ≡ Equal) (entries_in es) i
+  name_seen [] i l h d = absurd (omega arith)
+  name_seen (e ∷ es) zero l h d = h e
+  name_seen (e ∷ es) (suc i) l h d = name_seen es i (omega arith) h d
+
+  name_back : (es : List Entry) (i : ℕ) → i < length es → HoldsAt (λ b. order b.0 k ≡ Equal) (entries_in es) i → HoldsAt (λ e. order e.name k ≡ Equal) es i
+  name_back [] i l h d = absurd (omega arith)
+  name_back (e ∷ es) zero l h d = h (entry_of e)
+  name_back (e ∷ es) (suc i) l h d = name_back es i (omega arith) h d
+
+  pub entry_at : (es : List Entry) (i : ℕ) → IsPlaceOf k es (Ok i) → IsEntryAt k (entries_in es) i
+  entry_at es i p = let l : i < length es = p.0 in (omega (arith, length-map es entry_of), name_seen es i l p.1)
+
+  pub place_at : (es : List Entry) (i : ℕ) → IsEntryAt k (entries_in es) i → IsPlaceOf k es (Ok i)
+  place_at es i p = let l : i < length es = omega (arith, p.0, length-map es entry_of) in (l, name_back es i l p.1)

@@ -3,6 +3,7 @@ pub mod ValCode
 pub mod Limits
 pub mod Equal
 pub mod Operators
+pub mod Shared
 pub mod View
 pub mod Search
 pub mod Text

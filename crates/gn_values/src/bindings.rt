@@ -5,6 +5,7 @@ ghost use Rattle.gn_values.specs.Operators.{value_at, with_entry};
 ghost use Rattle.gn_values.specs.Val.{IsSortedByName};
 ghost use Rattle.gn_values.specs.View.{val_of, entry_of};
 
+use crate::shared::copies_of;
 use crate::value::search::{find_entry, set_entry};
 use crate::value::{Entry, Value};
 use gn_paths::Text;
@@ -102,10 +103,7 @@ impl Bindings {
     pub fn copy(&self, alloc: Global) -> Result<Bindings, AllocError>
         ensures { IfOk result (λ r. r ≡ self.now) }
     {
-        let mut entries = Vec::with_capacity(alloc, self.entries.len())?;
-        for entry in &self.entries {
-            entries.push(entry.copy(alloc)?)?;
-        }
+        let entries = copies_of(alloc, self.entries.as_slice())?;
         Ok(Bindings { entries })
     }
 }

@@ -9,6 +9,7 @@ mod integers;
 mod kept;
 mod limits;
 mod operators;
+mod shared;
 mod value;
 
 pub use bindings::{Bindings, Overrides};

@@ -14,6 +14,7 @@ mod scope_entries;
 pub(crate) mod search;
 mod sums;
 
+use crate::shared::{Copied, Shared};
 use gn_paths::Text;
 pub use print::print_text;
 use std::alloc::{AllocError, Global};
@@ -42,7 +43,7 @@ pub enum Value {
 #[cycle(value)]
 #[derive(Drop)]
 pub struct Items {
-    items: Vec<Value>,
+    items: Shared<Value>,
     depth: u8,
 }
 
@@ -61,7 +62,7 @@ pub struct Entry {
 #[cycle(value)]
 #[derive(Drop)]
 pub struct Entries {
-    entries: Vec<Entry>,
+    entries: Shared<Entry>,
     depth: u8,
 }
 
@@ -75,18 +76,19 @@ impl Model for Items {
 
     ghost coded = { coded_list val_code };
 
+    ghost use Rattle.gn_values.specs.Shared.{parts};
     ghost use Rattle.gn_values.specs.View.{vals_in, KeepsItems};
 
-    ghost view = { λ a. vals_in a.items.items };
+    ghost view = { λ a. vals_in (parts a.items) };
 
-    ghost invariant = { λ a. KeepsItems (vals_in a.items.items) a.depth };
+    ghost invariant = { λ a. KeepsItems (vals_in (parts a.items)) a.depth };
 
     ghost size = { list_depth };
 
     ghost use Rattle.std.proofs.Common.{arith};
-    ghost use Rattle.gn_values.specs.Falls.{items_fall};
+    ghost use Rattle.gn_values.specs.Falls.{shared_items_fall};
 
-    ghost size_decreases = { λ a h. omega (arith, items_fall a.items.items) };
+    ghost size_decreases = { λ a h. omega (arith, shared_items_fall a.items) };
 }
 
 impl Model for Entries {
@@ -99,18 +101,19 @@ impl Model for Entries {
 
     ghost coded = { coded_list (coded× (coded_list coded_ℕ) val_code) };
 
+    ghost use Rattle.gn_values.specs.Shared.{parts};
     ghost use Rattle.gn_values.specs.View.{entries_in, KeepsEntries};
 
-    ghost view = { λ a. entries_in a.entries.items };
+    ghost view = { λ a. entries_in (parts a.entries) };
 
-    ghost invariant = { λ a. KeepsEntries (entries_in a.entries.items) a.depth };
+    ghost invariant = { λ a. KeepsEntries (entries_in (parts a.entries)) a.depth };
 
     ghost size = { scope_depth };
 
     ghost use Rattle.std.proofs.Common.{arith};
-    ghost use Rattle.gn_values.specs.Falls.{entries_fall};
+    ghost use Rattle.gn_values.specs.Falls.{shared_entries_fall};
 
-    ghost size_decreases = { λ a h. omega (arith, entries_fall a.entries.items) };
+    ghost size_decreases = { λ a h. omega (arith, shared_entries_fall a.entries) };
 }
 
 impl Value {
@@ -141,8 +144,8 @@ impl Value {
         }
     }
 
-    /// A new value equal to this one.
-    #[cycle(copy)]
+    /// A new value equal to this one. The bytes of a string are copied, and the items of a list and the entries of a scope
+    /// are shared, which takes no longer for many than for one.
     pub fn copy(&self, alloc: Global) -> Result<Value, AllocError>
         ensures { IfOk result (λ r. val_of r ≡ val_of self.now) }
     {
@@ -150,8 +153,8 @@ impl Value {
             Value::Bool(b) => Ok(Value::Bool(*b)),
             Value::Int(n) => Ok(Value::Int(*n)),
             Value::Str(t) => Ok(Value::Str(t.copy(alloc)?)),
-            Value::List(vs) => Ok(Value::List(vs.copy(alloc)?)),
-            Value::Scope(bs) => Ok(Value::Scope(bs.copy(alloc)?)),
+            Value::List(vs) => Ok(Value::List(vs.share()?)),
+            Value::Scope(bs) => Ok(Value::Scope(bs.share()?)),
         }
     }
 }
@@ -162,28 +165,25 @@ impl Items {
     pub fn same(&self, other: &Items) -> bool
         ensures { IsTrue result ↔ (self.now ≡ other.now) }
     {
-        if self.items.len() != other.items.len() {
+        let mine = self.as_slice();
+        let others = other.as_slice();
+        if mine.len() != others.len() {
             return false;
         }
-        for i in 0..self.items.len() {
-            if !self.items[i].same(&other.items[i]) {
+        for i in 0..mine.len() {
+            if !mine[i].same(&others[i]) {
                 return false;
             }
         }
         true
     }
 
-    /// A new list equal to this one.
-    #[cycle(copy)]
-    pub fn copy(&self, alloc: Global) -> Result<Items, AllocError>
+    /// The same list once more. Nothing of it is copied.
+    pub fn share(&self) -> Result<Items, AllocError>
         ensures { IfOk result (λ r. r ≡ self.now) }
     {
-        let mut items = Vec::with_capacity(alloc, self.items.len())?;
-        for item in &self.items {
-            items.push(item.copy(alloc)?)?;
-        }
         Ok(Items {
-            items,
+            items: self.items.share()?,
             depth: self.depth,
         })
     }
@@ -195,28 +195,25 @@ impl Entries {
     pub fn same(&self, other: &Entries) -> bool
         ensures { IsTrue result ↔ (self.now ≡ other.now) }
     {
-        if self.entries.len() != other.entries.len() {
+        let mine = self.as_slice();
+        let others = other.as_slice();
+        if mine.len() != others.len() {
             return false;
         }
-        for i in 0..self.entries.len() {
-            if !self.entries[i].same(&other.entries[i]) {
+        for i in 0..mine.len() {
+            if !mine[i].same(&others[i]) {
                 return false;
             }
         }
         true
     }
 
-    /// A new scope equal to this one.
-    #[cycle(copy)]
-    pub fn copy(&self, alloc: Global) -> Result<Entries, AllocError>
+    /// The same scope once more. Nothing of it is copied.
+    pub fn share(&self) -> Result<Entries, AllocError>
         ensures { IfOk result (λ r. r ≡ self.now) }
     {
-        let mut entries = Vec::with_capacity(alloc, self.entries.len())?;
-        for entry in &self.entries {
-            entries.push(entry.copy(alloc)?)?;
-        }
         Ok(Entries {
-            entries,
+            entries: self.entries.share()?,
             depth: self.depth,
         })
     }
@@ -232,12 +229,38 @@ impl Entry {
     }
 
     /// A new entry equal to this one.
-    #[cycle(copy)]
     pub fn copy(&self, alloc: Global) -> Result<Entry, AllocError>
         ensures { IfOk result (λ r. entry_of r ≡ entry_of self.now) }
     {
         let name = self.name.copy(alloc)?;
         let value = self.value.copy(alloc)?;
         Ok(Entry { name, value })
+    }
+}
+
+impl Copied for Value {
+    ghost use Rattle.gn_values.specs.Val.{Val};
+    ghost use Rattle.gn_values.specs.View.{val_of};
+
+    ghost Seen = { Val };
+
+    ghost seen = { val_of };
+
+    fn copied(&self, alloc: Global) -> Result<Value, AllocError> {
+        self.copy(alloc)
+    }
+}
+
+impl Copied for Entry {
+    ghost use Rattle.std.specs.Prelude.{List, ℕ};
+    ghost use Rattle.gn_values.specs.Val.{Val};
+    ghost use Rattle.gn_values.specs.View.{entry_of};
+
+    ghost Seen = { List ℕ × Val };
+
+    ghost seen = { entry_of };
+
+    fn copied(&self, alloc: Global) -> Result<Entry, AllocError> {
+        self.copy(alloc)
     }
 }

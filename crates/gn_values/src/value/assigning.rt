@@ -37,8 +37,9 @@ impl Value {
     /// `-=` subtracts from it, with the refusals of `+` and `-`. After a refusal it is as before,
     /// and the right value is dropped.
     ///
-    /// `+=` neither walks over nor copies what the value has. The items of a right list are moved,
-    /// and the bytes of a right string are copied. `-=` costs what `subtract` does.
+    /// `+=` neither walks over nor copies what the value has, where nobody else has the items of a
+    /// list. The items of a right list are moved where nobody else has them, and the bytes of a right
+    /// string are copied. `-=` costs what `subtract` does.
     pub fn combine(&mut self, alloc: Global, op: AssignOp, right: Value) -> Result<(), ValueError>
         ensures ok { OnOk result
             (combined op (val_of self.old) (val_of right) ≡ Ok (val_of self.new)) }
@@ -117,7 +118,8 @@ impl Value {
     ///
     /// An item is found at once, and an entry with logarithmically many looks. Beside what
     /// `combine` costs on the element there is a look at each element only where the deepest one
-    /// gets less deep, and a move of the entries behind one that is added.
+    /// gets less deep, a move of the entries behind one that is added, and copies of the elements
+    /// where others have them too.
     #[tactic(auto, unfolding(crate::specs::Assigning::element_assigned))]
     pub fn assign_element(
         &mut self,

@@ -1,11 +1,12 @@
 // An item of a list or an entry of a scope changes in place.
 
-ghost use Rattle.std.specs.Prelude.{◌≡◌, ◌≢◌, ◌<◌, ◌≤◌, ◌+◌, ◌⊎◌, IfErr, OnOk, OnErr, None, length, map, max, pos};
+ghost use Rattle.std.specs.Prelude.{◌≡◌, ◌≢◌, ◌<◌, ◌≤◌, ◌+◌, ◌⊎◌, IfOk, IfErr, OnOk, OnErr, None, length, map, max, pos};
 ghost use Rattle.gn_values.specs.Val.{vlist, vscope, vals_of, binds_of, list_depth, scope_depth};
 ghost use Rattle.gn_values.specs.Limits.{max_depth};
 ghost use Rattle.gn_values.specs.Operators.{item_at, value_at};
 ghost use Rattle.gn_values.specs.Assigning.{item_assigned, entry_assigned};
-ghost use Rattle.gn_values.specs.View.{val_of, entry_of};
+ghost use Rattle.gn_values.specs.View.{val_of, entry_of, vals_in, entries_in, KeepsItems, KeepsEntries};
+ghost use Rattle.gn_values.specs.Search.{IsEntryAt};
 
 use crate::error::{ElementError, ValueError};
 use crate::value::search::{depth_of_entries, find_entry};
@@ -13,6 +14,7 @@ use crate::value::{Entries, Entry, Items, Value};
 use gn_paths::Text;
 use gn_tree::AssignOp;
 use std::alloc::Global;
+use std::sync::Arc;
 
 /// How deep a list of these items nests.
 fn depth_of_items(items: &[Value]) -> u8
@@ -57,8 +59,76 @@ fn depth_of_changed_entries(entries: &[Entry], depth: u8, before: usize, after: 
     }
 }
 
+/// Assigns to the item of this number among those of a list that nests `depth` deep, in place, and
+/// answers how deep the list nests then.
+fn combine_among(
+    alloc: Global,
+    items: &mut Vec<Value>,
+    depth: u8,
+    index: usize,
+    op: AssignOp,
+    value: Value,
+) -> Result<u8, ElementError>
+    requires kept { KeepsItems (vals_in items.old.items) depth }
+    requires within { index < length (vals_in items.old.items) }
+    ensures ok { OnOk result
+        (item_assigned (vals_in items.old.items) (pos index) op (val_of value)
+        (item_at (vals_in items.old.items) (pos index))
+        ≡ Ok (vlist (vals_of (vals_in items.new.items)))) }
+    ensures kept { IfOk result (λ d. KeepsItems (vals_in items.new.items) d) }
+    ensures refused { IfErr result
+        (λ e. e ≢ ElementError.Memory
+        → item_assigned (vals_in items.old.items) (pos index) op (val_of value)
+        (item_at (vals_in items.old.items) (pos index))
+        ≡ Err e) }
+    ensures err { OnErr result (vals_in items.new.items ≡ vals_in items.old.items) }
+{
+    let before = items[index].depth();
+    match items[index].combine_element(alloc, op, value) {
+        Ok(()) => {
+            let after = items[index].depth();
+            Ok(depth_of_changed_items(items.as_slice(), depth, before, after))
+        }
+        Err(error) => Err(error),
+    }
+}
+
+/// The same of the entry of a name, which stands there among those of a scope.
+fn combine_among_entries(
+    alloc: Global,
+    entries: &mut Vec<Entry>,
+    depth: u8,
+    name: &Text,
+    at: usize,
+    op: AssignOp,
+    value: Value,
+) -> Result<u8, ElementError>
+    requires kept { KeepsEntries (entries_in entries.old.items) depth }
+    requires there { IsEntryAt name.now (entries_in entries.old.items) at }
+    ensures ok { OnOk result
+        (entry_assigned (entries_in entries.old.items) name.now op (val_of value)
+        (value_at name.now (entries_in entries.old.items))
+        ≡ Ok (vscope (binds_of (entries_in entries.new.items)))) }
+    ensures kept { IfOk result (λ d. KeepsEntries (entries_in entries.new.items) d) }
+    ensures refused { IfErr result
+        (λ e. e ≢ ElementError.Memory
+        → entry_assigned (entries_in entries.old.items) name.now op (val_of value)
+        (value_at name.now (entries_in entries.old.items))
+        ≡ Err e) }
+    ensures err { OnErr result (entries_in entries.new.items ≡ entries_in entries.old.items) }
+{
+    let before = entries[at].value.depth();
+    match entries[at].value.combine_element(alloc, op, value) {
+        Ok(()) => {
+            let after = entries[at].value.depth();
+            Ok(depth_of_changed_entries(entries.as_slice(), depth, before, after))
+        }
+        Err(error) => Err(error),
+    }
+}
+
 impl Items {
-    /// `list[at] op= value`, in place.
+    /// `list[at] op= value`, in place where nobody else has the items.
     pub(crate) fn assign_item(
         &mut self,
         alloc: Global,
@@ -74,13 +144,13 @@ impl Items {
             → item_assigned self.old at op (val_of value) (item_at self.old at) ≡ Err e) }
         ensures err { OnErr result (self.new ≡ self.old) }
     {
-        if at < 0 || at as usize >= self.items.len() {
+        if at < 0 || at as usize >= self.len() {
             return Err(ElementError::Subscript(ValueError::BadIndex));
         }
         self.combine_item(alloc, at as usize, op, value)
     }
 
-    /// Assigns to the item of this number, in place.
+    /// Assigns to the item of this number, in place where nobody else has the items.
     fn combine_item(
         &mut self,
         alloc: Global,
@@ -98,25 +168,22 @@ impl Items {
             ≡ Err e) }
         ensures err { OnErr result (self.new ≡ self.old) }
     {
-        let before = self.items[index].depth();
-        match self.items[index].combine_element(alloc, op, value) {
-            Ok(()) => {
-                let after = self.items[index].depth();
-                self.depth = depth_of_changed_items(
-                    self.items.as_slice(),
-                    self.depth,
-                    before,
-                    after,
-                );
-                Ok(())
+        if let Some(shared) = &mut self.items.owned {
+            if let Some(items) = Arc::get_mut(shared) {
+                self.depth = combine_among(alloc, items, self.depth, index, op, value)?;
+                return Ok(());
             }
-            Err(error) => Err(error),
         }
+        let mut copies = self.items.copies()?;
+        let depth = combine_among(alloc, &mut copies, self.depth, index, op, value)?;
+        self.items.replace(copies)?;
+        self.depth = depth;
+        Ok(())
     }
 }
 
 impl Entries {
-    /// `scope[name] op= value`, in place.
+    /// `scope[name] op= value`, in place where nobody else has the entries.
     pub(crate) fn assign_entry(
         &mut self,
         alloc: Global,
@@ -133,23 +200,45 @@ impl Entries {
             ≡ Err e) }
         ensures err { OnErr result (self.new ≡ self.old) }
     {
-        let Ok(at) = find_entry(self.entries.as_slice(), name.as_bytes()) else {
-            return self.assign_absent(alloc, name, op, value);
-        };
-        let before = self.entries[at].value.depth();
-        match self.entries[at].value.combine_element(alloc, op, value) {
-            Ok(()) => {
-                let after = self.entries[at].value.depth();
-                self.depth = depth_of_changed_entries(
-                    self.entries.as_slice(),
-                    self.depth,
-                    before,
-                    after,
-                );
-                Ok(())
-            }
-            Err(error) => Err(error),
+        match find_entry(self.entries.as_slice(), name.as_bytes()) {
+            Ok(at) => self.combine_entry(alloc, name, at, op, value),
+            Err(_) => self.assign_absent(alloc, name, op, value),
         }
+    }
+
+    /// Assigns to the entry of this name, which stands there, in place where nobody else has the
+    /// entries.
+    fn combine_entry(
+        &mut self,
+        alloc: Global,
+        name: &Text,
+        at: usize,
+        op: AssignOp,
+        value: Value,
+    ) -> Result<(), ElementError>
+        requires { IsEntryAt name.now self.old at }
+        ensures ok { OnOk result
+            (entry_assigned self.old name.now op (val_of value) (value_at name.now self.old)
+            ≡ Ok (vscope (binds_of self.new))) }
+        ensures refused { IfErr result
+            (λ e. e ≢ ElementError.Memory
+            → entry_assigned self.old name.now op (val_of value) (value_at name.now self.old)
+            ≡ Err e) }
+        ensures err { OnErr result (self.new ≡ self.old) }
+    {
+        if let Some(shared) = &mut self.entries.owned {
+            if let Some(entries) = Arc::get_mut(shared) {
+                self.depth = combine_among_entries(
+                    alloc, entries, self.depth, name, at, op, value,
+                )?;
+                return Ok(());
+            }
+        }
+        let mut copies = self.entries.copies()?;
+        let depth = combine_among_entries(alloc, &mut copies, self.depth, name, at, op, value)?;
+        self.entries.replace(copies)?;
+        self.depth = depth;
+        Ok(())
     }
 
     /// `scope[name] op= value` where the scope has no entry of this name.

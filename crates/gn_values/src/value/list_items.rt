@@ -8,6 +8,7 @@ ghost use Rattle.gn_values.specs.View.{val_of};
 
 use crate::error::ValueError;
 use crate::limits::{MAX_DEPTH, MAX_ITEMS};
+use crate::shared::Shared;
 use crate::value::{Items, Value};
 use std::alloc::{AllocError, Global};
 
@@ -17,7 +18,7 @@ impl Items {
         ensures { result ≡ [] }
     {
         Items {
-            items: Vec::new(alloc),
+            items: Shared::new(alloc),
             depth: 1,
         }
     }
@@ -27,14 +28,14 @@ impl Items {
         ensures value { result ≡ length self.now }
         ensures limit { result ≤ max_items }
     {
-        self.items.len()
+        self.items.as_slice().len()
     }
 
     /// Whether the list has no items.
     pub fn is_empty(&self) -> bool
         ensures { IsTrue result ↔ (self.now ≡ []) }
     {
-        self.items.is_empty()
+        self.items.as_slice().is_empty()
     }
 
     /// How deep the list nests, from 1 to `MAX_DEPTH`, without a walk.
@@ -53,20 +54,20 @@ impl Items {
         self.items.as_slice()
     }
 
-    /// The items, in order, moved out of the list. It takes no memory.
-    pub fn into_vec(self) -> Vec<Value>
-        ensures value { map val_of result.items ≡ self }
-        ensures items { list_of (vals_of self) ≡ map val_of result.items }
+    /// The items, in order, in a vector: they are moved out of the list where nobody else has them, and else copied.
+    pub fn into_vec(self) -> Result<Vec<Value>, AllocError>
+        ensures value { IfOk result (λ r. map val_of r.items ≡ self) }
+        ensures items { IfOk result (λ r. list_of (vals_of self) ≡ map val_of r.items) }
     {
         let Items { items, .. } = self;
-        items
+        items.into_vec()
     }
 
     /// The item of this number, counted from 0. None comes exactly where there is no such item.
     pub fn get(&self, index: usize) -> Option<&Value>
         ensures { option_map (λ v. val_of v.now) result ≡ slice_get self.now index }
     {
-        self.items.get(index)
+        self.items.as_slice().get(index)
     }
 
     /// The item of this number, counted from 0, or `BadIndex`.
@@ -102,7 +103,7 @@ impl Items {
     fn has_room_for(&self, value: &Value) -> bool
         ensures { result ≡ list_fits (self.now ++ val_of value.now ∷ []) }
     {
-        self.items.len() < MAX_ITEMS && value.depth() < MAX_DEPTH
+        self.items.as_slice().len() < MAX_ITEMS && value.depth() < MAX_DEPTH
     }
 
     /// Puts a value at the end of a list that has room for it.
@@ -117,10 +118,10 @@ impl Items {
         Ok(())
     }
 
-    /// Puts copies of the other list's items at the end. `TooLong` comes exactly where the list
-    /// would be above a limit. After a refusal the list is as before. It doesn't walk over its own
-    /// items.
-    pub fn append(&mut self, alloc: Global, other: &Items) -> Result<(), ValueError>
+    /// Puts the other list's items at the end, of which the list gets copies, or all of them where it
+    /// has none. `TooLong` comes exactly where the list would be above a limit. After a refusal the
+    /// list is as before. It doesn't walk over its own items where nobody else has them.
+    pub fn append(&mut self, other: &Items) -> Result<(), ValueError>
         ensures ok { OnOk result (self.new ≡ self.old ++ other.now) }
         ensures fits { OnOk result (IsTrue (list_fits self.new)) }
         ensures too_long { result ≡ Err ValueError.TooLong
@@ -128,15 +129,14 @@ impl Items {
         ensures only { IfErr result (λ e. e ≢ ValueError.Memory → e ≡ ValueError.TooLong) }
         ensures err { OnErr result (self.new ≡ self.old) }
     {
-        if other.len() > MAX_ITEMS - self.len() {
-            return Err(ValueError::TooLong);
-        }
-        self.append_moved(other.copy(alloc)?)
+        self.append_moved(other.share()?)
     }
 
-    /// Moves the other list's items to the end. `TooLong` comes exactly where the list would be
-    /// above a limit. After a refusal the list is as before, and the other list is dropped. It
-    /// walks over no items and copies none.
+    /// Puts the other list's items at the end. `TooLong` comes exactly where the list would be above
+    /// a limit. After a refusal the list is as before, and the other list is dropped. The items of
+    /// the other list are moved where nobody else has them, and else copied; those that the list has
+    /// aren't walked over where nobody else has them, and else copied too. An empty list gets the
+    /// other's items as they are.
     pub fn append_moved(&mut self, other: Items) -> Result<(), ValueError>
         ensures ok { OnOk result (self.new ≡ self.old ++ other) }
         ensures fits { OnOk result (IsTrue (list_fits self.new)) }
@@ -145,14 +145,11 @@ impl Items {
         ensures only { IfErr result (λ e. e ≢ ValueError.Memory → e ≡ ValueError.TooLong) }
         ensures err { OnErr result (self.new ≡ self.old) }
     {
-        let Items {
-            items: mut moved,
-            depth,
-        } = other;
-        if moved.len() > MAX_ITEMS - self.items.len() {
+        if other.len() > MAX_ITEMS - self.len() {
             return Err(ValueError::TooLong);
         }
-        self.items.append(&mut moved)?;
+        let Items { items, depth } = other;
+        self.items.append(items)?;
         self.depth = self.depth.max(depth);
         Ok(())
     }

@@ -76,9 +76,10 @@ fn append_items(alloc: Global, items: &Items, text: &mut Text) -> Result<(), All
         (text.new ≡ text.old ++ (codes "[" ++ items_text (vals_of items.now) ++ codes "]")) }
 {
     text.append(b"[")?;
-    for index in 0..items.items.len() {
+    let values = items.as_slice();
+    for index in 0..values.len() {
         append_comma(index, text)?;
-        append_value(alloc, &items.items[index], text)?;
+        append_value(alloc, &values[index], text)?;
     }
     text.append(b"]")
 }
@@ -90,7 +91,7 @@ fn append_entries(alloc: Global, entries: &Entries, text: &mut Text) -> Result<(
         (text.new ≡ text.old ++ (codes "{\n" ++ entries_text (binds_of entries.now) ++ codes "}")) }
 {
     text.append(b"{\n")?;
-    for entry in &entries.entries {
+    for entry in entries.as_slice() {
         text.append(b"  ")?;
         text.append(entry.name.as_bytes())?;
         text.append(b" = ")?;

@@ -9,7 +9,8 @@ ghost use Rattle.gn_values.specs.View.{val_of, entry_of};
 use crate::bindings::Bindings;
 use crate::error::ValueError;
 use crate::limits::MAX_DEPTH;
-use crate::value::search::{depth_of_entries, find_entry, set_entry};
+use crate::shared::Shared;
+use crate::value::search::{depth_of_entries, find_entry, set_shared};
 use crate::value::{Entries, Entry, Value};
 use gn_paths::Text;
 use std::alloc::Global;
@@ -20,24 +21,25 @@ impl Entries {
         ensures { result ≡ [] }
     {
         Entries {
-            entries: Vec::new(alloc),
+            entries: Shared::new(alloc),
             depth: 1,
         }
     }
 
-    /// A scope of these names and values, in time linear in their number. `TooLong` comes exactly
-    /// where it would nest too deep, and the values are dropped then. It takes no memory.
+    /// A scope of these names and values, which aren't copied, in time linear in their number.
+    /// `TooLong` comes exactly where it would nest too deep. After an error the values are dropped.
     pub fn from_bindings(bindings: Bindings) -> Result<Entries, ValueError>
         ensures ok { IfOk result (λ r. r ≡ bindings) }
         ensures fits { IfOk result (λ r. IsTrue (scope_fits bindings)) }
         ensures too_long { result ≡ Err ValueError.TooLong → scope_fits bindings ≡ false }
-        ensures only { IfErr result (λ e. e ≡ ValueError.TooLong) }
+        ensures only { IfErr result (λ e. e ≢ ValueError.Memory → e ≡ ValueError.TooLong) }
     {
         let entries = bindings.into_vec();
         let depth = depth_of_entries(entries.as_slice());
         if depth as usize > MAX_DEPTH {
             return Err(ValueError::TooLong);
         }
+        let entries = Shared::from_vec(entries)?;
         Ok(Entries { entries, depth })
     }
 
@@ -45,7 +47,7 @@ impl Entries {
     pub fn is_empty(&self) -> bool
         ensures { IsTrue result ↔ (self.now ≡ []) }
     {
-        self.entries.is_empty()
+        self.entries.as_slice().is_empty()
     }
 
     /// How deep the scope nests, from 1 to `MAX_DEPTH`, without a walk.
@@ -71,8 +73,9 @@ impl Entries {
         ensures entry { option_map (λ v. val_of v.now) result ≡ value_at name.now (entries_of (binds_of self.now)) }
         ensures element { ok_or (option_map (λ v. val_of v.now) result) ValueError.Undefined ≡ element_of (vscope (binds_of self.now)) (vstr name.now) }
     {
-        match find_entry(self.entries.as_slice(), name) {
-            Ok(at) => Some(&self.entries[at].value),
+        let entries = self.as_slice();
+        match find_entry(entries, name) {
+            Ok(at) => Some(&entries[at].value),
             Err(_) => None,
         }
     }
@@ -80,7 +83,8 @@ impl Entries {
     /// Sets the value of a name. `TooLong` comes exactly where the scope would nest too deep. After
     /// a refusal the scope is as before, and the value is dropped. A name that stands behind all
     /// others is added in logarithmic time, any other new name costs a move of those behind it, and
-    /// a new value for a name that was there costs a look at each entry.
+    /// a new value for a name that was there costs a look at each entry. Where others have the
+    /// entries too, they are copied first.
     pub fn set(&mut self, name: Text, value: Value) -> Result<(), ValueError>
         ensures ok { OnOk result (self.new ≡ with_entry self.old name (val_of value)) }
         ensures fits { OnOk result (IsTrue (scope_fits self.new)) }
@@ -93,7 +97,7 @@ impl Entries {
             return Err(ValueError::TooLong);
         }
         let depth = self.depth.max(value.depth() as u8 + 1);
-        let added = set_entry(&mut self.entries, name, value)?;
+        let added = set_shared(&mut self.entries, name, value)?;
         if added {
             self.depth = depth;
             return Ok(());

@@ -4,12 +4,15 @@ ghost use Rattle.std.specs.Prelude.{◌≡◌, ◌≤◌, length, IfOk, OnOk, On
 ghost use Rattle.gn_values.specs.Val.{scope_depth, IsSortedByName};
 ghost use Rattle.gn_values.specs.Operators.{value_at, with_entry};
 ghost use Rattle.gn_values.specs.Search.{IsPlaceOf};
+ghost use Rattle.gn_values.specs.Shared.{parts};
 ghost use Rattle.gn_values.specs.View.{val_of, entry_of};
 
+use crate::shared::Shared;
 use crate::value::{Entry, Value};
 use gn_paths::Text;
 use std::alloc::AllocError;
 use std::cmp::Ordering;
+use std::sync::Arc;
 
 /// The place of the entry of this name, or the place where it would stand.
 pub(crate) fn find_entry(entries: &[Entry], name: &[u8]) -> Result<usize, usize>
@@ -54,6 +57,32 @@ pub(crate) fn set_entry(
             Ok(true)
         }
     }
+}
+
+/// Sets the value of a name among entries that others may have too, as `set_entry` does: in place where
+/// nobody else has them.
+pub(crate) fn set_shared(
+    entries: &mut Shared<Entry>,
+    name: Text,
+    value: Value,
+) -> Result<bool, AllocError>
+    requires { IsSortedByName (map entry_of (parts entries.old)) }
+    ensures ok { OnOk result
+        (map entry_of (parts entries.new)
+        ≡ with_entry (map entry_of (parts entries.old)) name (val_of value)) }
+    ensures added { IfOk result
+        (λ added. added ≡ is_none (value_at name (map entry_of (parts entries.old)))) }
+    ensures err { OnErr result (parts entries.new ≡ parts entries.old) }
+{
+    if let Some(shared) = &mut entries.owned {
+        if let Some(own) = Arc::get_mut(shared) {
+            return set_entry(own, name, value);
+        }
+    }
+    let mut copies = entries.copies()?;
+    let added = set_entry(&mut copies, name, value)?;
+    entries.replace(copies)?;
+    Ok(added)
 }
 
 /// How deep a scope of these entries nests.

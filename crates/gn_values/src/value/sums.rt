@@ -47,7 +47,7 @@ fn add_to_text(alloc: Global, text: &mut Text, right: &Value) -> Result<(), Valu
 
 /// Puts copies of the items of a list at the end of a list.
 #[tactic(auto, unfolding(crate::specs::Operators::sum_of))]
-fn add_to_list(alloc: Global, items: &mut Items, right: &Value) -> Result<(), ValueError>
+fn add_to_list(items: &mut Items, right: &Value) -> Result<(), ValueError>
     ensures ok { OnOk result
         (sum_of (vlist (vals_of items.old)) (val_of right.now) ≡ Ok (vlist (vals_of items.new))) }
     ensures refused { IfErr result
@@ -56,7 +56,7 @@ fn add_to_list(alloc: Global, items: &mut Items, right: &Value) -> Result<(), Va
     ensures err { OnErr result (items.new ≡ items.old) }
 {
     match right {
-        Value::List(more) => items.append(alloc, more),
+        Value::List(more) => items.append(more),
         _ => Err(ValueError::BadTypes),
     }
 }
@@ -77,7 +77,7 @@ fn number_and(alloc: Global, number: i64, right: &Value) -> Result<Value, ValueE
 
 impl Value {
     /// Adds a value to this one in place, as `+` does: the parts that it has already aren't walked
-    /// over or copied. After a refusal it is as before.
+    /// over or copied where nobody else has them. After a refusal it is as before.
     #[tactic(auto, unfolding(crate::specs::Operators::sum_of))]
     pub fn add_assign(&mut self, alloc: Global, right: &Value) -> Result<(), ValueError>
         ensures ok { OnOk result
@@ -89,7 +89,7 @@ impl Value {
     {
         match self {
             Value::Str(text) => add_to_text(alloc, text, right),
-            Value::List(items) => add_to_list(alloc, items, right),
+            Value::List(items) => add_to_list(items, right),
             Value::Int(number) => {
                 *self = number_and(alloc, *number, right)?;
                 Ok(())

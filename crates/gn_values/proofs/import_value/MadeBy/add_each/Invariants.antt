@@ -1,7 +1,7 @@
 use Rattle.std.proofs.Common.{◌≡◌}
 use Rattle.gn_values.specs.Tables.{with_new_names}
 use Rattle.gn_values.specs.TakenOut.{without_names}
-use Rattle.gn_values.proofs.Tables.{seen}
+use Rattle.gn_basics.proofs.Tables.{seen}
 use Rattle.gn_values.proofs.import_value.MadeBy.add_each.Given as goal
 
 -- the rest added leads to all of them added, and what was added so far taken out leads back

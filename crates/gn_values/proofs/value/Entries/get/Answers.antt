@@ -1,15 +1,19 @@
-use Rattle.std.proofs.Common.{sym, ap, ◌∙◌}
+use Rattle.std.proofs.Common.{ℕ, List, Some, refl, sym, ap, ◌∙◌, subst}
 use Rattle.std.specs.Option.{ok_or}
+use Rattle.gn_values.specs.Val.{Val, IsSortedByName}
 use Rattle.gn_values.specs.Operators.{value_at}
+use Rattle.gn_values.specs.View.{val_of}
 use Rattle.gn_values.specs.declared.error.ValueError.TheVariants.{Undefined}
-use Rattle.gn_values.proofs.Mapped.{entries_of-binds}
+use Rattle.gn_value_model.proofs.Items.{entries_of-binds}
 use Rattle.gn_values.proofs.Meanings.{element_of-scope}
 use Rattle.gn_values.proofs.Sorted.{value_at_place, no_value_at_place}
 use Rattle.gn_values.proofs.value.Entries.get.Goals as goal
 
 pub returns-in-Ok-clause-value : goal.returns-in-Ok-clause-value
 returns-in-Ok-clause-value c =
-    value_at_place _ _ _ _ _ _ c.self.view_is c.as_slice.ensures.value c.self.invariant.limits.sorted c.in-Ok.ensures c.index.ensures
+    let same = c.as_slice-entries.ensures.value in
+    let sorted = subst (λ (bs : List (List ℕ × Val)). IsSortedByName bs) (sym same) c.as_slice-entries.ensures.limits.sorted in
+    ap (λ e. Some (val_of e.value)) (sym c.index-entries-at.is) ∙ value_at_place _ _ _ _ _ _ same refl sorted c.in-Ok.ensures c.index-entries-at.is
 
 pub returns-in-Ok-clause-entry : goal.returns-in-Ok-clause-entry
 returns-in-Ok-clause-entry c =
@@ -21,7 +25,9 @@ returns-in-Ok-clause-element c =
 
 pub returns-in-Err-clause-value : goal.returns-in-Err-clause-value
 returns-in-Err-clause-value c =
-    no_value_at_place _ _ _ _ _ c.self.view_is c.as_slice.ensures.value c.self.invariant.limits.sorted c.in-Err.ensures
+    let same = c.as_slice-entries.ensures.value in
+    let sorted = subst (λ (bs : List (List ℕ × Val)). IsSortedByName bs) (sym same) c.as_slice-entries.ensures.limits.sorted in
+    no_value_at_place _ _ _ _ _ same refl sorted c.in-Err.ensures
 
 pub returns-in-Err-clause-entry : goal.returns-in-Err-clause-entry
 returns-in-Err-clause-entry c =

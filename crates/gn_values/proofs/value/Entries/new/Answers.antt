@@ -4,4 +4,4 @@ use Rattle.gn_values.proofs.value.Entries.new.Goals as goal
 
 pub invariant_of-result : goal.invariant_of-result
 unfolding IsStrictlySortedBy
-invariant_of-result c = rw c.new.ensures.items (record { counted = refl; limits = record { shallow = omega arith; sorted = tt } })
+invariant_of-result c = rw c.new.ensures (record { counted = refl; limits = record { shallow = omega arith; sorted = tt } })

@@ -8,7 +8,7 @@ use Rattle.gn_values.proofs.value.Items.no_members.Goals as goal
 pub push_copy-requires : goal.push_copy-requires
 push_copy-requires c =
     let new : is_among (val_of c.item-item.result) (map val_of c.args.others.now) ≡ false = sym c.if-is_member.ensures in
-    let limits : IsList (map val_of c.as_slice-item-items.result.now) = rw c.as_slice-item-items.ensures.value c.self.invariant.limits in
+    let limits : IsList (map val_of c.as_slice-item-items.result.now) = rw c.as_slice-item-items.ensures c.self.invariant.limits in
     let fits = kept_fits _ _ _ _ _ c.loop-item-test.true c.item-item.is c.loop-item.invariant new limits in
     search rules
 

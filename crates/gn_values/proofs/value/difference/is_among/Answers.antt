@@ -2,7 +2,7 @@ use Rattle.std.proofs.Common.{true, false, sym}
 use Rattle.gn_values.specs.Equal.{equals}
 use Rattle.gn_values.specs.View.{val_of}
 use Rattle.gn_values.proofs.Among.{any_at, any_more}
-use Rattle.gn_values.proofs.Equality.{test_from_answer}
+use Rattle.gn_value_model.proofs.Equality.{test_from_answer}
 use Rattle.gn_values.proofs.value.difference.is_among.Goals as goal
 
 pub returns-then-same : goal.returns-then-same

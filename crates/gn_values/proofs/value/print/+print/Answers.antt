@@ -1,5 +1,6 @@
 use Rattle.std.proofs.Common.{◌++◌, ap, ◌∙◌, arith}
 use Rattle.gn_values.proofs.Printed.{no_items_text, no_entries_text, items_step, entries_step}
+use Rattle.gn_values.proofs.Falling.{item_falls, entry_falls}
 use Rattle.gn_values.proofs.value.print.+print.Goals as goal
 
 pub append_entries-loop-entry-init : goal.append_entries-loop-entry-init
@@ -14,4 +15,12 @@ append_items-loop-index-init t c = no_items_text _
 
 pub append_items-loop-index-preserved : goal.append_items-loop-index-preserved
 append_items-loop-index-preserved t c =
-    items_step _ _ c.index.result.now _ _ _ _ (omega arith) c.index.ensures c.loop-index.invariant c.in_ok-append_comma.ensures c.in_ok-append_value.ensures
+    items_step _ _ c.index-values-index.result _ _ _ _ (omega arith) c.index-values-index.is c.loop-index.invariant c.in_ok-append_comma.ensures c.in_ok-append_value.ensures
+
+pub append_items-append_value-requires : goal.append_items-append_value-requires
+append_items-append_value-requires t c =
+    (omega (arith, c.decreases, item_falls _ _ _ _ c.as_slice-values.ensures.value c.loop-index-test.true c.index-values-index.is), tt)
+
+pub append_entries-append_value-requires : goal.append_entries-append_value-requires
+append_entries-append_value-requires t c =
+    (omega (arith, c.decreases, entry_falls _ _ _ _ c.as_slice-entry-items.ensures.value c.loop-entry-test.true c.entry-item.is), tt)

@@ -1,6 +1,0 @@
-use Rattle.std.proofs.Common.{◌≡◌, take, map}
-use Rattle.gn_values.specs.View.{entry_of}
-use Rattle.gn_values.proofs.bindings.Bindings.copy.Given as goal
-
-abbrev pub invariant-loop-entry : goal.invariant-loop-entry
-invariant-loop-entry l = map entry_of l.entries.items ≡ take l.entry-index (map entry_of l.entry-items)
