@@ -1,27 +1,20 @@
 -- Searches outwards: through the layers, then through what stands behind them.
-use Rattle.std.proofs.Common.{◌≡◌, ℕ, List, [], ◌∷◌, ◌++◌, map, Option, Some, None, Ok, Err, Bool, true, false, cond, is_some, refl, sym, ap, ◌∙◌}
+use Rattle.std.proofs.Common.{◌≡◌, ℕ, List, [], ◌∷◌, ◌++◌, map, Option, Ok, Err, Bool, true, false, cond, is_some, refl, sym, ap, ◌∙◌}
 use Rattle.gn_values.specs.Val.{Val}
 use Rattle.gn_values.specs.Tables.{Table, at_name}
 use Rattle.gn_values.specs.Imported.{ScopeState, DefinitionState}
 use Rattle.gn_values.specs.declared.kept.DefinitionName.{DefinitionName}
 use Rattle.gn_environment.specs.Layers.{LayerState}
 use Rattle.gn_environment.specs.Chains.{nearest}
+use Rattle.gn_environment.proofs.KeptScopes.{nearest_assoc, among_further}
 use Rattle.gn_environment.specs.Environment.{Environment, behind, variable_here, given}
 use Rattle.gn_environment.specs.Templates.{if_named, template_among, template_of, defaults_among, defaults_of, table_given}
-
-nearest-nearest : {A : Type 0} (a b c : Option A) → nearest (nearest a b) c ≡ nearest a (nearest b c)
-nearest-nearest None b c = refl
-nearest-nearest (Some x) b c = refl
-
-nearest-nothing : {A : Type 0} (a : Option A) → nearest a None ≡ a
-nearest-nothing None = refl
-nearest-nothing (Some x) = refl
 
 module _ (name : List ℕ) (env : Environment) where
   among-append : (ts us : List (Table DefinitionName)) → template_among name env (ts ++ us) ≡ nearest (template_among name env ts) (template_among name env us)
   among-append [] us = refl
   among-append (t ∷ ts) us =
-      ap (nearest (if_named env (at_name name t))) (among-append ts us) ∙ sym (nearest-nearest (if_named env (at_name name t)) (template_among name env ts) (template_among name env us))
+      ap (nearest (if_named env (at_name name t))) (among-append ts us) ∙ sym (nearest_assoc (if_named env (at_name name t)) (template_among name env ts) (template_among name env us))
 
   abbrev pub in_layers : List LayerState → Option DefinitionState
   in_layers ls = template_among name env (map (λ (l : LayerState). l.templates) ls)
@@ -40,15 +33,10 @@ module _ (name : List ℕ) (env : Environment) where
 
 -- the same of defaults
 module _ (kind : List ℕ) where
-  among_defaults-append : (ts us : List (Table (Table Val))) → defaults_among kind (ts ++ us) ≡ nearest (defaults_among kind ts) (defaults_among kind us)
-  among_defaults-append [] us = refl
-  among_defaults-append (t ∷ ts) us =
-      ap (nearest (at_name kind t)) (among_defaults-append ts us) ∙ sym (nearest-nearest (at_name kind t) (defaults_among kind ts) (defaults_among kind us))
-
   defaults_found : (env : Environment) → defaults_of kind env ≡ nearest (at_name kind env.chain.inner.defaults) (nearest (defaults_among kind (map (λ (l : LayerState). l.defaults) env.chain.outer)) (defaults_among kind (map (λ (s : ScopeState). s.defaults) (behind env))))
   unfolding defaults_of
   defaults_found env =
-      ap (nearest (at_name kind env.chain.inner.defaults)) (among_defaults-append (map (λ (l : LayerState). l.defaults) env.chain.outer) (map (λ (s : ScopeState). s.defaults) (behind env)))
+      ap (nearest (at_name kind env.chain.inner.defaults)) (among_further kind (map (λ (l : LayerState). l.defaults) env.chain.outer) (map (λ (s : ScopeState). s.defaults) (behind env)))
 
   pub defaults_outwards : (env : Environment) (a b c : Option (Table Val)) → a ≡ at_name kind env.chain.inner.defaults → b ≡ defaults_among kind (map (λ (l : LayerState). l.defaults) env.chain.outer) → c ≡ defaults_among kind (map (λ (s : ScopeState). s.defaults) (behind env)) → nearest a (nearest b c) ≡ defaults_of kind env
   defaults_outwards env a b c p q r = (λ i. nearest (p i) (nearest (q i) (r i))) ∙ sym (defaults_found env)

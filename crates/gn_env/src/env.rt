@@ -5,6 +5,7 @@ ghost use Rattle.std.specs.Prelude.{◌≡◌, ◌≢◌, ◌++◌, OnOk, OnErr,
 ghost use Rattle.gn_values.specs.Limits.{scope_fits};
 ghost use Rattle.gn_values.specs.View.{val_of};
 ghost use Rattle.gn_environment.specs.Environment.{new_environment, fixed_value, kept_by, value_of, after_read, after_assignment, after_assignment_over, after_element_assignment, after_element_assignment_over, entered, left, entries_here, reported_here, variable_here, restored, given, with_open};
+ghost use Rattle.gn_environment.specs.Declaring.{declaring_entered, name_declared, declared_here};
 ghost use Rattle.gn_environment.specs.Faults.{fault_in};
 ghost use Rattle.gn_layers.specs.Errors.{refusal_of, element_refusal_of};
 ghost use Rattle.gn_environment.specs.Lending.{Ends};
@@ -13,7 +14,7 @@ ghost use Rattle.gn_env.specs.contracts.env.Env.{the_row};
 
 use crate::caller::Caller;
 use gn_environment::{Context, OpenBlock};
-use gn_faults::{Code, Fault};
+use gn_faults::{Code, Fault, FileKind};
 use gn_layers::{AssignError, ElementAssignError, Variable};
 use gn_paths::{Path, Place, Text, Texts};
 use gn_scopes::NamedScopes;
@@ -32,6 +33,7 @@ use std::sync::Arc;
 #[derive(Drop)]
 pub struct Env {
     pub(crate) context: Arc<Context>,
+    pub(crate) kind: FileKind,
     pub(crate) file: Text,
     pub(crate) directory: Path,
     pub(crate) inside: OpenBlock,
@@ -55,7 +57,7 @@ impl Model for Env {
     ghost coded = { environment_code };
 
     ghost view = { λ a. record {
-      setting = record { context = a.context.value; file = a.file; directory = a.directory; inside = a.inside };
+      setting = record { context = a.context.value; kind = a.kind; file = a.file; directory = a.directory; inside = a.inside };
       chain = a.scopes;
       body = option_map (λ d. d.value) a.body;
       callers = a.callers.items;
@@ -69,14 +71,15 @@ impl Model for Env {
 
 impl Env {
     /// An environment of one scope, in which nothing is set, no block is open that says what may be called in it, and no
-    /// template's body runs. `file` is the file that its places name, `directory` the current directory, `execution` the
-    /// name of this execution, by which the definitions that it makes are named, `checked` says whether the scope's end
-    /// reports a name that nothing reads, and `beneath` is what a read searches behind the scopes, with the `definitions`
-    /// of its templates. It takes no memory.
+    /// template's body runs. `kind` says as what the file is evaluated, `file` is the file that its places name, `directory`
+    /// the current directory, `execution` the name of this execution, by which the definitions that it makes are named,
+    /// `checked` says whether the scope's end reports a name that nothing reads, and `beneath` is what a read searches behind
+    /// the scopes, with the `definitions` of its templates. It takes no memory.
     #[tactic(auto, unfolding(gn_environment::specs::Environment::new_environment))]
     pub fn new(
         alloc: Global,
         context: Arc<Context>,
+        kind: FileKind,
         file: Text,
         directory: Path,
         execution: Text,
@@ -86,11 +89,12 @@ impl Env {
     ) -> Env
         ensures { result
             ≡ new_environment
-            (record { context = context.value; file = file; directory = directory; inside = OpenBlock.Nothing })
+            (record { context = context.value; kind = kind; file = file; directory = directory; inside = OpenBlock.Nothing })
             execution checked (map (λ f. f.value) beneath.items) definitions }
     {
         Env {
             context,
+            kind,
             file,
             directory,
             inside: OpenBlock::Nothing,
@@ -105,11 +109,18 @@ impl Env {
         }
     }
 
-    /// What never changes in the evaluation.
+    /// What never changes in the evaluation, whatever its file is.
     pub fn context(&self) -> &Context
         ensures { result.now ≡ self.now.setting.context }
     {
         &self.context
+    }
+
+    /// As what the file is evaluated.
+    pub fn kind(&self) -> FileKind
+        ensures { result ≡ self.now.setting.kind }
+    {
+        self.kind
     }
 
     /// The file that places of the evaluation name.
@@ -172,8 +183,8 @@ impl Env {
     pub fn value(&self, name: &[u8]) -> Option<&Value>
         ensures { option_map (λ v. val_of v.now) result ≡ value_of name.now self.now }
     {
-        match self.scopes.value(name) {
-            Some(value) => Some(value),
+        match self.scopes.variable(name) {
+            Some(variable) => variable.shown(),
             None => behind_value(&self.body, &self.beneath, name),
         }
     }
@@ -289,6 +300,34 @@ impl Env {
         self.scopes.enter(checked)
     }
 
+    /// Opens the scope of a block that declares arguments, in which nothing is set: an assignment in it declares its name,
+    /// which no read finds from then on. After want of memory nothing is changed.
+    #[tactic(auto, unfolding(gn_environment::specs::Declaring::declaring_entered))]
+    pub fn enter_declaring(&mut self) -> Result<(), AllocError>
+        ensures ok { OnOk result (self.new ≡ declaring_entered self.old) }
+        ensures err { OnErr result (self.new ≡ self.old) }
+    {
+        self.scopes.enter_declaring()
+    }
+
+    /// Declares a name of the innermost scope, if it has the name and declares names, at the position of the call that gave
+    /// it, unless it was declared before. It takes no memory.
+    #[tactic(auto, unfolding(gn_environment::specs::Declaring::name_declared))]
+    pub fn declare(&mut self, name: &Text, position: Position)
+        ensures { self.new ≡ name_declared name.now position self.old }
+    {
+        self.scopes.declare(name, position);
+    }
+
+    /// Where a name of the innermost scope was declared. None comes exactly where it isn't declared there. It takes no
+    /// memory.
+    #[tactic(auto, unfolding(gn_environment::specs::Declaring::declared_here, gn_environment::specs::Environment::variable_here))]
+    pub fn declared_here(&self, name: &Text) -> Option<Position>
+        ensures { result ≡ declared_here name.now self.now }
+    {
+        self.scopes.declared_here(name)
+    }
+
     /// Ends the innermost scope, and lets go of what it has. It takes no memory.
     #[tactic(auto, unfolding(gn_environment::specs::Environment::left))]
     pub fn leave(&mut self)
@@ -360,11 +399,7 @@ impl Env {
         ensures ok { OnOk result (self.new ≡ given name.now (val_of value) self.old) }
         ensures err { OnErr result (self.new ≡ self.old) }
     {
-        let variable = Variable {
-            value,
-            unread: None,
-        };
-        self.restore(alloc, name, Some(variable))
+        self.restore(alloc, name, Some(Variable::given(value)))
     }
 
     /// The fault with this code and these details at a position of the file that is evaluated.

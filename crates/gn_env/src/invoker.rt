@@ -7,7 +7,7 @@ ghost use Rattle.gn_values.specs.View.{val_of};
 ghost use Rattle.gn_environment.specs.Environment.{fixed_value, kept_by};
 ghost use Rattle.gn_environment.specs.Layers.{values_in};
 ghost use Rattle.gn_environment.specs.Assigning.{replaces};
-ghost use Rattle.gn_environment.specs.Chains.{nearest, read_in, all_read, all_read_but, names_read, chain_value, chain_read};
+ghost use Rattle.gn_environment.specs.Chains.{nearest, read_in, all_read, all_read_but, names_read, shown_or, chain_variable, chain_read};
 ghost use Rattle.gn_environment.specs.Templates.{with_caller, in_block};
 ghost use Rattle.gn_environment.specs.Invoker.{names_invoker, is_outermost, is_invoker_here, entries_by, invoker_entries, invoker_entry, value_by, value_if_invoker, after_invoker_entry_read, after_invoker_read, after_invoker_read_but, after_invoker_names_read};
 
@@ -30,7 +30,7 @@ impl Env {
     {
         name.as_bytes() == b"invoker".as_slice()
             && !self.callers.is_empty()
-            && self.scopes.value(name.as_bytes()).is_none()
+            && self.scopes.variable(name.as_bytes()).is_none()
     }
 
     /// Whether a name is the invoker and stands in the innermost scope: that is the scope of the body itself, in which the
@@ -131,12 +131,12 @@ impl Caller {
     /// outwards, then as that invoker, then in what the body keeps. It takes no memory.
     pub(crate) fn value<'a>(&'a self, name: &Text, outer: Option<&'a Value>) -> Option<&'a Value>
         ensures { option_map (λ v. val_of v.now) result
-            ≡ nearest (chain_value name.now self.now.chain)
+            ≡ shown_or (chain_variable name.now self.now.chain)
             (nearest (value_if_invoker name.now (option_map (λ v. val_of v.now) outer.entry))
             (fixed_value name.now (kept_by self.now.body))) }
     {
-        match self.scopes.value(name.as_bytes()) {
-            Some(value) => Some(value),
+        match self.scopes.variable(name.as_bytes()) {
+            Some(variable) => variable.shown(),
             None => value_around(&self.body, name, outer),
         }
     }

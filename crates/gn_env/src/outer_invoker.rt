@@ -74,7 +74,7 @@ fn has_outer_invoker(callers: &VecDeque<Caller>, name: &Text) -> bool
     ensures { result ≡ has_outer_invoker name.now callers.now.items }
 {
     match callers.front() {
-        Some(caller) => callers.len() > 1 && caller.scopes.value(name.as_bytes()).is_none(),
+        Some(caller) => callers.len() > 1 && caller.scopes.variable(name.as_bytes()).is_none(),
         None => false,
     }
 }

@@ -285,12 +285,13 @@ impl Env {
         self.template_behind(name)
     }
 
-    // A copy of all that is in scope, of each name what stands innermost.
+    // A copy of all that is in scope, of each name what stands innermost, if that isn't declared.
     fn scope_here(&self, alloc: Global) -> Result<KeptScope, AllocError>
         ensures { IfOk result (λ scope. scope ≡ scope_here self.now) }
     {
         let mut laid = kept_by_body(alloc, &self.body)?;
         self.scopes.lay_over(alloc, &mut laid)?;
+        laid.take_hidden(&self.scopes);
         laid.into_kept(alloc)
     }
 
@@ -413,11 +414,7 @@ impl Env {
         if self.scopes.has_here(&name) {
             return Err(GiveError::AlreadySet(name));
         }
-        let variable = Variable {
-            value,
-            unread: None,
-        };
-        self.scopes.put(&name, variable)?;
+        self.scopes.put(&name, Variable::given(value))?;
         Ok(())
     }
 }

@@ -1,5 +1,5 @@
 -- What a definition keeps at a name is what a read finds there.
-use Rattle.std.proofs.Common.{◌≡◌, ℕ, false, cond, List, [], ◌∷◌, ◌++◌, map, Option, Some, None, option_map, Ordering, refl, sym, ap, ◌∙◌, subst}
+use Rattle.std.proofs.Common.{◌≡◌, ℕ, true, false, not, cond, List, [], ◌∷◌, ◌++◌, map, Option, Some, None, option_map, Ordering, refl, sym, ap, ◌∙◌, subst}
 use Rattle.std.specs.Ordering.{is_eq, match_ordering}
 use Rattle.std.specs.declared.cmp.Ordering.TheVariants.{Less, Equal, Greater}
 use Rattle.std.specs.List.{AllByRecursion}
@@ -7,17 +7,21 @@ use Rattle.std.specs.List.Sorted.{IsStrictlySortedBy}
 use Rattle.std.specs.Map.{keys_of}
 use Rattle.std.proofs.lemmas.Map.Made.{lookup-map_values, keys_of-map_values}
 use Rattle.std.specs.BTreeMap.{is_at}
+use Rattle.std.specs.Cmp.Lexicographic.{texts_ties}
+use Rattle.std.proofs.lemmas.Map.Entries.{lookup-filter-keys}
+use Rattle.std.proofs.lemmas.Slice.Eq.{bytes_eq-Decides}
 use Rattle.gn_values.specs.Val.{Val}
 use Rattle.gn_values.specs.Tables.{Table, at_name, with_name, with_names}
 use Rattle.gn_values.specs.Imported.{ScopeState, DefinitionState}
 use Rattle.gn_environment.specs.Layers.{VariableState, LayerState, values_in}
-use Rattle.gn_environment.specs.Chains.{nearest, variable_in, variable_of, chain_value}
+use Rattle.gn_environment.specs.Chains.{nearest, variable_in, variable_of, is_declared, chain_variable}
 use Rattle.gn_environment.specs.Environment.{Environment, fixed_value, kept_by, behind, value_of}
-use Rattle.gn_environment.specs.Templates.{layers_of, laid_over, kept_variables, kept_defaults, scope_here, defaults_among, defaults_of}
+use Rattle.gn_environment.specs.Templates.{layers_of, laid_over, undeclared, kept_variables, kept_defaults, scope_here, defaults_among, defaults_of}
 use Rattle.gn_environment.specs.Shown.{IsInOrder}
 use Rattle.gn_environment.specs.Within.{AreInOrder}
 use Rattle.gn_environment.proofs.Names.{order, tied, by_answer}
 use Rattle.gn_environment.proofs.Outwards.{at_name-with_name}
+use Rattle.gn_environment.proofs.DeclaredNames.{open_or}
 
 module _ {A : Type 0} where
   pub nearest_none : (o : Option A) → nearest o None ≡ o
@@ -111,18 +115,41 @@ module _ (name : List ℕ) where
   fixed_further (f ∷ fs) gs =
       ap (nearest (at_name name f.variables)) (fixed_further fs gs) ∙ sym (nearest_assoc (at_name name f.variables) (fixed_value name fs) (fixed_value name gs))
 
-  pub variable_kept : (env : Environment) → AreInOrder (layers_of env) → at_name name (scope_here env).variables ≡ nearest (chain_value name env.chain) (fixed_value name (kept_by env.body))
-  unfolding scope_here chain_value
-  variable_kept env s =
+  -- a table but for what is declared
+  same_test : (layers : List LayerState) (key : List ℕ) → is_at (order name) key ≡ true → not (is_declared key layers) ≡ not (is_declared name layers)
+  same_test layers key h = ap (λ k. not (is_declared k layers)) (sym ((bytes_eq-Decides name key).0 (texts_ties name key ∙ h)))
+
+  at_undeclared : {A : Type 0} (layers : List LayerState) (table : Table A) → at_name name (undeclared layers table) ≡ cond (not (is_declared name layers)) (at_name name table) None
+  at_undeclared layers table =
+      lookup-filter-keys (is_at (order name)) (λ key. not (is_declared key layers)) (not (is_declared name layers)) (same_test layers) table
+
+  laid_there : (env : Environment) → AreInOrder (layers_of env) → at_name name (laid_over (map values_in (layers_of env)) (kept_variables (kept_by env.body))) ≡ nearest (value_at_variable (variable_of name (layers_of env))) (fixed_value name (kept_by env.body))
+  laid_there env s =
       values_laid (layers_of env) (kept_variables (kept_by env.body)) s
       ∙ ap (nearest (value_at_variable (variable_of name (layers_of env)))) (kept_value env.body)
 
-  pub read_is_kept : (env : Environment) → AreInOrder (layers_of env) → value_of name env ≡ nearest (at_name name (scope_here env).variables) (fixed_value name env.beneath)
-  unfolding value_of
-  read_is_kept env s =
-      ap (nearest (chain_value name env.chain)) (fixed_further (kept_by env.body) env.beneath)
-      ∙ sym (nearest_assoc (chain_value name env.chain) (fixed_value name (kept_by env.body)) (fixed_value name env.beneath))
-      ∙ ap (λ o. nearest o (fixed_value name env.beneath)) (sym (variable_kept env s))
+  variable_kept : (env : Environment) → AreInOrder (layers_of env) → is_declared name (layers_of env) ≡ false → at_name name (scope_here env).variables ≡ nearest (value_at_variable (variable_of name (layers_of env))) (fixed_value name (kept_by env.body))
+  unfolding scope_here
+  variable_kept env s found =
+      at_undeclared (layers_of env) (laid_over (map values_in (layers_of env)) (kept_variables (kept_by env.body)))
+      ∙ ap (λ b. cond (not b) (at_name name (laid_over (map values_in (layers_of env)) (kept_variables (kept_by env.body)))) None) found
+      ∙ laid_there env s
+
+  pub read_is_kept : (env : Environment) → AreInOrder (layers_of env) → is_declared name (layers_of env) ≡ false → value_of name env ≡ nearest (at_name name (scope_here env).variables) (fixed_value name env.beneath)
+  unfolding value_of chain_variable
+  read_is_kept env s found =
+      let here : Option Val = value_at_variable (variable_of name (layers_of env)) in
+      open_or (variable_of name (layers_of env)) (fixed_value name (behind env)) found
+      ∙ ap (nearest here) (fixed_further (kept_by env.body) env.beneath)
+      ∙ sym (nearest_assoc here (fixed_value name (kept_by env.body)) (fixed_value name env.beneath))
+      ∙ ap (λ o. nearest o (fixed_value name env.beneath)) (sym (variable_kept env s found))
+
+  -- and what they declare isn't kept
+  pub declared_is_not_kept : (env : Environment) → is_declared name (layers_of env) ≡ true → at_name name (scope_here env).variables ≡ None
+  unfolding scope_here
+  declared_is_not_kept env h =
+      at_undeclared (layers_of env) (laid_over (map values_in (layers_of env)) (kept_variables (kept_by env.body)))
+      ∙ ap (λ b. cond (not b) (at_name name (laid_over (map values_in (layers_of env)) (kept_variables (kept_by env.body)))) None) h
 
 -- The same of defaults
 module _ (kind : List ℕ) where
@@ -143,7 +170,7 @@ module _ (kind : List ℕ) where
   kept_default None = refl
   kept_default (Some d) = sym (nearest_none (at_name kind d.scope.defaults))
 
-  among_further : (ts us : List (Table (Table Val))) → defaults_among kind (ts ++ us) ≡ nearest (defaults_among kind ts) (defaults_among kind us)
+  pub among_further : (ts us : List (Table (Table Val))) → defaults_among kind (ts ++ us) ≡ nearest (defaults_among kind ts) (defaults_among kind us)
   among_further [] us = refl
   among_further (t ∷ ts) us =
       ap (nearest (at_name kind t)) (among_further ts us) ∙ sym (nearest_assoc (at_name kind t) (defaults_among kind ts) (defaults_among kind us))

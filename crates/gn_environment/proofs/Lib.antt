@@ -6,6 +6,8 @@ pub mod Found
 pub mod Least
 pub mod ShownNames
 pub mod WithinBodies
+pub mod DeclaredNames
+pub mod OtherScopes
 pub mod KeptScopes
 pub mod Surroundings
 pub mod SurroundingsOfCalls

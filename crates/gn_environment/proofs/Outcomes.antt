@@ -1,5 +1,6 @@
 -- What follows from what holds of a call's answer.
 use Rattle.std.proofs.Common.{Result, Ok, Err, OnOk, OnErr, IfErr}
+pub use Rattle.gn_basics.proofs.Results.{on_err_too}
 
 module _ {T E : Type 0} where
   pub on_ok : (r : Result T E) (P Q : Type 0) → (P → Q) → OnOk r P → OnOk r Q
@@ -29,7 +30,3 @@ module _ {T E : Type 0} where
   pub always : (r : Result T E) (P : Type 0) → OnOk r P → OnErr r P → P
   always (Ok x) P p q = p
   always (Err e) P p q = q
-
-  pub on_err_too : (r : Result T E) (P : Type 0) → P → OnErr r P
-  on_err_too (Ok x) P p = tt
-  on_err_too (Err e) P p = p

@@ -1,20 +1,16 @@
 -- The first layer that has a name: where it is found, what a read does to it, and that the read changes no value.
-use Rattle.std.proofs.Common.{◌≡◌, ℕ, zero, suc, ◌+◌, ◌<◌, true, false, cond, List, [], ◌∷◌, length, take, get_or, Option, Some, None, option_map, is_some, Ordering, refl, sym, ap, ◌∙◌, subst, arith}
+use Rattle.std.proofs.Common.{◌≡◌, ℕ, zero, suc, ◌+◌, ◌<◌, true, false, cond, List, [], ◌∷◌, length, take, get_or, Option, Some, None, is_some, Ordering, refl, sym, ap, ◌∙◌, subst, arith}
 use Rattle.std.specs.Prelude.{slice_set}
-use Rattle.std.specs.Ordering.{is_eq, match_ordering, ordering_reverse}
+use Rattle.std.specs.Ordering.{is_eq, match_ordering}
 use Rattle.std.specs.declared.cmp.Ordering.TheVariants.{Less, Equal, Greater}
 use Rattle.std.specs.Cmp.Lexicographic.{nat_list_cmp_total}
+use Rattle.std.specs.Cmp.{tied_itself}
 use Rattle.gn_values.specs.Val.{Val}
 use Rattle.gn_environment.proofs.Names.{order, by_answer}
 use Rattle.gn_values.specs.Tables.{Table, at_name, with_name}
 use Rattle.gn_environment.specs.Layers.{VariableState, LayerState, ChainState}
 use Rattle.gn_environment.specs.Environment.{Environment, fixed_value, behind, value_of, after_read}
-use Rattle.gn_environment.specs.Chains.{variable_in, nearest, variable_of, read_variable, read_of, read_in, read_through, marked, IsFirstAt, chain_value, chain_read, chain_read_of}
-
-tied : (r : Ordering) → r ≡ ordering_reverse r → r ≡ Equal
-tied Less h = cc
-tied Equal h = refl
-tied Greater h = cc
+use Rattle.gn_environment.specs.Chains.{variable_in, nearest, variable_of, read_variable, read_of, read_in, read_through, marked, IsFirstAt, shown_or, chain_variable, chain_value, chain_read, chain_read_of}
 
 nothing_there : {A : Type 0} (o : Option A) → is_some o ≡ false → o ≡ None
 nothing_there None h = refl
@@ -79,7 +75,7 @@ module _ (name : List ℕ) where
   set_step a e es r h = ap (λ o. match_ordering o ((name, a) ∷ e ∷ es) ((e.0, a) ∷ es) (e ∷ with_name name a es)) h
 
   own_name : {A : Type 0} (a : A) (es : Table A) → at_name name ((name, a) ∷ es) ≡ Some a
-  own_name a es = found_step (name, a) es Equal (tied (order name name) (nat_list_cmp_total.antisymm name name))
+  own_name a es = found_step (name, a) es Equal (tied_itself nat_list_cmp_total name)
 
   pub at_name-with_name : {A : Type 0} (a : A) (es : Table A) → at_name name (with_name name a es) ≡ Some a
   at_name-with_name a [] = own_name a []
@@ -106,34 +102,34 @@ module _ (name : List ℕ) where
   stays_first (l ∷ ls) (suc i) f =
       subst (λ (o : Option VariableState). IsFirstAt name (read_through name l ls o (marked name ls)) (suc i)) (sym f.0) (f.0, stays_first ls i f.1)
 
-  -- the value at the place where a name is found
-  pub found_outer : (chain : ChainState) (i : ℕ) (x : LayerState) → (variable_in name chain.inner ≡ None) × IsFirstAt name chain.outer i → x ≡ get_or chain.outer i x → option_map (λ v. v.value) (variable_in name x) ≡ chain_value name chain
-  unfolding chain_value
+  -- what a read finds at the place where a name is found
+  pub found_outer : (chain : ChainState) (i : ℕ) (x : LayerState) → (variable_in name chain.inner ≡ None) × IsFirstAt name chain.outer i → x ≡ get_or chain.outer i x → shown_or (variable_in name x) None ≡ chain_value name chain
+  unfolding chain_variable
   found_outer chain i x f is =
-      ap (option_map (λ v. v.value)) (sym (value_at_first chain.outer i x f.1 is) ∙ ap (λ o. nearest o (variable_of name chain.outer)) (sym f.0))
+      ap (λ o. shown_or o None) (sym (value_at_first chain.outer i x f.1 is) ∙ ap (λ o. nearest o (variable_of name chain.outer)) (sym f.0))
 
-  -- a read changes no value
-  abbrev value_of_variable : Option VariableState → Option Val
-  value_of_variable o = option_map (λ v. v.value) o
+  -- a read changes nothing of what a read finds
+  module _ (beneath : Option Val) where
+    value_kept : (l : LayerState) (ls : List LayerState) (o : Option VariableState) → variable_in name l ≡ o → shown_or (variable_of name (marked name ls)) beneath ≡ shown_or (variable_of name ls) beneath → shown_or (variable_of name (read_through name l ls o (marked name ls))) beneath ≡ shown_or (nearest o (variable_of name ls)) beneath
+    value_kept l ls (Some v) h rest =
+        ap (λ o. shown_or (nearest o (variable_of name ls)) beneath) (at_name-with_name (read_variable v) l.variables)
+    value_kept l ls None h rest = ap (λ o. shown_or (nearest o (variable_of name (marked name ls))) beneath) h ∙ rest
 
-  value_kept : (l : LayerState) (ls : List LayerState) (o : Option VariableState) → variable_in name l ≡ o → value_of_variable (variable_of name (marked name ls)) ≡ value_of_variable (variable_of name ls) → value_of_variable (variable_of name (read_through name l ls o (marked name ls))) ≡ value_of_variable (nearest o (variable_of name ls))
-  value_kept l ls (Some v) h rest =
-      ap (λ o. value_of_variable (nearest o (variable_of name ls))) (at_name-with_name (read_variable v) l.variables)
-  value_kept l ls None h rest = ap (λ o. value_of_variable (nearest o (variable_of name (marked name ls)))) h ∙ rest
+    values_kept : (ls : List LayerState) → shown_or (variable_of name (marked name ls)) beneath ≡ shown_or (variable_of name ls) beneath
+    values_kept [] = refl
+    values_kept (l ∷ ls) = value_kept l ls (variable_in name l) refl (values_kept ls)
 
-  values_kept : (ls : List LayerState) → value_of_variable (variable_of name (marked name ls)) ≡ value_of_variable (variable_of name ls)
-  values_kept [] = refl
-  values_kept (l ∷ ls) = value_kept l ls (variable_in name l) refl (values_kept ls)
+    chain_kept : (chain : ChainState) (o : Option VariableState) → variable_in name chain.inner ≡ o → shown_or (variable_of name ((chain_read_of name chain o).inner ∷ (chain_read_of name chain o).outer)) beneath ≡ shown_or (nearest o (variable_of name chain.outer)) beneath
+    chain_kept chain (Some v) h = value_kept chain.inner chain.outer (Some v) h (values_kept chain.outer)
+    chain_kept chain None h = value_kept chain.inner chain.outer None h (values_kept chain.outer)
 
-  chain_kept : (chain : ChainState) (o : Option VariableState) → variable_in name chain.inner ≡ o → value_of_variable (variable_of name ((chain_read_of name chain o).inner ∷ (chain_read_of name chain o).outer)) ≡ value_of_variable (nearest o (variable_of name chain.outer))
-  chain_kept chain (Some v) h = value_kept chain.inner chain.outer (Some v) h (values_kept chain.outer)
-  chain_kept chain None h = value_kept chain.inner chain.outer None h (values_kept chain.outer)
+    pub shown-chain_read : (chain : ChainState) → shown_or (chain_variable name (chain_read name chain)) beneath ≡ shown_or (chain_variable name chain) beneath
+    unfolding chain_variable chain_read
+    shown-chain_read chain = chain_kept chain (variable_in name chain.inner) refl
 
   pub chain_value-chain_read : (chain : ChainState) → chain_value name (chain_read name chain) ≡ chain_value name chain
-  unfolding chain_value chain_read
-  chain_value-chain_read chain = chain_kept chain (variable_in name chain.inner) refl
+  chain_value-chain_read chain = shown-chain_read None chain
 
   pub value_of-after_read : (env : Environment) → value_of name (after_read name env) ≡ value_of name env
   unfolding value_of after_read
-  value_of-after_read env =
-      ap (λ v. nearest v (fixed_value name (behind env))) (chain_value-chain_read env.chain)
+  value_of-after_read env = shown-chain_read (fixed_value name (behind env)) env.chain

@@ -13,7 +13,8 @@ use Rattle.gn_environment.specs.Chains.{variable_in, read_of, read_in, read_thro
 use Rattle.gn_environment.specs.Assigning.{Refusal, has_no_value, operator_refuses, put, with_inner, overwritten, overwritten_over, replaces, put_result, changed_at, copied_inwards, assigned, base_has_no_value, element_refuses, element_changed}
 use Rattle.gn_environment.specs.Environment.{Caller, Environment, fixed_value, behind, after_read, with_chain, after_assignment, after_assignment_over, after_element_assignment, after_element_assignment_over, entered, left, restored, given, variable_here}
 use Rattle.gn_environment.specs.Templates.{with_caller, in_block, template_defined, defaults_set, defaults_of, table_given, table_given_if, defaults_given, at_depth, block_begins, body_begins, back_in, body_ends}
-use Rattle.gn_environment.specs.Surroundings.{outline, around_inner, caller_outline, surroundings}
+use Rattle.gn_environment.specs.Declaring.{declaring_entered}
+use Rattle.gn_environment.specs.Surroundings.{outline, emptied, around_inner, caller_outline, surroundings}
 
 -- the layers of a caller but for their variables
 abbrev pub chain_outline : ChainState → ChainState
@@ -45,12 +46,12 @@ module _ (name : List ℕ) where
   unfolding chain_read
   chain_read_outline chain = read_of_outline chain (variable_in name chain.inner)
 
-  pub marked_around : (layer : LayerState) (chain : ChainState) → layer.checked ≡ chain.inner.checked → around_inner (record { inner = layer; outer = marked name chain.outer }) ≡ around_inner chain
-  marked_around layer chain h = λ i. record { inner = empty_layer (h i); outer = marked_outline chain.outer i }
+  pub marked_around : (layer : LayerState) (chain : ChainState) → emptied layer ≡ emptied chain.inner → around_inner (record { inner = layer; outer = marked name chain.outer }) ≡ around_inner chain
+  marked_around layer chain h = λ i. record { inner = h i; outer = marked_outline chain.outer i }
 
 -- layers of one outline have the same around the innermost one
 pub outline_around : (c d : ChainState) → chain_outline c ≡ chain_outline d → around_inner c ≡ around_inner d
-outline_around c d h = ap (λ (x : ChainState). record { inner = empty_layer x.inner.checked; outer = x.outer }) h
+outline_around c d h = ap (λ (x : ChainState). record { inner = emptied x.inner; outer = x.outer }) h
 
 -- an environment with these layers
 pub with_layers : (chain : ChainState) (env : Environment) → around_inner chain ≡ around_inner env.chain → surroundings (record env { chain = chain }) ≡ surroundings env
@@ -63,8 +64,9 @@ read_keeps name env = with_layers (chain_read name env.chain) env (outline_aroun
 
 -- Assignments
 
-abbrev HasChecked : Bool → {R : Type 0} → Result LayerState R → Type 0
-HasChecked checked r = IfOk r (λ l. l.checked ≡ checked)
+-- a layer of the kind of this one
+abbrev IsAsEmptied : LayerState → {R : Type 0} → Result LayerState R → Type 0
+IsAsEmptied layer r = IfOk r (λ l. emptied l ≡ emptied layer)
 
 abbrev IsAround : ChainState → {R : Type 0} → Result ChainState R → Type 0
 IsAround chain r = IfOk r (λ c. around_inner c ≡ around_inner chain)
@@ -72,21 +74,21 @@ IsAround chain r = IfOk r (λ c. around_inner c ≡ around_inner chain)
 abbrev pub IsKept : Environment → {R : Type 0} → Result Environment R → Type 0
 IsKept env r = IfOk r (λ after. surroundings after ≡ surroundings env)
 
-inner_around : {R : Type 0} (chain : ChainState) (r : Result LayerState R) → HasChecked chain.inner.checked r → IsAround chain (with_inner chain r)
-inner_around chain (Ok layer) h = ap (λ b. record { inner = empty_layer b; outer = map outline chain.outer }) h
+inner_around : {R : Type 0} (chain : ChainState) (r : Result LayerState R) → IsAsEmptied chain.inner r → IsAround chain (with_inner chain r)
+inner_around chain (Ok layer) h = ap (λ (l : LayerState). record { inner = l; outer = map outline chain.outer }) h
 inner_around chain (Err e) h = tt
 
-marked_inner : {R : Type 0} (name : List ℕ) (chain : ChainState) (r : Result LayerState R) → HasChecked chain.inner.checked r → IsAround chain (with_inner (record chain { outer = marked name chain.outer }) r)
+marked_inner : {R : Type 0} (name : List ℕ) (chain : ChainState) (r : Result LayerState R) → IsAsEmptied chain.inner r → IsAround chain (with_inner (record chain { outer = marked name chain.outer }) r)
 marked_inner name chain (Ok layer) h = marked_around name layer chain h
 marked_inner name chain (Err e) h = tt
 
-overwritten_checked : (name : List ℕ) (value : Val) (position : Position) (layer : LayerState) (o : Option VariableState) → HasChecked layer.checked (overwritten_over name value position layer o)
+overwritten_checked : (name : List ℕ) (value : Val) (position : Position) (layer : LayerState) (o : Option VariableState) → IsAsEmptied layer (overwritten_over name value position layer o)
 overwritten_checked name value position layer None = refl
 overwritten_checked name value position layer (Some old) =
-    elim (replaces old.value value) as (λ b. HasChecked layer.checked (if b then Err Refusal.replaces_nonempty else Ok (put name value position layer))) [ true ↦ tt | false ↦ refl ]
+    elim (replaces old.value value) as (λ b. IsAsEmptied layer (if b then Err Refusal.replaces_nonempty else Ok (put name value position layer))) [ true ↦ tt | false ↦ refl ]
 
 module _ {E R : Type 0} (absent : R) (refuses : E → R) (step : Val → Result Val E) (name : List ℕ) (position : Position) where
-  put_checked : (layer : LayerState) (r : Result Val E) → HasChecked layer.checked (put_result absent refuses step name position layer r)
+  put_checked : (layer : LayerState) (r : Result Val E) → IsAsEmptied layer (put_result absent refuses step name position layer r)
   put_checked layer (Ok value) = refl
   put_checked layer (Err e) = tt
 
@@ -145,7 +147,7 @@ back_out chain = out_of chain.outer
   where
     out_of : List LayerState → ChainState
     out_of [] = record { inner = empty_layer false; outer = [] }
-    out_of (l ∷ ls) = record { inner = empty_layer l.checked; outer = ls }
+    out_of (l ∷ ls) = record { inner = emptied l; outer = ls }
 
 left_around : (inner : LayerState) (outer : List LayerState) → around_inner (chain_left (record { inner = inner; outer = outer })) ≡ back_out (record { inner = inner; outer = map outline outer })
 left_around inner [] = refl
@@ -155,6 +157,13 @@ left_around inner (l ∷ ls) = refl
 pub left_keeps : (checked : Bool) (env env1 : Environment) → surroundings env1 ≡ surroundings (entered checked env) → surroundings (left env1) ≡ surroundings env
 unfolding surroundings entered left
 left_keeps checked env env1 h =
+    ap (λ (c : ChainState). record (surroundings env1) { chain = c }) (left_around env1.chain.inner env1.chain.outer)
+    ∙ ap (λ (s : Environment). record s { chain = back_out s.chain }) h
+
+-- the same of the scope of a block that declares arguments
+pub declaring_left_keeps : (env env1 : Environment) → surroundings env1 ≡ surroundings (declaring_entered env) → surroundings (left env1) ≡ surroundings env
+unfolding surroundings declaring_entered left
+declaring_left_keeps env env1 h =
     ap (λ (c : ChainState). record (surroundings env1) { chain = c }) (left_around env1.chain.inner env1.chain.outer)
     ∙ ap (λ (s : Environment). record s { chain = back_out s.chain }) h
 

@@ -27,9 +27,18 @@ abbrev pub unread_after : Option VariableState → Position → Option Position
 unread_after None position = Some position
 unread_after (Some v) position = option_map (λ before. position) v.unread
 
+-- the first assignment of a name in a layer that declares names declares it; each further one leaves it declared there
+abbrev pub declared_after : Bool → Option VariableState → Position → Option Position
+declared_after declares None position = if declares then Some position else None
+declared_after declares (Some v) position = v.declared
+
+-- a variable after an assignment of a value, where the layer had this at the name
+abbrev pub assigned_variable : Bool → Option VariableState → Val → Position → VariableState
+assigned_variable declares old value position = record { value = value; unread = unread_after old position; declared = declared_after declares old position }
+
 -- the layer after an assignment of a value
 abbrev pub put : List ℕ → Val → Position → LayerState → LayerState
-put name value position layer = set_in name (Some (record { value = value; unread = unread_after (variable_in name layer) position })) layer
+put name value position layer = set_in name (Some (assigned_variable layer.declares (variable_in name layer) value position)) layer
 
 -- the layers with the innermost one changed, unless that is refused
 abbrev pub with_inner : {R : Type 0} → ChainState → Result LayerState R → Result ChainState R

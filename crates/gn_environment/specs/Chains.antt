@@ -1,7 +1,8 @@
 -- Reading through layers, outwards.
-use Rattle.std.specs.Prelude.{◌≡◌, ℕ, zero, suc, IsSome, Bool, false, List, [], ◌∷◌, map, Option, Some, None, option_map, if◌then◌else◌}
+use Rattle.std.specs.Prelude.{◌≡◌, ℕ, zero, suc, IsSome, Bool, false, List, [], ◌∷◌, map, Option, Some, None, is_some, if◌then◌else◌}
 use Rattle.std.specs.List.{list_any}
 use Rattle.std.specs.Str.{bytes_eq}
+use Rattle.gn_tree.specs.declared.position.Position.{Position}
 use Rattle.gn_values.specs.Val.{Val}
 use Rattle.gn_values.specs.Tables.{at_name, with_name, without_name}
 use Rattle.gn_environment.specs.Layers.{VariableState, LayerState, ChainState, empty_layer}
@@ -25,9 +26,30 @@ abbrev pub variable_of : List ℕ → List LayerState → Option VariableState
 variable_of name [] = None
 variable_of name (l ∷ ls) = nearest (variable_in name l) (variable_of name ls)
 
--- what the first of the layers that has the name has at it, or else what stands beneath them
+-- what a variable shows to a read: its value, unless it is declared
+abbrev pub unless_declared : Option Position → Val → Option Val
+unless_declared None value = Some value
+unless_declared (Some position) value = None
+
+abbrev pub shown : VariableState → Option Val
+shown v = unless_declared v.declared v.value
+
+-- what a read finds of a name that is this where a layer first has it, or else what stands beneath
+abbrev pub shown_or : Option VariableState → Option Val → Option Val
+shown_or (Some v) beneath = shown v
+shown_or None beneath = beneath
+
+-- what a read finds in the first of the layers that has the name, or else what stands beneath them
 abbrev pub further_value : List ℕ → List LayerState → Option Val → Option Val
-further_value name layers beneath = nearest (option_map (λ v. v.value) (variable_of name layers)) beneath
+further_value name layers beneath = shown_or (variable_of name layers) beneath
+
+-- whether a name is declared in the first of the layers that has it
+abbrev pub is_declared_variable : Option VariableState → Bool
+is_declared_variable (Some v) = is_some v.declared
+is_declared_variable None = false
+
+abbrev pub is_declared : List ℕ → List LayerState → Bool
+is_declared name layers = is_declared_variable (variable_of name layers)
 
 -- a variable that something has read
 abbrev pub read_variable : VariableState → VariableState
@@ -59,8 +81,12 @@ IsFirstAt name (l ∷ ls) zero = IsSome (variable_in name l)
 IsFirstAt name (l ∷ ls) (suc i) = (variable_in name l ≡ None) × IsFirstAt name ls i
 
 -- what the layers have at a name
-unfoldable pub chain_value : List ℕ → ChainState → Option Val
-chain_value name chain = option_map (λ v. v.value) (variable_of name (chain.inner ∷ chain.outer))
+unfoldable pub chain_variable : List ℕ → ChainState → Option VariableState
+chain_variable name chain = variable_of name (chain.inner ∷ chain.outer)
+
+-- what a read finds in the layers at a name
+abbrev pub chain_value : List ℕ → ChainState → Option Val
+chain_value name chain = shown_or (chain_variable name chain) None
 
 -- the layers after a read of a name at which the innermost one has this
 abbrev pub chain_read_of : List ℕ → ChainState → Option VariableState → ChainState

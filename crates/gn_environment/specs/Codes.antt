@@ -30,11 +30,11 @@ position_code =
 
 abbrev pub variable_code : Coded VariableState
 variable_code =
-    code_by (Val × Option Position) (coded× val_code (coded_option position_code)) (λ v. (v.value, v.unread)) (λ p. record { value = p.0; unread = p.1 }) (λ _. refl)
+    code_by (Val × (Option Position × Option Position)) (coded× val_code (coded× (coded_option position_code) (coded_option position_code))) (λ v. (v.value, (v.unread, v.declared))) (λ p. record { value = p.0; unread = p.1.0; declared = p.1.1 }) (λ _. refl)
 
 abbrev pub layer_code : Coded LayerState
 layer_code =
-    code_by ((Table VariableState × Bool) × (Table DefinitionName × Table (Table Val))) (coded× (coded× (table_code variable_code) coded_bool) (coded× (table_code name_code) (table_code (table_code val_code)))) (λ l. ((l.variables, l.checked), (l.templates, l.defaults))) (λ p. record { variables = p.0.0; templates = p.1.0; defaults = p.1.1; checked = p.0.1 }) (λ _. refl)
+    code_by ((Table VariableState × (Bool × Bool)) × (Table DefinitionName × Table (Table Val))) (coded× (coded× (table_code variable_code) (coded× coded_bool coded_bool)) (coded× (table_code name_code) (table_code (table_code val_code)))) (λ l. ((l.variables, (l.checked, l.declares)), (l.templates, l.defaults))) (λ p. record { variables = p.0.0; templates = p.1.0; defaults = p.1.1; checked = p.0.1.0; declares = p.0.1.1 }) (λ _. refl)
 
 abbrev pub chain_code : Coded ChainState
 chain_code =
@@ -106,11 +106,11 @@ open_code = code_by ℕ coded_ℕ open_index open_at open_back
 
 abbrev pub context_code : Coded Context
 context_code =
-    code_by ((Stage × FileKind) × (List ℕ × (List ℕ × List ℕ))) (coded× (coded× stage_code kind_code) (coded× text_code (coded× text_code text_code))) (λ c. ((c.stage, c.kind), (c.toolchain, (c.fault_toolchain, c.default_toolchain)))) (λ p. record { stage = p.0.0; kind = p.0.1; toolchain = p.1.0; fault_toolchain = p.1.1.0; default_toolchain = p.1.1.1 }) (λ _. refl)
+    code_by (((Stage × List ℕ) × (List ℕ × List ℕ)) × ((List ℕ × List ℕ) × Table Val)) (coded× (coded× (coded× stage_code text_code) (coded× text_code text_code)) (coded× (coded× text_code text_code) (table_code val_code))) (λ c. (((c.stage, c.toolchain), (c.fault_toolchain, c.default_toolchain)), ((c.build_directory, c.source_root), c.overrides))) (λ p. record { stage = p.0.0.0; toolchain = p.0.0.1; fault_toolchain = p.0.1.0; default_toolchain = p.0.1.1; build_directory = p.1.0.0; source_root = p.1.0.1; overrides = p.1.1 }) (λ _. refl)
 
 abbrev pub setting_code : Coded Setting
 setting_code =
-    code_by ((Context × OpenBlock) × (List ℕ × List ℕ)) (coded× (coded× context_code open_code) (coded× text_code text_code)) (λ s. ((s.context, s.inside), (s.file, s.directory))) (λ p. record { context = p.0.0; file = p.1.0; directory = p.1.1; inside = p.0.1 }) (λ _. refl)
+    code_by (((Context × FileKind) × OpenBlock) × (List ℕ × List ℕ)) (coded× (coded× (coded× context_code kind_code) open_code) (coded× text_code text_code)) (λ s. (((s.context, s.kind), s.inside), (s.file, s.directory))) (λ p. record { context = p.0.0.0; kind = p.0.0.1; file = p.1.0; directory = p.1.1; inside = p.0.1 }) (λ _. refl)
 
 abbrev pub caller_code : Coded Caller
 caller_code =

@@ -3,19 +3,22 @@
 use Rattle.std.specs.Prelude.{ℕ, Bool, List, [], ◌∷◌, ◌++◌, Option, Some, None, Result, Ok, Err}
 use Rattle.gn_tree.specs.declared.position.Position.{Position}
 use Rattle.gn_tree.specs.declared.operator.AssignOp.{AssignOp}
+use Rattle.gn_faults.specs.declared.file_kind.FileKind.{FileKind}
 use Rattle.gn_values.specs.Val.{Val}
 use Rattle.gn_values.specs.Tables.{Table, at_name}
 use Rattle.gn_values.specs.Imported.{ScopeState, DefinitionState, MadeBy}
 use Rattle.gn_environment.specs.declared.context.Context.{Context}
 use Rattle.gn_environment.specs.declared.context.OpenBlock.{OpenBlock}
-use Rattle.gn_environment.specs.Layers.{VariableState, ChainState, empty_layer, values_in}
-use Rattle.gn_environment.specs.Chains.{variable_in, set_in, nearest, chain_value, chain_read, chain_entered, chain_left}
+use Rattle.gn_environment.specs.Layers.{VariableState, ChainState, empty_layer, given_variable, values_in}
+use Rattle.gn_environment.specs.Chains.{variable_in, set_in, nearest, shown_or, chain_variable, chain_read, chain_entered, chain_left}
 use Rattle.gn_environment.specs.Assigning.{Refusal, assigned, ElementRefusal, element_changed}
 use Rattle.gn_environment.specs.Unread.{reported}
 
--- where an evaluation takes place: what never changes, the file that its places name, the current directory, and the block that is open
+-- where an evaluation takes place: what never changes, as what its file is evaluated, the file that its places name, the current directory, and the
+-- block that is open
 pub record Setting : Type 0 where
   pub context : Context
+  pub kind : FileKind
   pub file : List ℕ
   pub directory : List ℕ
   pub inside : OpenBlock
@@ -72,9 +75,10 @@ kept_by (Some definition) = definition.scope ∷ []
 abbrev pub behind : Environment → List ScopeState
 behind env = kept_by env.body ++ env.beneath
 
--- what a read of the name finds: it searches the layers outwards, then what stands behind them
+-- what a read of the name finds: it searches the layers outwards, then what stands behind them. Where the first layer that has the name declares it, it
+-- finds nothing
 unfoldable pub value_of : List ℕ → Environment → Option Val
-value_of name env = nearest (chain_value name env.chain) (fixed_value name (behind env))
+value_of name env = shown_or (chain_variable name env.chain) (fixed_value name (behind env))
 
 -- the environment after a read of the name
 unfoldable pub after_read : List ℕ → Environment → Environment
@@ -129,7 +133,7 @@ restored name variable env = record env { chain = record env.chain { inner = set
 
 -- a name gets a value without an assignment, and counts as read
 unfoldable pub given : List ℕ → Val → Environment → Environment
-given name value env = restored name (Some (record { value = value; unread = None })) env
+given name value env = restored name (Some (given_variable value)) env
 
 -- a block opens, or one ends and this one stands around it
 abbrev pub with_open : OpenBlock → Environment → Environment

@@ -2,7 +2,7 @@
 use Rattle.std.specs.Prelude.{ℕ, not, List, [], ◌∷◌, filter, Option, Some, None}
 use Rattle.gn_values.specs.Val.{Val}
 use Rattle.gn_values.specs.Tables.{Table, with_name}
-use Rattle.gn_environment.specs.Layers.{VariableState, LayerState}
+use Rattle.gn_environment.specs.Layers.{VariableState, LayerState, given_variable}
 use Rattle.gn_environment.specs.Chains.{is_one_of, chain_read, all_read}
 use Rattle.gn_environment.specs.Environment.{Caller}
 use Rattle.gn_environment.specs.Templates.{with_caller, in_block}
@@ -12,7 +12,7 @@ use Rattle.gn_environment.specs.Forwarding.{Origin, from_entries, from_invoker}
 -- variables, after these names are given values in order; they count as read
 abbrev pub variables_given : Table Val → Table VariableState → Table VariableState
 variables_given [] variables = variables
-variables_given (e ∷ es) variables = variables_given es (with_name e.0 (record { value = e.1; unread = None }) variables)
+variables_given (e ∷ es) variables = variables_given es (with_name e.0 (given_variable e.1) variables)
 
 -- the layer after these names are given values in order
 abbrev pub all_given : Table Val → LayerState → LayerState

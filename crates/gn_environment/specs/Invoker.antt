@@ -4,7 +4,7 @@ use Rattle.std.specs.Str.{bytes_eq}
 use Rattle.gn_values.specs.Val.{Val}
 use Rattle.gn_values.specs.Tables.{Table}
 use Rattle.gn_environment.specs.Layers.{LayerState, ChainState, values_in}
-use Rattle.gn_environment.specs.Chains.{variable_in, nearest, is_one_of, read_in, all_read, all_read_but, names_read, chain_value, chain_read}
+use Rattle.gn_environment.specs.Chains.{variable_in, nearest, is_one_of, read_in, all_read, all_read_but, names_read, shown_or, chain_variable, chain_read}
 use Rattle.gn_environment.specs.Environment.{Caller, Environment, fixed_value, kept_by}
 use Rattle.gn_environment.specs.Templates.{with_caller, in_block}
 
@@ -17,7 +17,7 @@ is_called (c ∷ cs) = true
 
 -- whether a name is the invoker: it is so named, the body of a template runs, and no layer of it has the name
 unfoldable pub names_invoker : List ℕ → Environment → Bool
-names_invoker name env = bytes_eq name invoker_name && (is_called env.callers && not (is_some (chain_value name env.chain)))
+names_invoker name env = bytes_eq name invoker_name && (is_called env.callers && not (is_some (chain_variable name env.chain)))
 
 -- whether no layer stands around the innermost one
 abbrev pub is_outermost : ChainState → Bool
@@ -79,7 +79,7 @@ behind_first change (c ∷ cs) = c ∷ change cs
 -- whether a name that is the invoker stands around the call: the template was called in a body, and no layer there has the name
 abbrev pub has_outer_invoker : List ℕ → List Caller → Bool
 has_outer_invoker name [] = false
-has_outer_invoker name (c ∷ cs) = is_called cs && not (is_some (chain_value name c.chain))
+has_outer_invoker name (c ∷ cs) = is_called cs && not (is_some (chain_variable name c.chain))
 
 -- whether it is among these names, and isn't excepted
 unfoldable pub forwards_outer_invoker : List (List ℕ) → List (List ℕ) → Environment → Bool
@@ -104,7 +104,7 @@ value_if_invoker name outer = if bytes_eq name invoker_name then outer else None
 -- call stands
 abbrev pub value_by : List ℕ → Option Val → List Caller → Option Val
 value_by name outer [] = None
-value_by name outer (c ∷ cs) = nearest (chain_value name c.chain) (nearest (value_if_invoker name outer) (fixed_value name (kept_by c.body)))
+value_by name outer (c ∷ cs) = shown_or (chain_variable name c.chain) (nearest (value_if_invoker name outer) (fixed_value name (kept_by c.body)))
 
 unfoldable pub caller_value : List ℕ → Option Val → Environment → Option Val
 caller_value name outer env = value_by name outer env.callers

@@ -7,6 +7,7 @@ pub mod Templates
 pub mod Invoker
 pub mod Forwarding
 pub mod Giving
+pub mod Declaring
 pub mod Imports
 pub mod Surroundings
 pub mod Shown

@@ -7,9 +7,13 @@ use Rattle.gn_environment.specs.Environment.{Caller, Environment}
 abbrev pub outline : LayerState → LayerState
 outline layer = record layer { variables = [] }
 
+-- a layer but for all that stands in it
+abbrev pub emptied : LayerState → LayerState
+emptied layer = record (empty_layer layer.checked) { declares = layer.declares }
+
 -- layers, but for what stands in the innermost one
 abbrev pub around_inner : ChainState → ChainState
-around_inner chain = record { inner = empty_layer chain.inner.checked; outer = map outline chain.outer }
+around_inner chain = record { inner = emptied chain.inner; outer = map outline chain.outer }
 
 -- a caller but for the variables of its layers
 abbrev pub caller_outline : Caller → Caller

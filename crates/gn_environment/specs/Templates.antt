@@ -1,5 +1,5 @@
 -- Templates: what a definition keeps, which one a name means, and the scopes in which a call's block and its body run.
-use Rattle.std.specs.Prelude.{ℕ, Bool, ◌&&◌, not, true, nat_eq, if◌then◌else◌, List, [], ◌∷◌, ◌++◌, map, length, Option, Some, None, Result, Ok, Err, is_some, slice_get, codes}
+use Rattle.std.specs.Prelude.{ℕ, Bool, ◌&&◌, not, true, nat_eq, if◌then◌else◌, List, [], ◌∷◌, ◌++◌, filter, map, length, Option, Some, None, Result, Ok, Err, is_some, slice_get, codes}
 use Rattle.std.specs.List.{list_any}
 use Rattle.std.specs.Str.{bytes_eq}
 use Rattle.gn_paths.specs.declared.place.Place.{Place}
@@ -10,7 +10,7 @@ use Rattle.gn_values.specs.Tables.{Table, at_name, with_name, with_names}
 use Rattle.gn_values.specs.Imported.{ScopeState, DefinitionState}
 use Rattle.gn_values.specs.declared.kept.DefinitionName.{DefinitionName}
 use Rattle.gn_environment.specs.Layers.{LayerState, ChainState, empty_layer, values_in}
-use Rattle.gn_environment.specs.Chains.{nearest, chain_left, chain_all_read, all_read}
+use Rattle.gn_environment.specs.Chains.{nearest, is_declared, chain_left, chain_all_read, all_read}
 use Rattle.gn_environment.specs.Unread.{reported}
 use Rattle.gn_environment.specs.Environment.{Caller, Environment, behind, kept_by, entries_here, variable_here, entered, given}
 
@@ -81,6 +81,10 @@ abbrev pub laid_over : {A : Type 0} → List (Table A) → Table A → Table A
 laid_over [] base = base
 laid_over (t ∷ ts) base = with_names t (laid_over ts base)
 
+-- a table but for the names that the layers declare
+abbrev pub undeclared : {A : Type 0} → List LayerState → Table A → Table A
+undeclared {A} layers table = filter (λ (e : List ℕ × A). not (is_declared e.0 layers)) table
+
 -- what the scopes that a body keeps have
 abbrev pub kept_variables : List ScopeState → Table Val
 kept_variables [] = []
@@ -94,10 +98,10 @@ abbrev pub kept_defaults : List ScopeState → Table (Table Val)
 kept_defaults [] = []
 kept_defaults (s ∷ ss) = s.defaults
 
--- all that is in scope, of each name what stands innermost: what a definition keeps
+-- all that is in scope, of each name what stands innermost, if that isn't declared: what a definition keeps
 unfoldable pub scope_here : Environment → ScopeState
 scope_here env = record {
-  variables = laid_over (map values_in (layers_of env)) (kept_variables (kept_by env.body));
+  variables = undeclared (layers_of env) (laid_over (map values_in (layers_of env)) (kept_variables (kept_by env.body)));
   templates = laid_over (map (λ (l : LayerState). l.templates) (layers_of env)) (kept_templates (kept_by env.body));
   defaults = laid_over (map (λ (l : LayerState). l.defaults) (layers_of env)) (kept_defaults (kept_by env.body));
 }

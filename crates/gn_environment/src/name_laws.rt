@@ -5,7 +5,7 @@ ghost use Rattle.gn_tree.specs.declared.position.Position.{Position};
 ghost use Rattle.gn_values.specs.Tables.{at_name};
 ghost use Rattle.gn_values.specs.Imported.{ScopeState, DefinitionState, ImportState};
 ghost use Rattle.gn_environment.specs.Layers.{LayerState};
-ghost use Rattle.gn_environment.specs.Chains.{nearest};
+ghost use Rattle.gn_environment.specs.Chains.{nearest, is_declared};
 ghost use Rattle.gn_environment.specs.Environment.{Environment, fixed_value, value_of};
 ghost use Rattle.gn_environment.specs.Unread.{stands_before, reported};
 ghost use Rattle.gn_environment.specs.Templates.{layers_of, same_place, template_of, scope_here, defaults_among, defaults_of};
@@ -35,10 +35,11 @@ pub fn templates_are_not_found_in_their_bodies()
     ensures { (outermost body found : DefinitionState) (name : List ℕ) (env : Environment) → IsWithin outermost body → env.body ≡ Some body → template_of name env ≡ Some found → same_place found.place outermost.place ≡ false }
 {}
 
-/// What a read of a name finds where a template is defined is what the definition keeps at the name or, where it keeps
-/// nothing, what stands beneath the evaluation. The same holds of the defaults of each kind of call. The tables of the
-/// layers are in the order of their names.
+/// What a read of a name finds where a template is defined, if the name isn't declared there, is what the definition keeps
+/// at the name or, where it keeps nothing, what stands beneath the evaluation; a name that is declared is neither found nor
+/// kept. The same holds of the defaults of each kind of call. The tables of the layers are in the order of their names.
 pub fn definitions_keep_what_reads_find()
-    ensures variables { (name : List ℕ) (env : Environment) → AreInOrder (layers_of env) → value_of name env ≡ nearest (at_name name (scope_here env).variables) (fixed_value name env.beneath) }
+    ensures declared { (name : List ℕ) (env : Environment) → is_declared name (layers_of env) ≡ true → (value_of name env ≡ None) × (at_name name (scope_here env).variables ≡ None) }
+    ensures variables { (name : List ℕ) (env : Environment) → AreInOrder (layers_of env) → is_declared name (layers_of env) ≡ false → value_of name env ≡ nearest (at_name name (scope_here env).variables) (fixed_value name env.beneath) }
     ensures defaults { (kind : List ℕ) (env : Environment) → AreInOrder (layers_of env) → defaults_of kind env ≡ nearest (at_name kind (scope_here env).defaults) (defaults_among kind (map (λ (s : ScopeState). s.defaults) env.beneath)) }
 {}

@@ -3,6 +3,7 @@
 ghost use Rattle.std.specs.Prelude.{◌≡◌, ℕ, Bool, List};
 ghost use Rattle.gn_values.specs.Imported.{DefinitionState};
 ghost use Rattle.gn_environment.specs.Environment.{Environment, entered, left};
+ghost use Rattle.gn_environment.specs.Declaring.{declaring_entered};
 ghost use Rattle.gn_environment.specs.Templates.{body_begins, body_ends};
 ghost use Rattle.gn_environment.specs.Surroundings.{surroundings};
 
@@ -10,6 +11,11 @@ ghost use Rattle.gn_environment.specs.Surroundings.{surroundings};
 /// around the scope before it: the setting, the layers with their templates and defaults, the callers, and the depth.
 pub fn scopes_leave_their_surroundings()
     ensures { (checked : Bool) (env after : Environment) → surroundings after ≡ surroundings (entered checked env) → surroundings (left after) ≡ surroundings env }
+{}
+
+/// The same of the scope of a block that declares arguments.
+pub fn declaring_scopes_leave_their_surroundings()
+    ensures { (env after : Environment) → surroundings after ≡ surroundings (declaring_entered env) → surroundings (left after) ≡ surroundings env }
 {}
 
 /// The same of the body of a template, whose end is that of the scope of its call's block too.

@@ -12,7 +12,7 @@ use Rattle.gn_values.specs.Tables.{Table}
 use Rattle.gn_values.specs.declared.kept.DefinitionName.{DefinitionName}
 use Rattle.gn_environment.specs.Layers.{LayerState}
 use Rattle.gn_environment.specs.Chains.{variable_in}
-use Rattle.gn_environment.specs.Assigning.{replaces, unread_after, put, overwritten, overwritten_over, changed_in, changed_here, put_result, replaces_nonempty, has_no_value, operator_refuses, base_has_no_value, element_refuses}
+use Rattle.gn_environment.specs.Assigning.{replaces, put, overwritten, overwritten_over, changed_in, changed_here, put_result, replaces_nonempty, has_no_value, operator_refuses, base_has_no_value, element_refuses}
 use Rattle.gn_layers.specs.Errors.{refusal_of, element_refusal_of, IsRefusalOf, IsElementRefusalOf}
 use Rattle.gn_layers.specs.View.{variable_state}
 use Rattle.gn_layers.specs.declared.variable.Variable.{Variable}
@@ -20,14 +20,15 @@ use Rattle.gn_layers.specs.declared.error.AssignError.{AssignError}
 use Rattle.gn_layers.specs.declared.error.AssignError.TheVariants.{Overwrite, Undefined, Value, Memory}
 use Rattle.gn_layers.specs.declared.error.ElementAssignError.{ElementAssignError}
 use Rattle.gn_layers.specs.declared.error.ElementAssignError.TheVariants.{Undefined as NoBase, Subscript, Operator, Memory as NoMemory}
-use Rattle.gn_layers.proofs.Tables.{order, layer_with, not_there, is_there, same_there, put_there}
+use Rattle.gn_basics.proofs.Orders.{order}
+use Rattle.gn_layers.proofs.Tables.{layer_with, not_there, is_there, same_there, put_there, IsNoted}
 
-module _ (templates : Table DefinitionName) (defaults : Table (Table Val)) (checked : Bool) (name : List ℕ) (es : List (List ℕ × Variable)) (layer : LayerState) (view : layer_with templates defaults checked es ≡ layer) where
+module _ (templates : Table DefinitionName) (defaults : Table (Table Val)) (checked declares : Bool) (name : List ℕ) (es : List (List ℕ × Variable)) (layer : LayerState) (view : layer_with templates defaults checked declares es ≡ layer) where
   pub absent_in : None ≡ lookup (is_at (order name)) es → variable_in name layer ≡ None
-  absent_in h = ap (variable_in name) (sym view) ∙ not_there templates defaults checked name es h
+  absent_in h = ap (variable_in name) (sym view) ∙ not_there templates defaults checked declares name es h
 
   pub present_in : (v : Variable) → Some v ≡ lookup (is_at (order name)) es → variable_in name layer ≡ Some (variable_state v)
-  present_in v h = ap (variable_in name) (sym view) ∙ is_there templates defaults checked name es v h
+  present_in v h = ap (variable_in name) (sym view) ∙ is_there templates defaults checked declares name es v h
 
   -- a change of a name that isn't there
   pub change_absent : {E R : Type 0} (absent : R) (refuses : E → R) (step : Val → Result Val E) (position : Position) → None ≡ lookup (is_at (order name)) es → changed_in absent refuses step name position layer ≡ Err absent
@@ -35,14 +36,14 @@ module _ (templates : Table DefinitionName) (defaults : Table (Table Val)) (chec
 
   -- the variable that is there is written
   module _ (ns : List (List ℕ × Variable)) (v w : Variable) (h : Some v ≡ lookup (is_at (order name)) es) (sorted : IsStrictlySortedBy order (keys_of es)) (written : ns ≡ set_value (is_at (order name)) es w) where
-    pub stays : variable_state w ≡ variable_state v → layer_with templates defaults checked ns ≡ layer
-    stays is = same_there templates defaults checked name es ns v w h sorted written is ∙ view
+    pub stays : variable_state w ≡ variable_state v → layer_with templates defaults checked declares ns ≡ layer
+    stays is = same_there templates defaults checked declares name es ns v w h sorted written is ∙ view
 
-    pub puts : (value : Val) (position : Position) → val_of w.value ≡ value → w.unread ≡ unread_after (Some (variable_state v)) position → layer_with templates defaults checked ns ≡ put name value position layer
+    pub puts : (value : Val) (position : Position) → val_of w.value ≡ value → IsNoted v w position → layer_with templates defaults checked declares ns ≡ put name value position layer
     puts value position e f =
-        put_there templates defaults checked name es ns v w h sorted written value position e f ∙ ap (put name value position) view
+        put_there templates defaults checked declares name es ns v w h sorted written value position e f ∙ ap (put name value position) view
 
-    pub changes : {E R : Type 0} (absent : R) (refuses : E → R) (step : Val → Result Val E) (position : Position) → step (val_of v.value) ≡ Ok (val_of w.value) → w.unread ≡ unread_after (Some (variable_state v)) position → changed_in absent refuses step name position layer ≡ Ok (layer_with templates defaults checked ns)
+    pub changes : {E R : Type 0} (absent : R) (refuses : E → R) (step : Val → Result Val E) (position : Position) → step (val_of v.value) ≡ Ok (val_of w.value) → IsNoted v w position → changed_in absent refuses step name position layer ≡ Ok (layer_with templates defaults checked declares ns)
     changes absent refuses step position e f =
         ap (changed_here absent refuses step name position layer) (present_in v h) ∙ ap (put_result absent refuses step name position layer) e ∙ ap Ok (sym (puts (val_of w.value) position refl f))
 
@@ -50,7 +51,7 @@ module _ (templates : Table DefinitionName) (defaults : Table (Table Val)) (chec
     change_refused absent refuses step position e f =
         ap (changed_here absent refuses step name position layer) (present_in v h) ∙ ap (put_result absent refuses step name position layer) f
 
-    pub overwrites : (value : Val) (position : Position) → replaces (val_of v.value) value ≡ false → val_of w.value ≡ value → w.unread ≡ unread_after (Some (variable_state v)) position → overwritten name value position layer ≡ Ok (layer_with templates defaults checked ns)
+    pub overwrites : (value : Val) (position : Position) → replaces (val_of v.value) value ≡ false → val_of w.value ≡ value → IsNoted v w position → overwritten name value position layer ≡ Ok (layer_with templates defaults checked declares ns)
     overwrites value position b e f =
         ap (overwritten_over name value position layer) (present_in v h) ∙ ap (λ r. cond r (Err replaces_nonempty) (Ok (put name value position layer))) b ∙ ap Ok (sym (puts value position e f))
 

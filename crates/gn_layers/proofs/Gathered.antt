@@ -1,5 +1,5 @@
 -- Names with values, gathered in order.
-use Rattle.std.proofs.Common.{◌≡◌, ℕ, true, false, cond, List, [], ◌∷◌, ◌++◌, map, append_assoc, refl, sym, ap, ◌∙◌, subst}
+use Rattle.std.proofs.Common.{◌≡◌, ℕ, Bool, true, false, cond, List, [], ◌∷◌, ◌++◌, map, filter, append_assoc, refl, sym, ap, ◌∙◌, subst}
 use Rattle.std.specs.declared.cmp.Ordering.TheVariants.{Less}
 use Rattle.std.specs.List.{AllByRecursion}
 use Rattle.std.specs.Map.{keys_of}
@@ -39,6 +39,12 @@ module _ (bs whole : List (List ℕ × Val)) (e : List ℕ × Value) (es : List 
   pub moved_on : (after : List (List ℕ × Val)) → after ≡ bs ++ (e.0, val_of e.1) ∷ [] → after ++ value_pairs es ≡ whole
   moved_on after is =
       ap (λ ds. ds ++ value_pairs es) is ∙ append_assoc bs ((e.0, val_of e.1) ∷ []) (value_pairs es) ∙ so_far
+
+-- the entries whose names pass a test are the same seen as values
+pub values_passing : (test : List ℕ → Bool) (es : List (List ℕ × Value)) → value_pairs (filter (λ (e : List ℕ × Value). test e.0) es) ≡ filter (λ (e : List ℕ × Val). test e.0) (value_pairs es)
+values_passing test [] = refl
+values_passing test (e ∷ es) =
+    elim (test e.0) as (λ b. value_pairs (cond b (e ∷ filter (λ (d : List ℕ × Value). test d.0) es) (filter (λ (d : List ℕ × Value). test d.0) es)) ≡ cond b ((e.0, val_of e.1) ∷ filter (λ (d : List ℕ × Val). test d.0) (value_pairs es)) (filter (λ (d : List ℕ × Val). test d.0) (value_pairs es))) [ true ↦ ap (λ vs. (e.0, val_of e.1) ∷ vs) (values_passing test es) | false ↦ values_passing test es ]
 
 -- the names that don't begin with `_` are the same seen as values
 pub values_public : (es : List (List ℕ × Value)) → value_pairs (public_part es) ≡ public_part (value_pairs es)

@@ -1,10 +1,10 @@
 -- Tables laid over one another, name by name.
-use Rattle.std.proofs.Common.{◌≡◌, List, [], ◌∷◌, ◌++◌, append_assoc, sym, ap, ◌∙◌, subst}
+use Rattle.std.proofs.Common.{◌≡◌, [], ◌∷◌, ◌++◌, append_assoc, sym, ap, ◌∙◌, subst}
 use Rattle.std.proofs.lemmas.List.{append-nil}
 use Rattle.std.specs.Cmp.Lexicographic.{nat_list_cmp_total}
 use Rattle.std.specs.Map.{keys_of}
 use Rattle.std.specs.List.Sorted.{IsStrictlySortedBy}
-use Rattle.gn_values.proofs.Tables.{insert_last}
+use Rattle.gn_basics.proofs.Tables.{insert_last}
 use Rattle.gn_values.specs.Tables.{Table, with_names}
 use Rattle.gn_values.specs.Imported.{ScopeState}
 use Rattle.gn_values.specs.Val.{Val, IsSortedByName}

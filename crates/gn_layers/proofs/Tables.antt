@@ -1,6 +1,6 @@
 -- Tables and lists of entries: what a name stands for, and what setting and taking away does, under another view of the values.
-use Rattle.std.proofs.Common.{◌≡◌, ℕ, List, [], ◌∷◌, map, cond, Bool, true, false, Option, Some, None, option_map, option_copied, Bor, Ordering, refl, sym, ap, ◌∙◌}
-use Rattle.std.specs.Cmp.Lexicographic.{slice_cmp, nat_list_cmp_total}
+use Rattle.std.proofs.Common.{◌≡◌, ℕ, List, [], ◌∷◌, cond, Bool, true, false, Option, Some, None, option_map, Ordering, refl, sym, ap, ◌∙◌, if◌then◌else◌}
+use Rattle.std.specs.Cmp.Lexicographic.{nat_list_cmp_total}
 use Rattle.std.proofs.lemmas.Map.Made.{lookup-map_values}
 use Rattle.gn_values.specs.Val.{Val}
 use Rattle.gn_values.specs.Tables.{Table, at_name, with_name, without_name}
@@ -9,11 +9,11 @@ use Rattle.gn_environment.specs.Layers.{VariableState, LayerState}
 use Rattle.std.proofs.lemmas.Map.Steps.{set_value_same}
 use Rattle.gn_values.specs.View.{val_of}
 use Rattle.gn_tree.specs.declared.position.Position.{Position}
-use Rattle.gn_environment.specs.Assigning.{unread_after, put}
+use Rattle.gn_environment.specs.Assigning.{unread_after, put, declared_after}
 use Rattle.gn_environment.specs.Chains.{variable_in, set_in, read_variable, read_of, read_in}
 use Rattle.gn_layers.specs.View.{variable_state, variables_in}
 use Rattle.gn_layers.specs.declared.variable.Variable.{Variable}
-use Rattle.std.specs.Ordering.{nat_cmp, is_eq, match_ordering}
+use Rattle.std.specs.Ordering.{is_eq, match_ordering}
 use Rattle.std.specs.declared.cmp.Ordering.TheVariants.{Equal, Greater}
 use Rattle.std.specs.Map.{lookup, remove_entry, set_value, keys_of}
 use Rattle.std.specs.BTreeMap.{is_at, insert_entry}
@@ -21,28 +21,15 @@ use Rattle.std.specs.List.Sorted.{IsStrictlySortedBy}
 use Rattle.std.specs.Cmp.{IsTotalOrder}
 use Rattle.std.proofs.lemmas.Map.{lookup-none}
 use Rattle.std.proofs.lemmas.Map.Entries.{none_below_head}
-use Rattle.gn_environment.proofs.Names.{by_answer}
-use Rattle.gn_environment.proofs.Names.{by_order}
+use Rattle.gn_basics.proofs.Orders.{order, by_answer}
+use Rattle.gn_basics.proofs.Tables.{seen, insert_entry-seen, remove_entry-seen}
+use Rattle.gn_environment.specs.Declaring.{declared_at, declared_of, declared_in}
 
 module _ {K X Y : Type 0} (g : X → Y) where
-  -- the entries with each value seen by g
-  abbrev pub seen : List (K × X) → List (K × Y)
-  seen es = map (λ (e : K × X). (e.0, g e.1)) es
-
-  pub insert_entry-seen : (cmp : K → K → Ordering) (es : List (K × X)) (k : K) (v : X) → seen (insert_entry cmp es k v) ≡ insert_entry cmp (seen es) k (g v)
-  insert_entry-seen cmp [] k v = refl
-  insert_entry-seen cmp (e ∷ es) k v =
-      by_order (λ r. seen (match_ordering r ((k, v) ∷ e ∷ es) ((e.0, v) ∷ es) (e ∷ insert_entry cmp es k v)) ≡ match_ordering r ((k, g v) ∷ (e.0, g e.1) ∷ seen es) ((e.0, g v) ∷ seen es) ((e.0, g e.1) ∷ insert_entry cmp (seen es) k (g v))) (cmp k e.0) refl refl (ap (λ ys. (e.0, g e.1) ∷ ys) (insert_entry-seen cmp es k v))
-
-  pub remove_entry-seen : (test : K → Bool) (es : List (K × X)) → seen (remove_entry test es) ≡ remove_entry test (seen es)
-  remove_entry-seen test [] = refl
-  remove_entry-seen test (e ∷ es) =
-      elim (test e.0) as (λ b. seen (cond b es (e ∷ remove_entry test es)) ≡ cond b (seen es) ((e.0, g e.1) ∷ remove_entry test (seen es))) [ true ↦ refl | false ↦ ap (λ ys. (e.0, g e.1) ∷ ys) (remove_entry-seen test es) ]
-
-  pub set_value-seen : (test : K → Bool) (es : List (K × X)) (w : X) → seen (set_value test es w) ≡ set_value test (seen es) (g w)
+  pub set_value-seen : (test : K → Bool) (es : List (K × X)) (w : X) → seen g (set_value test es w) ≡ set_value test (seen g es) (g w)
   set_value-seen test [] w = refl
   set_value-seen test (e ∷ es) w =
-      elim (test e.0) as (λ b. seen (cond b ((e.0, w) ∷ es) (e ∷ set_value test es w)) ≡ cond b ((e.0, g w) ∷ seen es) ((e.0, g e.1) ∷ set_value test (seen es) (g w))) [ true ↦ refl | false ↦ ap (λ ys. (e.0, g e.1) ∷ ys) (set_value-seen test es w) ]
+      elim (test e.0) as (λ b. seen g (cond b ((e.0, w) ∷ es) (e ∷ set_value test es w)) ≡ cond b ((e.0, g w) ∷ seen g es) ((e.0, g e.1) ∷ set_value test (seen g es) (g w))) [ true ↦ refl | false ↦ ap (λ ys. (e.0, g e.1) ∷ ys) (set_value-seen test es w) ]
 
 -- a value written at a key that the entries have is that key set
 module _ {K X : Type 0} {cmp : K → K → Ordering} (total : IsTotalOrder cmp) (k : K) (v w : X) where
@@ -63,14 +50,6 @@ module _ {K X : Type 0} {cmp : K → K → Ordering} (total : IsTotalOrder cmp) 
       (λ r. written_there e es Equal r ∙ written_step e es Equal r)
       (λ r. written_there e es Greater r ∙ ap (λ ys. e ∷ ys) (set_value-is_insert_entry es s.1 (sym (found_there e es Greater r) ∙ h)) ∙ written_step e es Greater r)
 
--- what a reference shows
-pub shown : {X Y : Type 0} (g : X → Y) (r : Option (Bor X)) → option_map (λ v. g v.now) r ≡ option_map g (option_copied r)
-shown g None = refl
-shown g (Some v) = refl
-
-abbrev pub order : List ℕ → List ℕ → Ordering
-order = slice_cmp nat_cmp
-
 -- the variables of a layer
 module _ (name : List ℕ) (es : List (List ℕ × Variable)) where
   pub variable_at : at_name name (variables_in es) ≡ option_map variable_state (lookup (is_at (order name)) es)
@@ -86,10 +65,14 @@ module _ (name : List ℕ) (es : List (List ℕ × Variable)) where
   written_variable v w s h =
       ap variables_in (set_value-is_insert_entry nat_list_cmp_total name v w es s h) ∙ with_variable w
 
+-- a variable that stays is assigned at a position
+abbrev pub IsNoted : Variable → Variable → Position → Type 0
+IsNoted v w position = (w.unread ≡ unread_after (Some (variable_state v)) position) × (w.declared ≡ v.declared)
+
 -- a layer of these variables
-module _ (templates : Table DefinitionName) (defaults : Table (Table Val)) (checked : Bool) where
+module _ (templates : Table DefinitionName) (defaults : Table (Table Val)) (checked declares : Bool) where
   abbrev pub layer_with : List (List ℕ × Variable) → LayerState
-  layer_with es = record { variables = variables_in es; templates = templates; defaults = defaults; checked = checked }
+  layer_with es = record { variables = variables_in es; templates = templates; defaults = defaults; checked = checked; declares = declares }
 
   pub same_layer : (es ns : List (List ℕ × Variable)) → ns ≡ es → layer_with ns ≡ layer_with es
   same_layer es ns same = ap layer_with same
@@ -105,6 +88,15 @@ module _ (templates : Table DefinitionName) (defaults : Table (Table Val)) (chec
     read_absent ns h same =
         ap layer_with same ∙ ap (read_of name (layer_with es)) (sym (not_there h))
 
+    -- a name is declared where names are
+    declares_there : (position : Position) → declares ≡ true → (o : Option VariableState) → variable_in name (layer_with es) ≡ o → declared_of name position (layer_with es) o ≡ declared_in name position (layer_with es)
+    declares_there position d o is =
+        ap (declared_of name position (layer_with es)) (sym is)
+        ∙ ap (λ b. if b then declared_of name position (layer_with es) (variable_in name (layer_with es)) else layer_with es) (sym d)
+
+    pub declared_absent : (position : Position) (ns : List (List ℕ × Variable)) → declares ≡ true → None ≡ lookup (is_at (order name)) es → ns ≡ es → layer_with ns ≡ declared_in name position (layer_with es)
+    declared_absent position ns d h same = ap layer_with same ∙ declares_there position d None (not_there h)
+
     -- a variable that is there is written
     module _ (ns : List (List ℕ × Variable)) (v w : Variable) (h : Some v ≡ lookup (is_at (order name)) es) (sorted : IsStrictlySortedBy order (keys_of es)) (written : ns ≡ set_value (is_at (order name)) es w) where
       pub set_there : layer_with ns ≡ set_in name (Some (variable_state w)) (layer_with es)
@@ -115,11 +107,16 @@ module _ (templates : Table DefinitionName) (defaults : Table (Table Val)) (chec
       read_present is =
           set_there ∙ ap (λ s. set_in name (Some s) (layer_with es)) is ∙ ap (read_of name (layer_with es)) (sym (is_there v h))
 
+      pub declared_present : (position : Position) → declares ≡ true → variable_state w ≡ declared_at position (variable_state v) → layer_with ns ≡ declared_in name position (layer_with es)
+      declared_present position d is =
+          set_there ∙ ap (λ s. set_in name (Some s) (layer_with es)) is ∙ declares_there position d (Some (variable_state v)) (is_there v h)
+
       pub same_there : variable_state w ≡ variable_state v → layer_with ns ≡ layer_with es
       same_there is =
           ap layer_with written ∙ ap (λ (vs : Table VariableState). record (layer_with es) { variables = vs }) (set_value-seen variable_state (is_at (order name)) es w ∙ set_value_same (is_at (order name)) (variables_in es) (variable_state w) (is_there v h ∙ ap Some (sym is)))
 
-      pub put_there : (value : Val) (position : Position) → val_of w.value ≡ value → w.unread ≡ unread_after (Some (variable_state v)) position → layer_with ns ≡ put name value position (layer_with es)
+      pub put_there : (value : Val) (position : Position) → val_of w.value ≡ value → IsNoted v w position → layer_with ns ≡ put name value position (layer_with es)
       put_there value position e f =
-          let there : w.unread ≡ unread_after (variable_in name (layer_with es)) position = f ∙ ap (λ o. unread_after o position) (sym (is_there v h)) in
-          set_there ∙ (λ i. set_in name (Some (record { value = e i; unread = there i })) (layer_with es))
+          let there : w.unread ≡ unread_after (variable_in name (layer_with es)) position = f.0 ∙ ap (λ o. unread_after o position) (sym (is_there v h)) in
+          let place : w.declared ≡ declared_after declares (variable_in name (layer_with es)) position = f.1 ∙ ap (λ o. declared_after declares o position) (sym (is_there v h)) in
+          set_there ∙ (λ i. set_in name (Some (record { value = e i; unread = there i; declared = place i })) (layer_with es))

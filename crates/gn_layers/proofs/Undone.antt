@@ -6,7 +6,7 @@ use Rattle.std.specs.Map.{lookup, set_value, keys_of}
 use Rattle.std.specs.BTreeMap.{is_at, insert_entry}
 use Rattle.std.specs.List.Sorted.{IsStrictlySortedBy}
 use Rattle.std.proofs.lemmas.Map.Steps.{set_value_same}
-use Rattle.gn_values.proofs.TakenOut.{new_gone}
+use Rattle.gn_basics.proofs.Tables.{new_gone}
 use Rattle.gn_layers.specs.Undoing.{put_back, all_put_back}
 use Rattle.gn_layers.proofs.Tables.{set_value-is_insert_entry}
 

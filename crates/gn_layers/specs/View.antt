@@ -8,7 +8,7 @@ use Rattle.gn_values.specs.Tables.{Table}
 use Rattle.gn_environment.specs.Layers.{VariableState}
 
 abbrev pub variable_state : Variable → VariableState
-variable_state v = record { value = val_of v.value; unread = v.unread }
+variable_state v = record { value = val_of v.value; unread = v.unread; declared = v.declared }
 
 abbrev pub variables_in : List (List ℕ × Variable) → Table VariableState
 variables_in es = map (λ (e : List ℕ × Variable). (e.0, variable_state e.1)) es

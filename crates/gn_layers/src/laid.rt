@@ -1,12 +1,12 @@
 // What layers leave and what is kept of them, by names.
 
-ghost use Rattle.std.specs.Prelude.{◌≡◌, [], IfOk, OnOk, map, length};
+ghost use Rattle.std.specs.Prelude.{◌≡◌, ℕ, Bool, List, [], IfOk, OnOk, filter, not, map, length};
 ghost use Rattle.std.specs.Ordering.{nat_cmp};
 ghost use Rattle.std.specs.Cmp.Lexicographic.{slice_cmp};
 ghost use Rattle.std.specs.BTreeMap.{IsOrdered};
 ghost use Rattle.gn_values.specs.Imported.{ScopeState};
 ghost use Rattle.gn_values.specs.Tables.{with_name, with_names};
-ghost use Rattle.gn_values.specs.Val.{IsSortedByName};
+ghost use Rattle.gn_values.specs.Val.{Val, IsSortedByName};
 ghost use Rattle.gn_values.specs.View.{val_of, entry_of};
 ghost use Rattle.gn_environment.specs.Imports.{public_part};
 ghost use Rattle.gn_layers.specs.Kept.{scope_over, scope_texted, public_scope};
@@ -33,6 +33,15 @@ pub struct Laid {
     variables: BTreeMap<Text, Value>,
     templates: BTreeMap<Text, DefinitionName>,
     defaults: BTreeMap<Text, Bindings>,
+}
+
+/// What hides names.
+pub trait Hides {
+    ghost hidden: { Self → List ℕ → Bool };
+
+    /// Whether it hides a name. It takes no memory.
+    fn hides(&self, name: &Text) -> bool
+        ensures { result ≡ hidden self.now name.now };
 }
 
 impl Model for Laid {
@@ -86,6 +95,13 @@ impl Laid {
         lay_variables(&mut self.variables, alloc, names, &upper.variables)?;
         lay_table(&mut self.templates, alloc, &upper.templates)?;
         lay_table(&mut self.defaults, alloc, &upper.defaults)
+    }
+
+    /// Takes away the values of the names that are hidden. It takes no memory.
+    pub fn take_hidden<H: Hides>(&mut self, by: &H)
+        ensures { self.new ≡ record self.old { variables = filter (λ (e : List ℕ × Val). not (H.hidden by.now e.0)) self.old.variables } }
+    {
+        self.variables.retain(|name, _value| !by.hides(name));
     }
 
     /// The scope that is kept of it. Nothing is copied.

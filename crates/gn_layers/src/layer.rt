@@ -3,9 +3,10 @@
 ghost use Rattle.std.specs.Prelude.{◌≡◌, ◌≢◌, [], IfOk, OnOk, OnErr, IfErr, IfSome, Some, None, true, false, is_some, option_map, map};
 ghost use Rattle.gn_values.specs.View.{val_of};
 ghost use Rattle.gn_values.specs.Limits.{scope_fits};
-ghost use Rattle.gn_environment.specs.Layers.{empty_layer, values_in};
-ghost use Rattle.gn_environment.specs.Chains.{variable_in, set_in, read_in};
-ghost use Rattle.gn_environment.specs.Assigning.{put, overwritten, changed_in, has_no_value, operator_refuses, base_has_no_value, element_refuses};
+ghost use Rattle.gn_environment.specs.Layers.{empty_layer, declaring_layer, values_in};
+ghost use Rattle.gn_environment.specs.Chains.{variable_in, set_in, read_in, shown_or};
+ghost use Rattle.gn_environment.specs.Declaring.{declared_in, place_of};
+ghost use Rattle.gn_environment.specs.Assigning.{declared_after, put, overwritten, changed_in, has_no_value, operator_refuses, base_has_no_value, element_refuses};
 ghost use Rattle.gn_values.specs.Assigning.{combined, element_assigned};
 ghost use Rattle.gn_layers.specs.Errors.{refusal_of, element_refusal_of};
 ghost use Rattle.gn_environment.specs.Unread.{reported, first_unread_of, earlier, unread_at, stands_before};
@@ -29,6 +30,7 @@ pub struct Layer {
     pub(crate) templates: BTreeMap<Text, DefinitionName>,
     pub(crate) defaults: BTreeMap<Text, Bindings>,
     pub(crate) checked: bool,
+    pub(crate) declares: bool,
 }
 
 impl Model for Layer {
@@ -41,7 +43,7 @@ impl Model for Layer {
 
     ghost use Rattle.gn_layers.specs.View.{variables_in};
 
-    ghost view = { λ a. record { variables = variables_in a.variables.entries; templates = a.templates.entries; defaults = a.defaults.entries; checked = a.checked } };
+    ghost view = { λ a. record { variables = variables_in a.variables.entries; templates = a.templates.entries; defaults = a.defaults.entries; checked = a.checked; declares = a.declares } };
 }
 
 impl Layer {
@@ -54,23 +56,51 @@ impl Layer {
             templates: BTreeMap::new(alloc),
             defaults: BTreeMap::new(alloc),
             checked,
+            declares: false,
         }
     }
 
+    /// The layer of a block that declares arguments, without names: an assignment in it declares its name. It takes no
+    /// memory.
+    pub fn declaring(alloc: Global) -> Layer
+        ensures { result ≡ declaring_layer }
+    {
+        let mut layer = Layer::new(alloc, false);
+        layer.declares = true;
+        layer
+    }
+
     /// What a name stands for. None comes exactly where the layer has nothing at it.
-    pub(crate) fn get(&self, name: &Key) -> Option<&Variable>
+    pub fn get(&self, name: &Key) -> Option<&Variable>
         ensures { option_map (λ v. variable_state v.now) result ≡ variable_in name.now self.now }
     {
         self.variables.get(name)
     }
 
-    /// The value of a name. None comes exactly where the layer has nothing at it.
+    /// The value of a name, also of one that is declared. None comes exactly where the layer has nothing at it.
     pub fn value(&self, name: &Key) -> Option<&Value>
         ensures { option_map (λ v. val_of v.now) result
             ≡ option_map (λ v. v.value) (variable_in name.now self.now) }
     {
         let variable = self.get(name)?;
         Some(&variable.value)
+    }
+
+    /// What a read finds at a name. None comes exactly where the layer has nothing at it, or declares it.
+    pub fn shown(&self, name: &Key) -> Option<&Value>
+        ensures { option_map (λ v. val_of v.now) result
+            ≡ shown_or (variable_in name.now self.now) None }
+    {
+        let variable = self.get(name)?;
+        variable.shown()
+    }
+
+    /// Where a name was declared. None comes exactly where the layer has nothing at it, or doesn't declare it.
+    pub fn declared(&self, name: &Key) -> Option<Position>
+        ensures { result ≡ place_of (variable_in name.now self.now) }
+    {
+        let variable = self.get(name)?;
+        variable.declared
     }
 
     /// A read of a name that the layer may have, and whether it has it. It takes no memory.
@@ -111,6 +141,27 @@ impl Layer {
         self.variables.contains_key(name)
     }
 
+    // Where the first assignment of a name declares it, if it does.
+    fn first_declared(&self, position: Position) -> Option<Position>
+        ensures { result ≡ declared_after self.now.declares None position }
+    {
+        if self.declares { Some(position) } else { None }
+    }
+
+    /// Declares a name, if the layer has it and declares names, at the position of the call that gave it, unless it was
+    /// declared before. It takes no memory.
+    pub fn declare(&mut self, name: &Key, position: Position)
+        ensures { self.new ≡ declared_in name.now position self.old }
+    {
+        if !self.declares {
+            return;
+        }
+        let Some(variable) = self.variables.get_mut(name) else {
+            return;
+        };
+        variable.declare(position);
+    }
+
     /// The first assignment of a name that the layer has nothing at. After want of memory the layer is as before, and
     /// the value is dropped.
     pub fn put_assigned(
@@ -127,6 +178,7 @@ impl Layer {
         let variable = Variable {
             value,
             unread: Some(position),
+            declared: self.first_declared(position),
         };
         self.put(Key::new(name.number()), variable)
     }

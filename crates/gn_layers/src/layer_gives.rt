@@ -46,11 +46,7 @@ pub(crate) fn give_each(
         ≡ all_put_back (slice_cmp nat_cmp) before.old.items variables.old.entries }
 {
     for (name, value) in values {
-        let variable = Variable {
-            value,
-            unread: None,
-        };
-        set_name(alloc, variables, before, &name, variable)?;
+        set_name(alloc, variables, before, &name, Variable::given(value))?;
     }
     Ok(())
 }

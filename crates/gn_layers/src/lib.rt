@@ -17,7 +17,7 @@ mod variable;
 
 pub use error::{AssignError, ElementAssignError};
 pub use key::Key;
-pub use laid::Laid;
+pub use laid::{Hides, Laid};
 pub use layer::Layer;
 pub use name_set::NameSet;
 pub use variable::Variable;

@@ -1,9 +1,12 @@
 // What a name stands for, and how an assignment changes it.
 
-ghost use Rattle.std.specs.Prelude.{◌≡◌, OnOk, OnErr, IfErr, Some, true, false};
+ghost use Rattle.std.specs.Prelude.{◌≡◌, OnOk, OnErr, IfErr, Some, true, false, option_map};
 ghost use Rattle.gn_values.specs.Assigning.{combined, element_assigned};
 ghost use Rattle.gn_values.specs.View.{val_of};
 ghost use Rattle.gn_environment.specs.Assigning.{replaces, unread_after};
+ghost use Rattle.gn_environment.specs.Chains.{shown};
+ghost use Rattle.gn_environment.specs.Declaring.{declared_at};
+ghost use Rattle.gn_environment.specs.Layers.{given_variable};
 ghost use Rattle.gn_layers.specs.Errors.{IsRefusalOf, IsElementRefusalOf};
 ghost use Rattle.gn_layers.specs.View.{variable_state};
 
@@ -19,6 +22,9 @@ pub struct Variable {
     pub value: Value,
     /// Where the operator of the last assignment stands, while nothing has read the name since its first.
     pub unread: Option<Position>,
+    /// Where the name was declared, if it is that of an argument that a block declares: the operator of its first assignment,
+    /// or the call that gave it. No read finds its value then.
+    pub declared: Option<Position>,
 }
 
 // Whether a nonempty list would take the place of a nonempty list, or a nonempty scope that of a nonempty scope.
@@ -33,10 +39,41 @@ fn replaces(old: &Value, new: &Value) -> bool
 }
 
 impl Variable {
+    /// The variable of a name that is given a value without an assignment, and counts as read. It takes no memory.
+    pub fn given(value: Value) -> Variable
+        ensures value { result.value ≡ value }
+        ensures given { variable_state result ≡ given_variable (val_of value) }
+    {
+        Variable {
+            value,
+            unread: None,
+            declared: None,
+        }
+    }
+
+    /// What a read finds: the value, unless the name is declared. It takes no memory.
+    pub fn shown(&self) -> Option<&Value>
+        ensures { option_map (λ v. val_of v.now) result ≡ shown (variable_state self.now) }
+    {
+        match self.declared {
+            None => Some(&self.value),
+            Some(_) => None,
+        }
+    }
+
+    /// Declares the name at a position, unless it was declared before. It takes no memory.
+    pub(crate) fn declare(&mut self, position: Position)
+        ensures { variable_state self.new ≡ declared_at position (variable_state self.old) }
+    {
+        if self.declared.is_none() {
+            self.declared = Some(position);
+        }
+    }
+
     // Notes an assignment: a name that is unread stays so, with the new place.
     fn note(&mut self, position: Position)
         ensures value { self.new.value ≡ self.old.value }
-        ensures unread { self.new.unread ≡ unread_after (Some (variable_state self.old)) position }
+        ensures noted { (self.new.unread ≡ unread_after (Some (variable_state self.old)) position) × (self.new.declared ≡ self.old.declared) }
     {
         if self.unread.is_some() {
             self.unread = Some(position);
@@ -48,8 +85,9 @@ impl Variable {
     pub(crate) fn overwrite(&mut self, value: Value, position: Position) -> Result<(), AssignError>
         ensures ok { OnOk result (replaces (val_of self.old.value) (val_of value) ≡ false) }
         ensures value { OnOk result (self.new.value ≡ value) }
-        ensures unread { OnOk result
-            (self.new.unread ≡ unread_after (Some (variable_state self.old)) position) }
+        ensures noted { OnOk result
+            ((self.new.unread ≡ unread_after (Some (variable_state self.old)) position)
+            × (self.new.declared ≡ self.old.declared)) }
         ensures only { IfErr result (λ e. e ≡ AssignError.Overwrite) }
         ensures refused { OnErr result (replaces (val_of self.old.value) (val_of value) ≡ true) }
         ensures err { OnErr result (self.new ≡ self.old) }
@@ -72,8 +110,9 @@ impl Variable {
     ) -> Result<(), AssignError>
         ensures value { OnOk result
             (combined op (val_of self.old.value) (val_of value) ≡ Ok (val_of self.new.value)) }
-        ensures unread { OnOk result
-            (self.new.unread ≡ unread_after (Some (variable_state self.old)) position) }
+        ensures noted { OnOk result
+            ((self.new.unread ≡ unread_after (Some (variable_state self.old)) position)
+            × (self.new.declared ≡ self.old.declared)) }
         ensures refused { IfErr result
             (λ e. IsRefusalOf e (combined op (val_of self.old.value) (val_of value))) }
         ensures err { OnErr result (variable_state self.new ≡ variable_state self.old) }
@@ -99,8 +138,9 @@ impl Variable {
         ensures value { OnOk result
             (element_assigned (val_of self.old.value) (val_of at.now) op (val_of value)
             ≡ Ok (val_of self.new.value)) }
-        ensures unread { OnOk result
-            (self.new.unread ≡ unread_after (Some (variable_state self.old)) position) }
+        ensures noted { OnOk result
+            ((self.new.unread ≡ unread_after (Some (variable_state self.old)) position)
+            × (self.new.declared ≡ self.old.declared)) }
         ensures refused { IfErr result
             (λ e. IsElementRefusalOf e
             (element_assigned (val_of self.old.value) (val_of at.now) op (val_of value))) }

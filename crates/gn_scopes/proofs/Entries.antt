@@ -9,15 +9,12 @@ use Rattle.std.specs.Map.{lookup, remove_entry}
 use Rattle.std.specs.BTreeMap.{is_at, insert_entry}
 use Rattle.std.specs.FinMap.{find, put, is_sorted, IsAntisymmetric}
 use Rattle.std.specs.FinMap.Entries.{by_order as put_by_order, where_key, below_all, is_sorted-put, is_sorted-where_key, find-put, find-where_key, same_entries}
-use Rattle.gn_environment.proofs.Names.{by_order}
+use Rattle.gn_basics.proofs.Orders.{by_order}
+use Rattle.gn_basics.proofs.Tests.{second_holds}
 
 pub first : (a b : Bool) → T (a && b) → T a
 first true b p = tt
 first false b p = p
-
-pub second : (a b : Bool) → T (a && b) → T b
-second true b p = p
-second false b p = absurd p
 
 is_less : (r : Ordering) → T (is_lt r) → r ≡ Less
 is_less Less p = refl
@@ -69,19 +66,19 @@ module _ {K X : Type 0} (R : K → K → Ordering) where
     kept k x [] p h = refl
     kept k x (e ∷ es) p h =
         let rest = where_key R (λ y. not (eq_by_cmp R k y)) es in
-        ap (λ r. cond (not (is_eq r)) (e ∷ rest) rest) (o.congr k x e.0 p ∙ is_less _ (first _ _ h)) ∙ ap (λ l. e ∷ l) (kept k x es p (second _ _ h))
+        ap (λ r. cond (not (is_eq r)) (e ∷ rest) rest) (o.congr k x e.0 p ∙ is_less _ (first _ _ h)) ∙ ap (λ l. e ∷ l) (kept k x es p (second_holds _ _ h))
 
     -- and none is found
     pub lookup_behind : (k x : K) (es : List (K × X)) → R k x ≡ Equal → T (below_all R x es) → lookup (is_at (R k)) es ≡ None
     lookup_behind k x [] p h = refl
     lookup_behind k x (e ∷ es) p h =
-        ap (λ r. cond (is_eq r) (Some e.1) (lookup (is_at (R k)) es)) (o.congr k x e.0 p ∙ is_less _ (first _ _ h)) ∙ lookup_behind k x es p (second _ _ h)
+        ap (λ r. cond (is_eq r) (Some e.1) (lookup (is_at (R k)) es)) (o.congr k x e.0 p ∙ is_less _ (first _ _ h)) ∙ lookup_behind k x es p (second_holds _ _ h)
 
     remove_entry-where_key : (k : K) (es : List (K × X)) → T (is_sorted R es) → remove_entry (is_at (R k)) es ≡ where_key R (λ y. not (eq_by_cmp R k y)) es
     remove_entry-where_key k [] h = refl
     remove_entry-where_key k (e ∷ es) h =
         let left = where_key R (λ y. not (eq_by_cmp R k y)) es in
-        let rest = ap (λ l. e ∷ l) (remove_entry-where_key k es (second _ _ h)) in
+        let rest = ap (λ l. e ∷ l) (remove_entry-where_key k es (second_holds _ _ h)) in
         by_order (λ r. R k e.0 ≡ r → cond (is_eq r) es (e ∷ remove_entry (is_at (R k)) es) ≡ cond (not (is_eq r)) (e ∷ left) left) (R k e.0)
         (λ p. rest)
         (λ p. sym (kept k e.0 es p (first _ _ h)))

@@ -9,7 +9,7 @@ use Rattle.gn_text.specs.Names.{AllDifferent, with_name as with_text}
 use Rattle.gn_values.specs.Val.{Val}
 use Rattle.gn_values.specs.Tables.{Table, with_name}
 use Rattle.gn_values.specs.Imported.{ScopeState}
-use Rattle.gn_environment.specs.Layers.{VariableState, ChainState}
+use Rattle.gn_environment.specs.Layers.{VariableState, ChainState, given_variable}
 use Rattle.gn_environment.specs.Templates.{in_block}
 use Rattle.gn_environment.specs.Giving.{variables_given, all_given}
 use Rattle.gn_environment.specs.Imports.{with_imported_calls}
@@ -69,20 +69,16 @@ module _ (names : List (List ℕ)) (different : AllDifferent names) where
     IsNumbered-with_key =
         subst (λ (x : List ℕ). IsNumbered names (with_name x a t)) (sym number.1) (IsNumbered-with_name names different (name_of names (key number.0)) number.0 (name_at names number.0 number.2) t numbered a)
 
-  -- a value that is given counts as read
-  abbrev read_value : Val → VariableState
-  read_value v = record { value = v; unread = None }
-
   given_named : (vs : Table Val) (t : Table VariableState) → AllByRecursion (λ e. IsNumber names e.0) vs → IsNumbered names t → variables_given (texted names vs) (named names t) ≡ named names (variables_given vs t)
   given_named [] t h numbered = refl
   given_named (e ∷ es) t h numbered =
-      ap (variables_given (texted names es)) (with_key e.0 h.0 t numbered (read_value e.1))
-      ∙ given_named es (with_name e.0 (read_value e.1) t) h.1 (IsNumbered-with_key e.0 h.0 t numbered (read_value e.1))
+      ap (variables_given (texted names es)) (with_key e.0 h.0 t numbered (given_variable e.1))
+      ∙ given_named es (with_name e.0 (given_variable e.1) t) h.1 (IsNumbered-with_key e.0 h.0 t numbered (given_variable e.1))
 
   given_numbered : (vs : Table Val) (t : Table VariableState) → AllByRecursion (λ e. IsNumber names e.0) vs → IsNumbered names t → IsNumbered names (variables_given vs t)
   given_numbered [] t h numbered = numbered
   given_numbered (e ∷ es) t h numbered =
-      given_numbered es (with_name e.0 (read_value e.1) t) h.1 (IsNumbered-with_key e.0 h.0 t numbered (read_value e.1))
+      given_numbered es (with_name e.0 (given_variable e.1) t) h.1 (IsNumbered-with_key e.0 h.0 t numbered (given_variable e.1))
 
 -- layers by numbers, before the table of names grew
 module _ (names longer : List (List ℕ)) (is : IsLonger names longer) (different : AllDifferent longer) (c : ChainState) (numbered : IsNumberedChain names c) where

@@ -1,5 +1,5 @@
 -- Layers by numbers, and by the names that these are the numbers of: each step does the same to both.
-use Rattle.std.proofs.Common.{◌≡◌, ℕ, Bool, true, false, if◌then◌else◌, List, [], ◌∷◌, ◌++◌, map, slice_get, Option, Some, None, option_map, Result, Ok, Err, IfOk, refl, sym, ap, ◌∙◌}
+use Rattle.std.proofs.Common.{◌≡◌, ℕ, Bool, true, false, if◌then◌else◌, List, [], ◌∷◌, ◌++◌, map, slice_get, Option, Some, None, Result, Ok, Err, IfOk, refl, sym, ap, ◌∙◌}
 use Rattle.std.specs.List.{list_any, AllByRecursion}
 use Rattle.std.specs.Str.{bytes_eq}
 use Rattle.gn_text.specs.Names.{AllDifferent}
@@ -10,8 +10,9 @@ use Rattle.gn_values.specs.Val.{Val}
 use Rattle.gn_values.specs.Tables.{Table}
 use Rattle.gn_values.specs.Assigning.{combined, element_assigned}
 use Rattle.gn_environment.specs.Layers.{VariableState, LayerState, ChainState, values_in}
-use Rattle.gn_environment.specs.Chains.{variable_in, set_in, nearest, variable_of, further_value, read_variable, read_of, read_in, read_through, marked, chain_value, chain_read, chain_read_of, chain_entered, chain_left, is_one_of, read_unless, all_read, all_read_but, chain_all_read}
-use Rattle.gn_environment.specs.Assigning.{replaces, replaces_nonempty, has_no_value, operator_refuses, base_has_no_value, element_refuses, unread_after, put, with_inner, overwritten_over, overwritten, put_result, copied_inwards, changed_at, changed_by, assigned, element_changed}
+use Rattle.gn_environment.specs.Chains.{variable_in, set_in, nearest, variable_of, further_value, shown_or, read_variable, read_of, read_in, read_through, marked, chain_variable, chain_read, chain_read_of, chain_entered, chain_left, is_one_of, read_unless, all_read, all_read_but, chain_all_read}
+use Rattle.gn_environment.specs.Declaring.{chain_declaring, declared_at, declared_of, declared_in}
+use Rattle.gn_environment.specs.Assigning.{replaces, replaces_nonempty, has_no_value, operator_refuses, base_has_no_value, element_refuses, assigned_variable, put, with_inner, overwritten_over, overwritten, put_result, copied_inwards, changed_at, changed_by, assigned, element_changed}
 use Rattle.gn_layers.specs.Named.{key, named, named_layer, named_chain, IsNumberedLayer, IsNumberedChain, all_read_but_named}
 use Rattle.gn_scopes.proofs.NamedTables.{named_longer, named-map, at_number, with_number, without_number, at_no_number, without_no_number, IsNumbered-empty, IsNumbered-longer, IsNumbered-map, IsNumbered-with_name, IsNumbered-without_name}
 
@@ -39,6 +40,12 @@ module _ (names : List (List ℕ)) where
 
   pub entered_numbered : (checked : Bool) (c : ChainState) → IsNumberedChain names c → IsNumberedChain names (chain_entered checked c)
   entered_numbered checked c numbered = record { different = numbered.different; inner = IsNumbered-empty names; outer = (numbered.inner, numbered.outer) }
+
+  pub named_declaring : (c : ChainState) → chain_declaring (named_chain names c) ≡ named_chain names (chain_declaring c)
+  named_declaring c = refl
+
+  pub declaring_numbered : (c : ChainState) → IsNumberedChain names c → IsNumberedChain names (chain_declaring c)
+  declaring_numbered c numbered = record { different = numbered.different; inner = IsNumbered-empty names; outer = (numbered.inner, numbered.outer) }
 
   pub named_left : (c : ChainState) → chain_left (named_chain names c) ≡ named_chain names (chain_left c)
   named_left c = left_by c.outer
@@ -167,6 +174,26 @@ module _ (names : List (List ℕ)) (different : AllDifferent names) (name : List
     read_through_numbered ls further h g (Some v) = (set_numbered (Some (read_variable v)), h)
     read_through_numbered ls further h g None = (numbered, g)
 
+    -- a call that gives the name, where the layer has this
+    declared_of_named : (position : Position) (o : Option VariableState) → declared_of name position (named_layer names l) o ≡ named_layer names (declared_of (key n) position l o)
+    declared_of_named position (Some v) = set_named (Some (declared_at position v))
+    declared_of_named position None = refl
+
+    declared_of_numbered : (position : Position) (o : Option VariableState) → IsNumberedLayer names (declared_of (key n) position l o)
+    declared_of_numbered position (Some v) = set_numbered (Some (declared_at position v))
+    declared_of_numbered position None = numbered
+
+    pub declared_named : (position : Position) → declared_in name position (named_layer names l) ≡ named_layer names (declared_in (key n) position l)
+    declared_named position =
+        elim l.declares as (λ b. (if b then declared_of name position (named_layer names l) (variable_in name (named_layer names l)) else named_layer names l) ≡ named_layer names (if b then declared_of (key n) position l (variable_in (key n) l) else l)) [
+          | true ↦ ap (declared_of name position (named_layer names l)) variable_named ∙ declared_of_named position (variable_in (key n) l)
+          | false ↦ refl
+        ]
+
+    pub declared_numbered : (position : Position) → IsNumberedLayer names (declared_in (key n) position l)
+    declared_numbered position =
+        elim l.declares as (λ b. IsNumberedLayer names (if b then declared_of (key n) position l (variable_in (key n) l) else l)) [ true ↦ declared_of_numbered position (variable_in (key n) l) | false ↦ numbered ]
+
   pub variable_of_named : (ls : List LayerState) → AllByRecursion (IsNumberedLayer names) ls → variable_of name (map (named_layer names) ls) ≡ variable_of (key n) ls
   variable_of_named [] numbered = refl
   variable_of_named (l ∷ ls) numbered = λ i. nearest (variable_named l numbered.0 i) (variable_of_named ls numbered.1 i)
@@ -184,10 +211,10 @@ module _ (names : List (List ℕ)) (different : AllDifferent names) (name : List
   module _ (l : LayerState) (numbered : IsNumberedLayer names l) (value : Val) (position : Position) where
     put_named : put name value position (named_layer names l) ≡ named_layer names (put (key n) value position l)
     put_named =
-        ap (λ (o : Option VariableState). set_in name (Some (record { value = value; unread = unread_after o position })) (named_layer names l)) (variable_named l numbered) ∙ set_named l numbered (Some (record { value = value; unread = unread_after (variable_in (key n) l) position }))
+        ap (λ (o : Option VariableState). set_in name (Some (assigned_variable l.declares o value position)) (named_layer names l)) (variable_named l numbered) ∙ set_named l numbered (Some (assigned_variable l.declares (variable_in (key n) l) value position))
 
     put_numbered : IsNumberedLayer names (put (key n) value position l)
-    put_numbered = set_numbered l numbered (Some (record { value = value; unread = unread_after (variable_in (key n) l) position }))
+    put_numbered = set_numbered l numbered (Some (assigned_variable l.declares (variable_in (key n) l) value position))
 
     overwritten_over_named : (o : Option VariableState) → overwritten_over name value position (named_layer names l) o ≡ layer_answer names (overwritten_over (key n) value position l o)
     overwritten_over_named (Some old) =
@@ -207,9 +234,9 @@ module _ (names : List (List ℕ)) (different : AllDifferent names) (name : List
     overwritten_numbered = overwritten_over_numbered (variable_in (key n) l)
 
   module _ (c : ChainState) (numbered : IsNumberedChain names c) where
-    pub chain_value_named : chain_value name (named_chain names c) ≡ chain_value (key n) c
-    unfolding chain_value
-    chain_value_named = ap (option_map (λ v. v.value)) (variable_of_named (c.inner ∷ c.outer) (numbered.inner, numbered.outer))
+    pub chain_variable_named : chain_variable name (named_chain names c) ≡ chain_variable (key n) c
+    unfolding chain_variable
+    chain_variable_named = variable_of_named (c.inner ∷ c.outer) (numbered.inner, numbered.outer)
 
     chain_read_of_named : (o : Option VariableState) → chain_read_of name (named_chain names c) o ≡ named_chain names (chain_read_of (key n) c o)
     chain_read_of_named (Some v) = same_chain (set_named c.inner numbered.inner (Some (read_variable v))) refl
@@ -249,7 +276,7 @@ module _ (names : List (List ℕ)) (different : AllDifferent names) (name : List
       copied_inwards_numbered None = tt
 
       further_named : further_value name (map (named_layer names) c.outer) beneath ≡ further_value (key n) c.outer beneath
-      further_named = ap (λ (o : Option VariableState). nearest (option_map (λ v. v.value) o) beneath) (variable_of_named c.outer numbered.outer)
+      further_named = ap (λ (o : Option VariableState). shown_or o beneath) (variable_of_named c.outer numbered.outer)
 
       changed_at_named : (o : Option VariableState) → changed_at absent refuses step name position beneath (named_chain names c) o ≡ named_answer names (changed_at absent refuses step (key n) position beneath c o)
       changed_at_named (Some old) =
@@ -312,6 +339,10 @@ module _ (names : List (List ℕ)) (name : List ℕ) (lacking : list_any (bytes_
     pub unset_lacking : set_in name None (named_layer names l) ≡ named_layer names l
     unset_lacking = with_variables l (without_no_number names name lacking l.variables numbered)
 
+    pub declared_lacking : (position : Position) → declared_in name position (named_layer names l) ≡ named_layer names l
+    declared_lacking position =
+        elim l.declares as (λ b. (if b then declared_of name position (named_layer names l) (variable_in name (named_layer names l)) else named_layer names l) ≡ named_layer names l) [ true ↦ ap (declared_of name position (named_layer names l)) variable_lacking | false ↦ refl ]
+
     pub read_lacking : read_in name (named_layer names l) ≡ named_layer names l
     read_lacking = ap (read_of name (named_layer names l)) variable_lacking
 
@@ -324,9 +355,9 @@ module _ (names : List (List ℕ)) (name : List ℕ) (lacking : list_any (bytes_
   marked_lacking (l ∷ ls) numbered = λ i. read_through name (named_layer names l) (map (named_layer names) ls) (variable_lacking l numbered.0 i) (marked_lacking ls numbered.1 i)
 
   module _ (c : ChainState) (numbered : IsNumberedChain names c) where
-    pub chain_value_lacking : chain_value name (named_chain names c) ≡ None
-    unfolding chain_value
-    chain_value_lacking = ap (option_map (λ v. v.value)) (variable_of_lacking (c.inner ∷ c.outer) (numbered.inner, numbered.outer))
+    pub chain_variable_lacking : chain_variable name (named_chain names c) ≡ None
+    unfolding chain_variable
+    chain_variable_lacking = variable_of_lacking (c.inner ∷ c.outer) (numbered.inner, numbered.outer)
 
     pub chain_read_lacking : chain_read name (named_chain names c) ≡ named_chain names c
     unfolding chain_read

@@ -15,7 +15,8 @@ use Rattle.gn_text.specs.Names.{AllDifferent}
 use Rattle.gn_values.specs.Tables.{Table, at_name, with_name, without_name, with_names}
 use Rattle.gn_environment.proofs.Names.{order, tied, not_lacking}
 use Rattle.gn_layers.specs.Named.{key, name_of, named, IsNumber, IsNumbered}
-use Rattle.gn_scopes.proofs.Entries.{first, second, insert_entry-all, remove_entry-all, is_sorted-insert_entry, lookup-insert_entry, lookup_behind, is_sorted-remove_entry, lookup-remove_entry, remove_entry_absent, same_by_lookup, is_sorted-map, map-all, insert_entry-map}
+use Rattle.gn_basics.proofs.Tests.{second_holds}
+use Rattle.gn_scopes.proofs.Entries.{first, insert_entry-all, remove_entry-all, is_sorted-insert_entry, lookup-insert_entry, lookup_behind, is_sorted-remove_entry, lookup-remove_entry, remove_entry_absent, same_by_lookup, is_sorted-map, map-all, insert_entry-map}
 
 -- a name ties with itself
 itself : (x : List ℕ) → order x x ≡ Equal
@@ -152,7 +153,7 @@ module _ {A : Type 0} (names : List (List ℕ)) where
   given_known : AllDifferent names → (q : List ℕ) (j : ℕ) → slice_get names j ≡ Some q → (t s : Table A) → AllByRecursion (λ e. IsNumber names e.0) t → T (is_sorted order t) → at_name q (with_names (pairs t) s) ≡ option_or (at_name (key j) t) (at_name q s)
   given_known different q j found [] s h g = refl
   given_known different q j found (e ∷ es) s h g =
-      given_known different q j found es (with_name (name_of names e.0) e.1 s) h.1 (second _ _ g)
+      given_known different q j found es (with_name (name_of names e.0) e.1 s) h.1 (second_holds _ _ g)
       ∙ ap (option_or (at_name (key j) es)) (at-with_name s (name_of names e.0) e.1 q ∙ ap (λ b. cond b (Some e.1) (at_name q s)) (ties names different q j found e.0 h.0))
       ∙ or_later (is_eq (order (key j) e.0)) (at_name (key j) es) (at_name q s) e.1 (λ p. lookup_behind order nat_list_cmp_total (key j) e.0 es ((Equal-is _).0 p) (first _ _ g))
 
@@ -174,7 +175,7 @@ named-from_pairs names t different numbered =
 given_in_order : {A : Type 0} (q : List ℕ) (es s : Table A) → T (is_sorted order es) → at_name q (with_names es s) ≡ option_or (at_name q es) (at_name q s)
 given_in_order q [] s h = refl
 given_in_order q (e ∷ es) s h =
-    given_in_order q es (with_name e.0 e.1 s) (second _ _ h)
+    given_in_order q es (with_name e.0 e.1 s) (second_holds _ _ h)
     ∙ ap (option_or (at_name q es)) (at-with_name s e.0 e.1 q)
     ∙ or_later (is_eq (order q e.0)) (at_name q es) (at_name q s) e.1 (λ p. lookup_behind order nat_list_cmp_total q e.0 es ((Equal-is _).0 p) (first _ _ h))
 

@@ -15,7 +15,8 @@ use Rattle.gn_layers.specs.Named.{key, name_of, named, texted, IsNumber, IsNumbe
 use Rattle.gn_environment.specs.Unread.{first_unread_of, earlier, unread_at}
 use Rattle.gn_environment.proofs.Earlier.{earlier_swap}
 use Rattle.gn_environment.proofs.Names.{by_order}
-use Rattle.gn_scopes.proofs.Entries.{first, second, lookup_behind}
+use Rattle.gn_basics.proofs.Tests.{second_holds}
+use Rattle.gn_scopes.proofs.Entries.{first, lookup_behind}
 use Rattle.gn_scopes.proofs.NamedTables.{name_at, at_number}
 
 -- a name that is new to a table
@@ -39,8 +40,8 @@ module _ (names : List (List ℕ)) (different : AllDifferent names) where
   all_unread : (t : Table VariableState) → AllByRecursion (λ e. IsNumber names e.0) t → T (is_sorted order t) → first_unread_of (texted names t) ≡ first_unread_of (named names t)
   all_unread [] h g = refl
   all_unread (e ∷ es) h g =
-      ap (earlier (unread_at (name_of names e.0) e.1.unread)) (all_unread es h.1 (second _ _ g))
-      ∙ sym (unread_with_new (name_of names e.0) e.1 (named names es) (other_name e.0 es h.0 (record { numbers = h.1; rise = second _ _ g }) (first _ _ g)))
+      ap (earlier (unread_at (name_of names e.0) e.1.unread)) (all_unread es h.1 (second_holds _ _ g))
+      ∙ sym (unread_with_new (name_of names e.0) e.1 (named names es) (other_name e.0 es h.0 (record { numbers = h.1; rise = second_holds _ _ g }) (first _ _ g)))
 
   pub named_unread : (t : Table VariableState) → IsNumbered names t → first_unread_of (texted names t) ≡ first_unread_of (named names t)
   named_unread t numbered = all_unread t numbered.numbers numbered.rise

@@ -2,6 +2,7 @@
 
 ghost use Rattle.std.specs.Prelude.{◌≡◌, OnOk, OnErr};
 ghost use Rattle.gn_environment.specs.Chains.{read_in, all_read};
+ghost use Rattle.gn_environment.specs.Declaring.{declared_in};
 ghost use Rattle.gn_environment.specs.Giving.{all_given};
 ghost use Rattle.gn_environment.specs.Imports.{with_imported_calls};
 ghost use Rattle.gn_environment.specs.Templates.{in_block};
@@ -11,6 +12,7 @@ ghost use Rattle.gn_layers.specs.View.{value_pairs};
 use crate::scopes::Scopes;
 use gn_layers::{Key, NameSet};
 use gn_text::Names;
+use gn_tree::Position;
 use gn_values::{KeptScope, Value};
 use std::alloc::{AllocError, Global};
 
@@ -20,6 +22,14 @@ impl Scopes {
         ensures { self.new ≡ in_block (read_in name.now) self.old }
     {
         let _found = self.inner.mark(name);
+    }
+
+    /// Declares a name of the innermost layer, if it has the name and declares names, at the position of the call that gave
+    /// it, unless it was declared before. It takes no memory.
+    pub(crate) fn declare(&mut self, name: &Key, position: Position)
+        ensures { self.new ≡ in_block (declared_in name.now position) self.old }
+    {
+        self.inner.declare(name, position);
     }
 
     /// A read of all names of the innermost layer. It takes no memory.

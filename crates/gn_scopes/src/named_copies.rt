@@ -11,7 +11,8 @@ ghost use Rattle.gn_environment.specs.Layers.{values_in};
 
 use crate::copies::keep_forwarded;
 use crate::named_scopes::NamedScopes;
-use gn_layers::{Laid, Layer, NameSet};
+use gn_layers::{Hides, Laid, Layer, NameSet};
+use gn_paths::Text;
 use gn_text::Names;
 use gn_values::{Bindings, Entry, KeptScope};
 use std::alloc::{AllocError, Global};
@@ -71,6 +72,22 @@ impl NamedScopes {
         let _len = lower.len();
         lay_layers(lower, alloc, &self.names, self.scopes.outer())?;
         lower.lay(alloc, &self.names, self.scopes.innermost())
+    }
+}
+
+// Names that the first layer that has them declares.
+impl Hides for NamedScopes {
+    ghost use Rattle.std.specs.Prelude.{◌∷◌};
+    ghost use Rattle.gn_environment.specs.Chains.{is_declared};
+
+    ghost hidden = { λ s name. is_declared name (s.inner ∷ s.outer) };
+
+    #[tactic(auto, unfolding(gn_environment::specs::Chains::chain_variable))]
+    fn hides(&self, name: &Text) -> bool {
+        match self.variable(name.as_bytes()) {
+            Some(variable) => variable.declared.is_some(),
+            None => false,
+        }
     }
 }
 

@@ -4,7 +4,9 @@ ghost use Rattle.std.specs.Prelude.{◌≡◌, [], OnOk, OnErr, IfErr, IfSome, E
 ghost use Rattle.gn_tree.specs.declared.position.Position.{Position};
 ghost use Rattle.gn_values.specs.View.{val_of};
 ghost use Rattle.gn_environment.specs.Assigning.{assigned, element_changed};
-ghost use Rattle.gn_environment.specs.Chains.{variable_in, set_in, chain_value, chain_read, chain_entered, chain_left};
+ghost use Rattle.gn_environment.specs.Declaring.{chain_declaring, declared_in, place_of};
+ghost use Rattle.gn_environment.specs.Templates.{in_block};
+ghost use Rattle.gn_environment.specs.Chains.{variable_in, set_in, chain_variable, chain_read, chain_entered, chain_left};
 ghost use Rattle.gn_layers.specs.Errors.{refusal_of, element_refusal_of};
 ghost use Rattle.gn_environment.specs.Layers.{empty_layer};
 ghost use Rattle.gn_layers.specs.View.{variable_state};
@@ -59,6 +61,14 @@ impl NamedScopes {
         self.scopes.enter(checked)
     }
 
+    /// Opens the scope of a block that declares arguments, in which nothing is set. After want of memory nothing is changed.
+    pub fn enter_declaring(&mut self) -> Result<(), AllocError>
+        ensures ok { OnOk result (self.new ≡ chain_declaring self.old) }
+        ensures err { OnErr result (self.new ≡ self.old) }
+    {
+        self.scopes.enter_declaring()
+    }
+
     /// Ends the innermost scope, and lets go of what it has; behind the outermost one an empty one begins, which isn't
     /// checked. It takes no memory.
     pub fn leave(&mut self)
@@ -77,7 +87,8 @@ impl NamedScopes {
         }
     }
 
-    /// The value of a name of the innermost layer. None comes exactly where that has nothing at it. It takes no memory.
+    /// The value of a name of the innermost layer, also of one that is declared. None comes exactly where that has nothing
+    /// at it. It takes no memory.
     pub fn value_here(&self, name: &Text) -> Option<&Value>
         ensures { option_map (λ v. val_of v.now) result
             ≡ option_map (λ v. v.value) (variable_in name.now self.now.inner) }
@@ -86,12 +97,30 @@ impl NamedScopes {
         self.scopes.innermost().value(&Key::new(number))
     }
 
-    /// The value of a name. None comes exactly where no layer has it. It takes no memory.
-    pub fn value(&self, name: &[u8]) -> Option<&Value>
-        ensures { option_map (λ v. val_of v.now) result ≡ chain_value name.now self.now }
+    /// Where a name of the innermost layer was declared. None comes exactly where it isn't declared there. It takes no memory.
+    pub fn declared_here(&self, name: &Text) -> Option<Position>
+        ensures { result ≡ place_of (variable_in name.now self.now.inner) }
+    {
+        let number = self.names.number(name.as_bytes())?;
+        self.scopes.innermost().declared(&Key::new(number))
+    }
+
+    /// What a name stands for in the first layer that has it. None comes exactly where no layer has it. It takes no memory.
+    pub fn variable(&self, name: &[u8]) -> Option<&Variable>
+        ensures { option_map (λ v. variable_state v.now) result ≡ chain_variable name.now self.now }
     {
         let number = self.names.number(name)?;
-        self.scopes.value(&Key::new(number))
+        self.scopes.variable(&Key::new(number))
+    }
+
+    /// Declares a name of the innermost layer, if it has the name and declares names, at the position of the call that gave
+    /// it, unless it was declared before. It takes no memory.
+    pub fn declare(&mut self, name: &Text, position: Position)
+        ensures { self.new ≡ in_block (declared_in name.now position) self.old }
+    {
+        if let Some(number) = self.names.number(name.as_bytes()) {
+            self.scopes.declare(&Key::new(number), position);
+        }
     }
 
     /// A read of a name that the layers may have. It takes no memory.

@@ -3,7 +3,7 @@
 ghost use Rattle.std.specs.Prelude.{◌≡◌, ◌++◌, [], ◌∷◌, IfOk, OnOk, OnErr, Some, None, true, map, codes};
 ghost use Rattle.gn_values.specs.Val.{vstr};
 ghost use Rattle.gn_environment.specs.Chains.{set_in};
-ghost use Rattle.gn_environment.specs.Layers.{empty_layer};
+ghost use Rattle.gn_environment.specs.Layers.{empty_layer, given_variable};
 ghost use Rattle.gn_environment.specs.Templates.{in_block, with_template, with_defaults};
 
 use crate::named_scopes::NamedScopes;
@@ -62,7 +62,7 @@ impl NamedScopes {
     pub fn enter_named(&mut self, alloc: Global, name: &Text) -> Result<(), AllocError>
         ensures ok { OnOk result
             (self.new ≡ record {
-              inner = set_in (codes "target_name") (Some (record { value = vstr name.now; unread = None }))
+              inner = set_in (codes "target_name") (Some (given_variable (vstr name.now)))
                   (empty_layer true);
               outer = self.old.inner ∷ self.old.outer;
             }) }
@@ -81,7 +81,7 @@ impl NamedScopes {
     /// One checked layer in which `target_name` is this name, and counts as read.
     pub fn named(alloc: Global, name: &Text) -> Result<NamedScopes, AllocError>
         ensures { IfOk result (λ scopes. scopes ≡ record {
-          inner = set_in (codes "target_name") (Some (record { value = vstr name.now; unread = None }))
+          inner = set_in (codes "target_name") (Some (given_variable (vstr name.now)))
               (empty_layer true);
           outer = [];
         }) }
@@ -96,17 +96,13 @@ impl NamedScopes {
     fn put_target_name(&mut self, alloc: Global, name: &Text) -> Result<(), AllocError>
         ensures ok { OnOk result
             (self.new ≡ record self.old {
-              inner = set_in (codes "target_name") (Some (record { value = vstr name.now; unread = None }))
+              inner = set_in (codes "target_name") (Some (given_variable (vstr name.now)))
                   self.old.inner;
             }) }
         ensures err { OnErr result (self.new ≡ self.old) }
     {
         let target_name = Text::from_bytes(alloc, b"target_name")?;
         let value = Value::Str(name.copy(alloc)?);
-        let variable = Variable {
-            value,
-            unread: None,
-        };
-        self.put(&target_name, variable)
+        self.put(&target_name, Variable::given(value))
     }
 }

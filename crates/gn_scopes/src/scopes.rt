@@ -4,7 +4,8 @@ ghost use types.Logic.{sem};
 ghost use Rattle.std.specs.Prelude.{◌≡◌, ◌≢◌, ℕ, [], OnOk, OnErr, IfOk, IfErr, IfSome, IfNone, Some, None, option_map};
 ghost use Rattle.gn_values.specs.View.{val_of};
 ghost use Rattle.gn_environment.specs.Layers.{empty_layer};
-ghost use Rattle.gn_environment.specs.Chains.{variable_in, set_in, variable_of, further_value, marked, IsFirstAt, chain_value, chain_read, chain_entered, chain_left};
+ghost use Rattle.gn_environment.specs.Chains.{variable_in, set_in, variable_of, further_value, marked, IsFirstAt, chain_variable, chain_value, chain_read, chain_entered, chain_left};
+ghost use Rattle.gn_environment.specs.Declaring.{chain_declaring};
 ghost use Rattle.gn_values.specs.Assigning.{combined, element_assigned};
 ghost use Rattle.gn_environment.specs.Assigning.{assigned, element_changed, changed_by, copied_inwards, put_and_read, has_no_value, operator_refuses, base_has_no_value, element_refuses};
 ghost use Rattle.gn_tree.specs.declared.position.Position.{Position};
@@ -78,6 +79,17 @@ impl Scopes {
         Ok(())
     }
 
+    /// Opens the scope of a block that declares arguments, in which nothing is set. After want of memory nothing is changed.
+    pub(crate) fn enter_declaring(&mut self) -> Result<(), AllocError>
+        ensures ok { OnOk result (self.new ≡ chain_declaring self.old) }
+        ensures err { OnErr result (self.new ≡ self.old) }
+    {
+        self.outer.reserve(1)?;
+        let inner = mem::replace(&mut self.inner, Layer::declaring(self.alloc));
+        self.outer.push_front_reserved(inner);
+        Ok(())
+    }
+
     /// Ends the innermost scope, and gives its layer; behind the outermost one an empty one begins, which isn't checked. It
     /// takes no memory.
     pub(crate) fn end(&mut self) -> Layer
@@ -147,32 +159,32 @@ impl Scopes {
         }
     }
 
-    /// The value of a name that is there.
-    #[tactic(auto, unfolding(gn_environment::specs::Chains::chain_value))]
+    /// What a read finds at a name that is there.
+    #[tactic(auto, unfolding(gn_environment::specs::Chains::chain_variable))]
     pub(crate) fn value_at(&self, name: &Key, found: Found) -> Option<&Value>
         requires { IsFound name.now self.now found }
         ensures { option_map (λ v. val_of v.now) result ≡ chain_value name.now self.now }
     {
         match found {
-            Found::Inner => self.inner.value(name),
-            Found::Outer(i) => self.outer[i].value(name),
+            Found::Inner => self.inner.shown(name),
+            Found::Outer(i) => self.outer[i].shown(name),
             Found::Nowhere => None,
         }
     }
 
-    /// The value of a name. None comes exactly where no layer has it. It takes no memory.
-    #[tactic(auto, unfolding(gn_environment::specs::Chains::chain_value))]
-    pub(crate) fn value(&self, name: &Key) -> Option<&Value>
-        ensures { option_map (λ v. val_of v.now) result ≡ chain_value name.now self.now }
+    /// What a name stands for in the first layer that has it. None comes exactly where no layer has it. It takes no memory.
+    #[tactic(auto, unfolding(gn_environment::specs::Chains::chain_variable))]
+    pub(crate) fn variable(&self, name: &Key) -> Option<&Variable>
+        ensures { option_map (λ v. variable_state v.now) result ≡ chain_variable name.now self.now }
     {
-        match self.inner.value(name) {
-            Some(value) => Some(value),
-            None => outer_value(&self.outer, name),
+        match self.inner.get(name) {
+            Some(variable) => Some(variable),
+            None => outer_variable(&self.outer, name),
         }
     }
 
     /// The value of the name with this number, which counts as read from then on. None comes exactly where no layer has
-    /// it. It takes no memory.
+    /// it, or where the first that has it declares it. It takes no memory.
     pub fn get(&mut self, name: Name) -> Option<&Value>
         ensures* read { sem 𝓛 (Ends the_row self.entry
             (λ chain. chain ≡ chain_read (key name) self.old)) }
@@ -183,8 +195,8 @@ impl Scopes {
         self.value_at(&name, found)
     }
 
-    // A copy of the value that a name has further out than in the innermost scope, where `beneath` is what it has
-    // beneath all layers.
+    // A copy of the value that a read finds at a name further out than in the innermost scope, where `beneath` is what it
+    // has beneath all layers.
     fn copy_of_outer(
         &self,
         alloc: Global,
@@ -194,12 +206,9 @@ impl Scopes {
         ensures { IfOk result (λ copy. option_map val_of copy
             ≡ further_value name.now self.now.outer (option_map (λ v. val_of v.now) beneath.entry)) }
     {
-        match outer_value(&self.outer, name) {
+        match outer_value(&self.outer, name, beneath) {
             Some(value) => Ok(Some(value.copy(alloc)?)),
-            None => match beneath {
-                Some(value) => Ok(Some(value.copy(alloc)?)),
-                None => Ok(None),
-            },
+            None => Ok(None),
         }
     }
 
@@ -430,11 +439,25 @@ fn mark_first(layers: &mut VecDeque<Layer>, name: &Key) -> Option<usize>
     Some(i)
 }
 
-// The value that the first of the layers that has a name has at it.
-fn outer_value<'a>(layers: &'a VecDeque<Layer>, name: &Key) -> Option<&'a Value>
-    ensures { option_map (λ v. val_of v.now) result
-        ≡ option_map (λ v. v.value) (variable_of name.now layers.now.items) }
+// What a name stands for in the first of the layers that has it.
+fn outer_variable<'a>(layers: &'a VecDeque<Layer>, name: &Key) -> Option<&'a Variable>
+    ensures { option_map (λ v. variable_state v.now) result ≡ variable_of name.now layers.now.items }
 {
     let i = find(layers, name)?;
-    layers[i].value(name)
+    layers[i].get(name)
+}
+
+// What a read finds in the first of the layers that has a name, where `beneath` is what it has beneath them.
+fn outer_value<'a>(
+    layers: &'a VecDeque<Layer>,
+    name: &Key,
+    beneath: Option<&'a Value>,
+) -> Option<&'a Value>
+    ensures { option_map (λ v. val_of v.now) result
+        ≡ further_value name.now layers.now.items (option_map (λ v. val_of v.now) beneath.entry) }
+{
+    match outer_variable(layers, name) {
+        Some(variable) => variable.shown(),
+        None => beneath,
+    }
 }

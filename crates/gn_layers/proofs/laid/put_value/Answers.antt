@@ -2,7 +2,8 @@ use Rattle.std.proofs.Common.{ap, ◌∙◌}
 use Rattle.gn_values.specs.View.{val_of}
 use Rattle.gn_values.specs.Tables.{with_name}
 use Rattle.gn_layers.specs.View.{value_pairs}
-use Rattle.gn_layers.proofs.Tables.{order, insert_entry-seen}
+use Rattle.gn_basics.proofs.Orders.{order}
+use Rattle.gn_basics.proofs.Tables.{insert_entry-seen}
 use Rattle.gn_layers.proofs.laid.put_value.Goals as goal
 
 pub returns : goal.returns

@@ -1,6 +1,6 @@
 use Rattle.std.proofs.Common.{◌≡◌, true, false, refl, sym, ◌∙◌, arith}
 use Rattle.gn_values.specs.View.{entry_of}
-use Rattle.gn_values.proofs.Mapped.{equal_more, unequal_at}
+use Rattle.gn_basics.proofs.Lists.{equal_more, unequal_at}
 use Rattle.gn_layers.proofs.layer_merge.same_bindings.Goals as goal
 
 pub loop-i-preserved : goal.loop-i-preserved

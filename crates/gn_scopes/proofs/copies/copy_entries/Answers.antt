@@ -1,6 +1,6 @@
 use Rattle.std.proofs.Common.{arith}
 use Rattle.gn_values.specs.View.{entry_of}
-use Rattle.gn_values.proofs.Mapped.{map_grown}
+use Rattle.gn_basics.proofs.Lists.{map_grown}
 use Rattle.gn_scopes.proofs.copies.copy_entries.Goals as goal
 
 pub loop-entry-preserved : goal.loop-entry-preserved

@@ -1,7 +1,8 @@
 use Rattle.std.proofs.Common.{sym, ◌∙◌, ap, option_map}
 use Rattle.gn_layers.specs.View.{variable_state}
 use Rattle.gn_environment.specs.Chains.{variable_in}
-use Rattle.gn_layers.proofs.Tables.{shown, variable_at}
+use Rattle.gn_basics.proofs.Results.{shown}
+use Rattle.gn_layers.proofs.Tables.{variable_at}
 use Rattle.gn_layers.proofs.layer.Layer.get.Goals as goal
 
 pub returns : goal.returns

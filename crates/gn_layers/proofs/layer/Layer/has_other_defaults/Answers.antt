@@ -1,8 +1,8 @@
 use Rattle.std.proofs.Common.{◌≡◌, Some, not, sym, ap, ◌∙◌}
 use Rattle.gn_values.specs.Val.{vscope, binds_of}
 use Rattle.gn_values.specs.Tables.{at_name}
-use Rattle.gn_values.proofs.Mapped.{same_scope}
-use Rattle.gn_values.proofs.Equality.{test_from_answer}
+use Rattle.gn_value_model.proofs.Items.{same_scope}
+use Rattle.gn_value_model.proofs.Equality.{test_from_answer}
 use Rattle.gn_environment.specs.Layers.{LayerState}
 use Rattle.gn_layers.proofs.layer.Layer.has_other_defaults.Goals as goal
 

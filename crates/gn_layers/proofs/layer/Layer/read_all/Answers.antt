@@ -13,6 +13,6 @@ returns c =
     let es = a.variables.entries in
     let kept : c.retain.new.self.entries ≡ map (λ (e : List ℕ × Variable). (e.0, read e.1)) es
     = rewritten _ (λ _ v. read v) _ (λ k v b w f t. search rules) es c.retain.new.self.entries c.retain.ensures.filtered in
-    ap (layer_with a.templates.entries a.defaults.entries a.checked) kept
-    ∙ ap (λ (vs : Table VariableState). record (layer_with a.templates.entries a.defaults.entries a.checked es) { variables = vs }) (all_seen es)
+    ap (layer_with a.templates.entries a.defaults.entries a.checked a.declares) kept
+    ∙ ap (λ (vs : Table VariableState). record (layer_with a.templates.entries a.defaults.entries a.checked a.declares es) { variables = vs }) (all_seen es)
     ∙ ap all_read c.self.view_is

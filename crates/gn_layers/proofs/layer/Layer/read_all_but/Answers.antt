@@ -15,6 +15,6 @@ returns c =
     let except = c.args.except.now in
     let kept : c.retain.new.self.entries ≡ map (λ (e : List ℕ × Variable). (e.0, read_but_named names except e.0 e.1)) es
     = rewritten _ (read_but_named names except) _ (λ k v b w f t. search rules) es c.retain.new.self.entries c.retain.ensures.filtered in
-    ap (layer_with a.templates.entries a.defaults.entries a.checked) kept
-    ∙ ap (λ (vs : Table VariableState). record (layer_with a.templates.entries a.defaults.entries a.checked es) { variables = vs }) (but_seen names except es)
+    ap (layer_with a.templates.entries a.defaults.entries a.checked a.declares) kept
+    ∙ ap (λ (vs : Table VariableState). record (layer_with a.templates.entries a.defaults.entries a.checked a.declares es) { variables = vs }) (but_seen names except es)
     ∙ ap (all_read_but_named names except) c.self.view_is

@@ -1,6 +1,6 @@
 use Rattle.std.proofs.Common.{Some, not, ap, ◌∙◌}
 use Rattle.gn_values.specs.View.{val_of}
-use Rattle.gn_values.proofs.Equality.{test_from_answer}
+use Rattle.gn_value_model.proofs.Equality.{test_from_answer}
 use Rattle.gn_scopes.proofs.OtherValues.{other_by_value}
 use Rattle.gn_scopes.proofs.named_scopes.NamedScopes.has_other_value.Goals as goal
 

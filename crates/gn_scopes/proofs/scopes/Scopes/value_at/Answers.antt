@@ -21,4 +21,4 @@ pub returns-in-Outer : goal.returns-in-Outer
 returns-in-Outer c =
     let a = c.self.inside in
     let at = found_there c.args.name.now (record { inner = a.inner; outer = a.outer.items }) _ _ c.in-Outer.i c.self.view_is c.in-Outer.is c.requires in
-    c.value-in-Outer.ensures ∙ found_outer c.args.name.now (record { inner = a.inner; outer = a.outer.items }) c.in-Outer.i c.index.result.now at c.index.ensures ∙ ap (chain_value c.args.name.now) c.self.view_is
+    c.shown-in-Outer.ensures ∙ found_outer c.args.name.now (record { inner = a.inner; outer = a.outer.items }) c.in-Outer.i c.index.result.now at c.index.ensures ∙ ap (chain_value c.args.name.now) c.self.view_is
