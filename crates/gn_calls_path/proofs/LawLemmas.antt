@@ -1,8 +1,9 @@
 -- Laws of the calls.
 use Rattle.std.specs.Prelude.{codes}
-use Rattle.std.proofs.Common.{◌≡◌, ℕ, ◌&&◌, ◌||◌, Bool, true, false, cond, List, [], ◌∷◌, ◌++◌, map, Option, Some, None, option_map, Result, Ok, Err, refl, sym, ap, ◌∙◌, subst}
+use Rattle.std.proofs.Common.{◌≡◌, ℕ, ◌||◌, Bool, true, false, cond, List, [], ◌∷◌, ◌++◌, Option, Some, None, option_map, Result, Ok, Err, refl, sym, ap, ◌∙◌, subst}
 use Rattle.std.specs.List.{list_all}
 use Rattle.std.proofs.lemmas.List.{append-nil}
+use Rattle.std.proofs.lemmas.Bool.{and_parts}
 use Rattle.gn_faults.specs.declared.code.Code.{Code}
 use Rattle.gn_faults.specs.declared.code.Code.TheVariants.{UnknownSubstitution}
 use Rattle.gn_labels.specs.declared.error.LabelFault.{LabelFault}
@@ -19,8 +20,8 @@ use Rattle.gn_substs.specs.Pieces.{name_from}
 use Rattle.gn_substs.specs.Reading.{subst_read}
 use Rattle.gn_values.specs.Val.{Val, Vals, vbool, vstr, vlist, vals_of, list_of}
 use Rattle.gn_values.specs.Limits.{text_fits, list_fits}
-use Rattle.gn_values.proofs.Mapped.{list_of-vals}
-use Rattle.gn_calls_text.specs.Answers.{Settled, gives, too_long, typed, text_answer, text_in, texts_in, texts_among}
+use Rattle.gn_value_model.proofs.Items.{list_of-vals}
+use Rattle.gn_calls_text.specs.Answers.{Settled, gives, too_long, typed, text_answer, text_in, texts_in}
 use Rattle.gn_calls_text.specs.Calls.{text_list}
 use Rattle.gn_calls_path.specs.declared.call.PathCall.TheVariants.{GetLabelInfo, GetPathInfo, LabelMatches, ProcessFileTemplate}
 use Rattle.gn_calls_path.specs.declared.names.PathInfo.{PathInfo}
@@ -90,19 +91,6 @@ label_matches_itself w text name one_of h = by (label_read w.directory w.toolcha
         ap (λ r. answer l (with_next (coded pattern_code r) (Ok []))) exact.1
         ∙ ap (λ b. gives (vbool (b || false))) exact.2.has
 
--- a list gives a list
-texts_back : (ts : List (List ℕ)) → texts_in (vlist (vals_of (text_list ts))) ≡ Some ts
-unfolding texts_in
-texts_back ts = ap texts_among (list_of-vals (text_list ts)) ∙ all ts
-  where
-    all : (ts : List (List ℕ)) → texts_among (map vstr ts) ≡ Some ts
-    all [] = refl
-    all (t ∷ ts) = ap (option_map (λ rest. t ∷ rest)) (all ts)
-
-both_true : (a b : Bool) → (a && b) ≡ true → (a ≡ true) × (b ≡ true)
-both_true true b h = (refl, h)
-both_true false b h = absurd cc
-
 each_alone : (made : List ℕ → Result (List ℕ) Code) (alone : Val → Settled) → ((t : List ℕ) → alone (vstr t) ≡ answer_each made (one t)) → (ts rs : List (List ℕ)) → each made ts ≡ Ok rs → list_all text_fits rs ≡ true → AreGivenAlone alone (text_list ts) (text_list rs)
 each_alone made alone same [] [] h fits = tt
 each_alone made alone same [] (r ∷ rs) h fits = absurd cc
@@ -112,7 +100,7 @@ each_alone made alone same (t ∷ ts) rs h fits = by (each_alone made alone same
         → (p : Result (List ℕ) Code) → made t ≡ p → (q : Result (List (List ℕ)) Code) → each made ts ≡ q → with_next p q ≡ Ok rs → AreGivenAlone alone (vstr t ∷ text_list ts) (text_list rs)
     by further (Ok x) e (Ok xs) f g =
         let is : x ∷ xs ≡ rs = cc in
-        let both = both_true (text_fits x) (list_all text_fits xs) (ap (list_all text_fits) is ∙ fits) in
+        let both = and_parts (text_fits x) (list_all text_fits xs) (ap (list_all text_fits) is ∙ fits) in
         subst (λ rs. AreGivenAlone alone (vstr t ∷ text_list ts) (text_list rs)) is
         (same t ∙ ap (λ r. read_at 0 r text_answer) e ∙ ap (λ b. cond b (gives (vstr x)) too_long) both.0, further xs f both.1)
     by further (Ok x) e (Err code) f g = absurd cc
@@ -130,9 +118,9 @@ listed_alone made alone same ts results h = by (each made ts) refl h
     by (Ok rs) e g = fit rs e (list_all text_fits rs) refl (list_fits (text_list rs)) g
     by (Err code) e g = absurd cc
 
-pub infos_alone : (w : Where) (texts : List (List ℕ)) (what : Val) (results : Vals) → path_call GetPathInfo w (vlist (vals_of (text_list texts)) ∷ what ∷ []) ≡ gives (vlist results) → AreGivenAlone (λ v. path_call GetPathInfo w (v ∷ what ∷ [])) (text_list texts) (list_of results)
+pub infos_alone : ((ts : List (List ℕ)) → texts_in (vlist (vals_of (text_list ts))) ≡ Some ts) → (w : Where) (texts : List (List ℕ)) (what : Val) (results : Vals) → path_call GetPathInfo w (vlist (vals_of (text_list texts)) ∷ what ∷ []) ≡ gives (vlist results) → AreGivenAlone (λ v. path_call GetPathInfo w (v ∷ what ∷ [])) (text_list texts) (list_of results)
 unfolding path_call
-infos_alone w texts what results h = by (text_in what) refl (sym (ap (λ p. typed 0 (option_map listed p) (λ given. asked (text_in what) given)) (texts_back texts)) ∙ h)
+infos_alone texts_back w texts what results h = by (text_in what) refl (sym (ap (λ p. typed 0 (option_map listed p) (λ given. asked (text_in what) given)) (texts_back texts)) ∙ h)
   where
     answer : Option PathInfo → OneOrList → Settled
     answer info given = taken info (λ i. answer_each (path_info_at w i) given)

@@ -15,7 +15,7 @@ use gn_values::Value;
 use std::alloc::Global;
 
 /// A built-in call on paths and labels.
-#[derive(Clone, Copy)]
+#[derive(Clone, Copy, Debug, PartialEq, Eq)]
 pub enum PathCall {
     /// `get_label_info(label, what)`: a part of a label, or a directory of it.
     GetLabelInfo,

@@ -18,6 +18,7 @@ ghost use Rattle.gn_calls_path.specs.Directories.{path_at};
 ghost use Rattle.gn_calls_path.specs.Rebase.{current_base_at};
 ghost use Rattle.gn_calls_path.specs.Laws.{AreGivenAlone};
 
+use gn_calls_text::texts_of_strings_are_the_texts;
 use gn_labels::a_pattern_without_a_star_is_a_label;
 use gn_paths::what_is_shown_leads_back;
 
@@ -42,12 +43,13 @@ pub fn a_label_matches_itself()
 }
 
 /// What `get_path_info` gives for a list of paths is, at each place, what it gives for the path alone.
-#[tactic(auto, using(crate::proofs::LawLemmas::infos_alone))]
 pub fn a_list_of_paths_is_told_one_by_one()
     ensures { (w : Where) (texts : List (List ℕ)) (what : Val) (results : Vals)
         → path_call GetPathInfo w (vlist (vals_of (text_list texts)) ∷ what ∷ []) ≡ gives (vlist results)
         → AreGivenAlone (λ v. path_call GetPathInfo w (v ∷ what ∷ [])) (text_list texts) (list_of results) }
-{}
+{
+    texts_of_strings_are_the_texts();
+}
 
 /// `process_file_template` with `{{source}}` alone gives what `get_path_info` gives for `abspath`.
 #[tactic(auto, using(crate::proofs::LawLemmas::source_is_abspath))]

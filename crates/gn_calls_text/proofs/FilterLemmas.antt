@@ -6,7 +6,7 @@ use Rattle.std.proofs.lemmas.List.Elements.{filter-append}
 use Rattle.gn_values.specs.Val.{vstr}
 use Rattle.gn_values.specs.Limits.{list_fits, max_items}
 use Rattle.gn_values.specs.declared.value.Value.{Value}
-use Rattle.gn_values.proofs.Among.{took_more}
+use Rattle.gn_basics.proofs.Lists.{took_more}
 use Rattle.gn_calls_text.specs.Calls.{text_list}
 use Rattle.gn_calls_text.specs.Kept.{keeps, kept_by, matches_some_parts}
 use Rattle.gn_calls_text.specs.declared.filters.Keep.{Keep}

@@ -1,41 +1,18 @@
--- What is above the limits stays so, whatever comes behind it.
-use Rattle.std.proofs.Common.{◌≡◌, ℕ, ◌+◌, ◌≤◌, Bool, true, false, cond, ◌<◌, List, [], ◌∷◌, ◌++◌, length, map, take, drop, get_or, Option, None, Result, Ok, Err, OnOk, IfErr, refl, sym, ap, ◌∙◌, subst, arith, length-append, append_assoc}
-use Rattle.std.proofs.lemmas.Bool.Decides.{nat_tests}
+-- What is above the limits is refused, and what is within them is made.
+use Rattle.std.proofs.Common.{◌≡◌, ℕ, ◌+◌, ◌≤◌, true, cond, ◌<◌, List, [], ◌∷◌, ◌++◌, length, map, take, drop, get_or, Option, None, Result, Ok, Err, OnOk, IfErr, refl, sym, ap, ◌∙◌, subst, arith, append_assoc}
 use Rattle.std.proofs.lemmas.List.{append-nil, take-append-drop}
 use Rattle.gn_values.specs.View.{val_of}
 use Rattle.gn_values.specs.declared.value.Value.{Value}
-use Rattle.gn_values.proofs.Among.{took_more}
+use Rattle.gn_basics.proofs.Lists.{took_more}
 use Rattle.gn_faults.specs.declared.code.Code.{Code}
 use Rattle.gn_faults.specs.declared.code.Code.TheVariants.{TooLong}
 use Rattle.gn_values.specs.Val.{Val, vstr, vlist, vals_of, list_depth}
 use Rattle.gn_values.specs.Limits.{text_fits, list_fits, max_items}
-use Rattle.gn_values.proofs.Depths.{deepest_item-append, list_fits-list}
+use Rattle.gn_value_model.proofs.Within.{list_fits-list, text_over, first_fit, list_over}
 use Rattle.gn_calls_text.specs.Answers.{gives, refuses, too_long, text_answer, list_answer}
 use Rattle.gn_calls_text.specs.Views.{Settles, IsOver}
 use Rattle.gn_calls_text.specs.declared.error.CallError.{CallError}
 use Rattle.gn_calls_text.specs.declared.error.CallError.TheVariants.{Refused, Memory}
-
-pub text_over : (a b : List ℕ) → text_fits a ≡ false → text_fits (a ++ b) ≡ false
-text_over a b h = let long = length-append a b in grind (arith, nat_tests)
-
-pub first_fit : (a b : List Val) → list_fits (a ++ b) ≡ true → list_fits a ≡ true
-first_fit a b h =
-    let long = length-append a b in
-    let deep = deepest_item-append a b in
-    grind (arith, nat_tests)
-
-pub last_fit : (a b : List Val) → list_fits (a ++ b) ≡ true → list_fits b ≡ true
-last_fit a b h =
-    let long = length-append a b in
-    let deep = deepest_item-append a b in
-    grind (arith, nat_tests)
-
-pub list_over : (a b : List Val) → list_fits a ≡ false → list_fits (a ++ b) ≡ false
-list_over a b h = by (list_fits (a ++ b)) refl
-  where
-    by : (v : Bool) → list_fits (a ++ b) ≡ v → v ≡ false
-    by false e = refl
-    by true e = sym (first_fit a b e) ∙ h
 
 refused : (code : Code) (argument : Option ℕ) → code ≡ TooLong → argument ≡ None → too_long ≡ refuses code argument
 refused code argument h g = λ i. refuses (sym h i) (sym g i)

@@ -6,7 +6,7 @@ use Rattle.std.proofs.lemmas.Slice.Eq.{starts_is}
 use Rattle.std.proofs.lemmas.Bool.Decides.{Decides-eqb}
 use Rattle.gn_values.specs.Val.{Val, Vals, vint, vstr, vlist, vals_of, list_of}
 use Rattle.gn_values.specs.Limits.{text_fits, list_fits}
-use Rattle.gn_values.proofs.Mapped.{list_of-vals}
+use Rattle.gn_value_model.proofs.Items.{list_of-vals}
 use Rattle.gn_calls_text.specs.declared.call.TextCall.TheVariants.{FilterInclude, FilterExclude, SplitList, StringJoin, StringSplit}
 use Rattle.gn_calls_text.specs.Answers.{Settled, gives, too_long, typed, text_answer, list_answer, texts_in, texts_among}
 use Rattle.gn_calls_text.specs.Calls.{text_call, text_list, list_list}

@@ -4,6 +4,8 @@ pub mod GrowthLemmas
 pub mod JoinLemmas
 pub mod CutLemmas
 pub mod WordLemmas
+pub mod LineLemmas
+pub mod TrimLemmas
 pub mod PartedLemmas
 pub mod FilterLemmas
 pub mod LawLemmas

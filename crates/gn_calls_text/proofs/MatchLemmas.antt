@@ -2,7 +2,7 @@
 use Rattle.std.proofs.Common.{◌≡◌, ◌↔◌, ◌⊎◌, ℕ, Bool, true, false, ◌||◌, ◌&&◌, ◌==◌, List, [], ◌∷◌, ◌++◌, refl, sym, ap, ◌∙◌, subst, inl, inr, ⊎_elim, append_assoc, true≢false, eq-eqb}
 use Rattle.std.specs.List.{concat}
 use Rattle.std.proofs.lemmas.List.{append-nil}
-use Rattle.std.proofs.lemmas.Bool.{eqb-true}
+use Rattle.std.proofs.lemmas.Bool.{eqb-true, and_parts, or_left, or_right}
 use Rattle.gn_calls_text.specs.declared.patterns.Part.{Part}
 use Rattle.gn_calls_text.specs.declared.patterns.Part.TheVariants.{Any, Boundary, Byte}
 use Rattle.gn_calls_text.specs.Patterns.{parts_of, matches_parts, matches, some_rest}
@@ -21,20 +21,9 @@ not_first (b ∷ before) c more = refl
 abbrev Pieces : List Part → List ℕ → List ℕ → Type 0
 Pieces parts before text = (pieces : List (List ℕ)) × ((concat pieces ≡ text) × StandFor parts before pieces)
 
-both : (a b : Bool) → (a && b) ≡ true → (a ≡ true) × (b ≡ true)
-both true b h = (refl, h)
-both false b h = absurd (true≢false (sym h))
-
 either : {P : Type 0} (a b : Bool) → (a || b) ≡ true → (a ≡ true → P) → (b ≡ true → P) → P
 either true b h f g = f refl
 either false b h f g = g h
-
-or_left : (a b : Bool) → a ≡ true → (a || b) ≡ true
-or_left a b h = ap (λ v. v || b) h
-
-or_right : (a b : Bool) → b ≡ true → (a || b) ≡ true
-or_right true b h = refl
-or_right false b h = h
 
 -- a test that passes behind some bytes
 found_rest : {P : Type 0} (test : Bool → List ℕ → Bool) (before text : List ℕ) → some_rest test (is_first before) text ≡ true → ((piece rest : List ℕ) → piece ++ rest ≡ text → test (is_first (before ++ piece)) rest ≡ true → P) → P
@@ -64,7 +53,7 @@ to_pieces (Any ∷ parts) before text h =
     (λ piece rest is passes. let p = to_pieces parts (before ++ piece) rest passes in (piece ∷ p.0, (ap (λ t. piece ++ t) p.1.0 ∙ is, (tt, p.1.1))))
 to_pieces (Byte b ∷ parts) before [] h = absurd (true≢false (sym h))
 to_pieces (Byte b ∷ parts) before (c ∷ more) h =
-    let g = both (c == b) (matches_parts parts false more) h in
+    let g = and_parts (c == b) (matches_parts parts false more) h in
     let p = to_pieces parts (before ++ c ∷ []) more (ap (λ v. matches_parts parts v more) (not_first before c []) ∙ g.1) in
     ((c ∷ []) ∷ p.0, (ap (λ t. c ∷ t) p.1.0, (ap (λ n. n ∷ []) (eqb-true c b g.0), p.1.1)))
 to_pieces (Boundary ∷ parts) before [] h =
@@ -72,10 +61,10 @@ to_pieces (Boundary ∷ parts) before [] h =
     ([] ∷ p.0, (p.1.0, (inr (refl, inr p.1.0), p.1.1)))
 to_pieces (Boundary ∷ parts) before (c ∷ more) h =
     either (is_first before && matches_parts parts (is_first before) (c ∷ more)) (c == 47 && matches_parts parts false more) h
-    (λ here. let g = both (is_first before) (matches_parts parts (is_first before) (c ∷ more)) here in
+    (λ here. let g = and_parts (is_first before) (matches_parts parts (is_first before) (c ∷ more)) here in
     let p = to_pieces parts (before ++ []) (c ∷ more) (ap (λ t. matches_parts parts (is_first t) (c ∷ more)) (append-nil before) ∙ g.1) in
     ([] ∷ p.0, (p.1.0, (inr (refl, inl (first_is_empty before g.0)), p.1.1))))
-    (λ slash. let g = both (c == 47) (matches_parts parts false more) slash in
+    (λ slash. let g = and_parts (c == 47) (matches_parts parts false more) slash in
     let p = to_pieces parts (before ++ c ∷ []) more (ap (λ v. matches_parts parts v more) (not_first before c []) ∙ g.1) in
     ((c ∷ []) ∷ p.0, (ap (λ t. c ∷ t) p.1.0, (inl (ap (λ n. n ∷ []) (eqb-true c 47 g.0)), p.1.1))))
 

@@ -9,9 +9,8 @@ use Rattle.gn_values.specs.Val.{Val, vlist, vals_of}
 use Rattle.gn_values.specs.View.{val_of}
 use Rattle.gn_values.specs.declared.value.Value.{Value}
 use Rattle.gn_values.specs.Limits.{list_fits, max_items}
-use Rattle.gn_values.proofs.Depths.{too_many}
+use Rattle.gn_value_model.proofs.Within.{too_many, first_fit, last_fit}
 use Rattle.gn_calls_text.specs.Answers.{gives, too_long}
-use Rattle.gn_calls_text.proofs.GrowthLemmas.{first_fit, last_fit}
 use Rattle.gn_calls_text.specs.Calls.{list_list, parts_answer}
 use Rattle.gn_calls_text.specs.Pieces.{first_length, lengths, lists_of, parted}
 

@@ -1,10 +1,11 @@
 -- Words for laws of the calls.
-use Rattle.std.specs.Prelude.{◌≡◌, ℕ, suc, ◌<◌, ◌≤◌, ◌/◌, ◌%◌, ◌⊎◌, List, [], ◌∷◌, ◌++◌, length, slice_index_or}
-use Rattle.std.specs.List.{flat_map, concat}
+use Rattle.std.specs.Prelude.{◌≡◌, ℕ, true, suc, ◌<◌, ◌≤◌, ◌/◌, ◌%◌, ◌⊎◌, List, [], ◌∷◌, ◌++◌, length, slice_index_or}
+use Rattle.std.specs.List.{flat_map, concat, list_all, prefix_len, suffix_len}
 use Rattle.gn_values.specs.Val.{Val}
 use Rattle.gn_calls_text.specs.declared.patterns.Part.{Part}
 use Rattle.gn_calls_text.specs.declared.patterns.Part.TheVariants.{Any, Boundary, Byte}
 use Rattle.gn_calls_text.specs.Calls.{list_list}
+use Rattle.gn_calls_text.specs.Pieces.{is_white_space}
 
 -- the third list has the items of the first two and no others, each list's in its order
 abbrev pub IsMerge : {A : Type 0} → List A → List A → List A → Type 0
@@ -38,3 +39,13 @@ StandFor (part ∷ parts) before (piece ∷ pieces) = StandsFor part before piec
 -- the text is made of pieces, one for each part of the pattern and what that part stands for
 abbrev pub IsMatch : List Part → List ℕ → Type 0
 IsMatch parts text = (pieces : List (List ℕ)) × ((concat pieces ≡ text) × StandFor parts [] pieces)
+
+-- what is left of a text between the white space before it and behind it: it neither begins nor ends with any
+pub record IsTrimmed (text left : List ℕ) : Type 0 where
+  pub before : List ℕ
+  pub behind : List ℕ
+  pub is : text ≡ before ++ (left ++ behind)
+  pub space_before : list_all is_white_space before ≡ true
+  pub space_behind : list_all is_white_space behind ≡ true
+  pub begins : prefix_len is_white_space left ≡ 0
+  pub ends : suffix_len is_white_space left ≡ 0

@@ -2,6 +2,7 @@ pub mod Answers
 pub mod Patterns
 pub mod Pieces
 pub mod Calls
+pub mod Conversions
 pub mod Rows
 pub mod Kept
 pub mod Views

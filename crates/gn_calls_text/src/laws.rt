@@ -1,13 +1,20 @@
 // Laws of the calls.
 
-ghost use Rattle.std.specs.Prelude.{◌≡◌, ◌↔◌, ℕ, pos, true, List, [], ◌∷◌};
-ghost use Rattle.gn_values.specs.Val.{Val, Vals, vint, vstr, vlist, list_of};
+ghost use Rattle.std.specs.Prelude.{◌≡◌, ◌↔◌, ℕ, pos, true, List, [], ◌∷◌, Some};
+ghost use Rattle.gn_values.specs.Val.{Val, Vals, vint, vstr, vlist, vals_of, list_of};
 ghost use Rattle.gn_values.specs.Limits.{text_fits};
 ghost use Rattle.gn_calls_text.specs.declared.call.TextCall.TheVariants.{FilterInclude, FilterExclude, SplitList, StringJoin, StringSplit};
-ghost use Rattle.gn_calls_text.specs.Answers.{gives};
-ghost use Rattle.gn_calls_text.specs.Calls.{text_call};
+ghost use Rattle.gn_calls_text.specs.Answers.{gives, texts_in};
+ghost use Rattle.gn_calls_text.specs.Calls.{text_call, text_list};
 ghost use Rattle.gn_calls_text.specs.Patterns.{parts_of, matches};
-ghost use Rattle.gn_calls_text.specs.Laws.{IsMerge, IsParted, IsMatch};
+ghost use Rattle.gn_calls_text.specs.Conversions.{trimmed};
+ghost use Rattle.gn_calls_text.specs.Laws.{IsMerge, IsParted, IsMatch, IsTrimmed};
+
+/// Texts that are a list of strings are the texts of that list.
+#[tactic(auto, using(crate::proofs::LawLemmas::texts_back))]
+pub fn texts_of_strings_are_the_texts()
+    ensures { (texts : List (List ℕ)) → texts_in (vlist (vals_of (text_list texts))) ≡ Some texts }
+{}
 
 /// A string that was split at a separator and is joined with it is that string again.
 #[tactic(auto, using(crate::proofs::LawLemmas::split_and_joined))]
@@ -41,4 +48,10 @@ pub fn filters_part_a_list()
 #[tactic(auto, using(crate::proofs::MatchLemmas::match_is))]
 pub fn patterns_match_by_pieces()
     ensures { (pattern text : List ℕ) → (matches pattern text ≡ true) ↔ IsMatch (parts_of pattern) text }
+{}
+
+/// What is left of a text that is trimmed stands in it between white space, and neither begins nor ends with any.
+#[tactic(auto, using(crate::proofs::TrimLemmas::is_trimmed))]
+pub fn trimming_takes_the_white_space_at_the_ends()
+    ensures { (text : List ℕ) → IsTrimmed text (trimmed text) }
 {}

@@ -201,14 +201,15 @@ fn split(alloc: Global, text: &[u8], separator: &[u8]) -> Result<Value, CallErro
     Ok(Value::List(pieces))
 }
 
-fn is_white_space(byte: u8) -> bool
+/// Whether a byte is white space.
+pub(crate) fn is_white_space(byte: u8) -> bool
     ensures { result ≡ is_white_space byte }
 {
     byte == b' ' || byte == b'\t' || byte == b'\r' || byte == b'\n'
 }
 
 /// Puts a run of bytes, if it has some, at the end of a list.
-fn push_run(alloc: Global, runs: &mut Items, run: &[u8]) -> Result<(), CallError>
+pub(crate) fn push_run(alloc: Global, runs: &mut Items, run: &[u8]) -> Result<(), CallError>
     requires { list_fits runs.old ≡ true }
     ensures ok { OnOk result
         (runs.new ≡ runs.old ++ text_list (filter is_filled (run.now ∷ []))) }

@@ -2,17 +2,13 @@
 use Rattle.std.proofs.Common.{◌≡◌, Option, Some, Result, Ok, Err, sym, ap, ◌∙◌, subst, arith}
 use Rattle.gn_items.specs.Effects.{Effects}
 use Rattle.gn_runs.specs.Runs.{Answers, Run}
-use Rattle.gn_runs.specs.Laws.{Below}
+use Rattle.gn_runs.proofs.TreeLaws.{below_itself}
 use Rattle.gn_environment.specs.Environment.{Environment}
 use Rattle.gn_meaning.specs.Steps.{Left, then_do}
 use Rattle.gn_eval.specs.Library.{LibraryState, Need, Includes, GoesOn}
 use Rattle.gn_eval.specs.Ends.{Covers, IsFailure}
 use Rattle.gn_eval.specs.declared.ending.EvalEnd.{EvalEnd}
 use Rattle.gn_eval.specs.declared.ending.EvalEnd.TheVariants.{Wrong, Spoiled, Stopped, Memory}
-
--- answers include themselves
-below_itself : (a : Answers) → Below a a
-below_itself a = record { contents = λ path y h. h; imports = λ path y h. h }
 
 -- answers that are told include what is told
 told_included : (told : Option Answers) (a : Answers) → told ≡ Some a → Includes told a

@@ -6,9 +6,9 @@ use Rattle.gn_environment.specs.Environment.{Environment}
 use Rattle.gn_meaning.specs.Steps.{Left, ends, then_do}
 use Rattle.gn_steps.specs.declared.step.StepEnd.{StepEnd}
 use Rattle.gn_steps.specs.declared.step.StepEnd.TheVariants as step
-use Rattle.gn_steps.specs.Ends.{IsStep}
+use Rattle.gn_steps.specs.Ends.{IsStep, IsStepFailure}
 use Rattle.gn_eval.specs.Library.{Need, LibraryState, Includes, GoesOn}
-use Rattle.gn_eval.specs.Ends.{lifted, Covers, IsFailure, IsRun, Claims, Evaluates}
+use Rattle.gn_eval.specs.Ends.{end_of_step, lifted, Covers, IsFailure, IsRun, Claims, Evaluates}
 use Rattle.gn_eval.specs.declared.ending.EvalEnd.{EvalEnd}
 use Rattle.gn_eval.specs.declared.ending.EvalEnd.TheVariants.{Wrong, Spoiled, Stopped, Memory}
 use Rattle.gn_eval.proofs.Covered.{covered, goes_on_further, then_failed}
@@ -35,6 +35,15 @@ pub step_claims : {A T : Type 0} (view : T → A) (state : LibraryState) (done :
 step_claims view state (Ok x) env out run h = record { runs = λ a told. h; goes = goes_on_still state; rose = λ e. cc }
 step_claims view state (Err (step.Wrong fault)) env out run h = record { runs = λ a told. h; goes = goes_on_still state; rose = λ e. cc }
 step_claims view state (Err step.Memory) env out run h = record { runs = λ a told. tt; goes = goes_on_still state; rose = λ e. cc }
+
+-- one that has failed
+end_claims : {A T : Type 0} (view : T → A) (state : LibraryState) (e : StepEnd) (env : Environment) (out : Effects) (run : Answers → Run (Left A)) → ((a : Answers) → IsStepFailure e out (run a)) → Evaluates view state state (Err (end_of_step e)) env out run
+end_claims view state (step.Wrong fault) env out run h = record { runs = λ a told. h a; goes = goes_on_still state; rose = λ e. cc }
+end_claims view state step.Memory env out run h = record { runs = λ a told. tt; goes = goes_on_still state; rose = λ e. cc }
+
+pub step_failed : {A T : Type 0} (view : T → A) (state : LibraryState) (e : StepEnd) (result : Result T EvalEnd) (env : Environment) (out : Effects) (run : Answers → Run (Left A)) → IsErrAnd result (λ y. y ≡ end_of_step e) → ((a : Answers) → IsStepFailure e out (run a)) → Evaluates view state state result env out run
+step_failed view state e (Ok x) env out run is h = absurd is
+step_failed view state e (Err y) env out run is h = subst (λ (z : EvalEnd). Evaluates view state state (Err z) env out run) (sym is) (end_claims view state e env out run h)
 
 -- what is claimed of a run is claimed of one that is the same
 pub same_claims : {A T : Type 0} (view : T → A) (before later : LibraryState) (result : Result T EvalEnd) (env : Environment) (out : Effects) (run other : Answers → Run (Left A)) → ((a : Answers) → run a ≡ other a) → Evaluates view before later result env out other → Evaluates view before later result env out run

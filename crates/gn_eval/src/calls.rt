@@ -23,8 +23,8 @@ use crate::special_calls::{run_defined, run_foreach};
 use crate::statements::run_statements;
 use gn_env::Env;
 use gn_faults::Code;
+use gn_functions::{Changing, Function, Plain};
 use gn_items::Outcome;
-use gn_meaning::{Changing, Function, Plain};
 use gn_paths::Text;
 use gn_steps::{
     Definer, Opened, Opener, accept, accept_template, apply_plain, begin_call, begins_with_invoker,

@@ -137,17 +137,9 @@ fn run_loop<L: Library + Definer>(
 {
     match list {
         Value::List(items) => {
+            let items = items.into_vec()?;
             let kept = env.put_aside(name);
-            run_rounds(
-                alloc,
-                level,
-                name,
-                items.into_vec(),
-                block,
-                env,
-                out,
-                library,
-            )?;
+            run_rounds(alloc, level, name, items, block, env, out, library)?;
             env.restore(alloc, name, kept)?;
             Ok(None)
         }

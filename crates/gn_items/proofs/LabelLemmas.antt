@@ -4,22 +4,16 @@ use Rattle.std.proofs.lemmas.List.Folds.{list_any-append}
 use Rattle.std.proofs.lemmas.Map.Text.{is_eq-slice_cmp}
 use Rattle.std.specs.List.{list_any}
 use Rattle.std.specs.Str.{bytes_eq}
-use Rattle.std.specs.Ordering.{nat_cmp, is_eq, ordering_then}
+use Rattle.std.specs.Ordering.{nat_cmp, is_eq}
 use Rattle.std.specs.Cmp.Lexicographic.{slice_cmp, nat_list_eq_equiv}
 use Rattle.std.specs.BTreeMap.{is_at}
 use Rattle.std.specs.BTreeSet.{BTreeSet, Updates}
-use Rattle.std.specs.declared.cmp.Ordering.{Ordering}
-use Rattle.std.specs.declared.cmp.Ordering.TheVariants.{Less, Equal, Greater}
+use Rattle.std.specs.Cmp.{tied_then}
 use Rattle.gn_labels.specs.declared.label.Label.{Label}
 use Rattle.gn_labels.specs.contracts.label.LabelOrd.TheImpl.{cmp-value}
 use Rattle.gn_items.specs.declared.item.Item.{Item}
 use Rattle.gn_items.specs.Effects.{same_label}
 use Rattle.gn_items.specs.Labels.{HasLabels}
-
-both_equal : (r s : Ordering) → is_eq (ordering_then r s) ≡ (is_eq r && is_eq s)
-both_equal Less s = refl
-both_equal Equal s = refl
-both_equal Greater s = refl
 
 text_tie : (s t : List ℕ) → is_eq (slice_cmp nat_cmp s t) ≡ bytes_eq t s
 text_tie s t = is_eq-slice_cmp s t ∙ nat_list_eq_equiv.symm s t
@@ -27,8 +21,8 @@ text_tie s t = is_eq-slice_cmp s t ∙ nat_list_eq_equiv.symm s t
 -- the order of labels finds no difference exactly between equal ones
 tie : (k q : Label) → is_at (cmp-value.it k) q ≡ same_label q k
 tie k q =
-    both_equal _ _
-    ∙ (λ i. text_tie k.dir q.dir i && (both_equal (slice_cmp nat_cmp k.name q.name) (slice_cmp nat_cmp k.toolchain q.toolchain) ∙ (λ j. text_tie k.name q.name j && text_tie k.toolchain q.toolchain j)) i)
+    sym (tied_then _ _)
+    ∙ (λ i. text_tie k.dir q.dir i && (sym (tied_then (slice_cmp nat_cmp k.name q.name) (slice_cmp nat_cmp k.toolchain q.toolchain)) ∙ (λ j. text_tie k.name q.name j && text_tie k.toolchain q.toolchain j)) i)
 
 one_more : (b a : Bool) → cond b true a ≡ (a || (b || false))
 one_more true true = refl

@@ -1,12 +1,10 @@
 -- The name of an execution tells its key.
-use Rattle.std.proofs.Common.{◌≡◌, ℕ, zero, suc, ◌==◌, false, if◌then◌else◌, List, [], ◌∷◌, ◌++◌, length, replicate, Option, Some, None, refl, sym, ◌∙◌, ap, arith, true≢false}
+use Rattle.std.proofs.Common.{◌≡◌, ℕ, zero, suc, ◌==◌, false, if◌then◌else◌, List, [], ◌∷◌, ◌++◌, length, replicate, Some, refl, sym, ◌∙◌, ap, arith, true≢false}
+use Rattle.std.proofs.lemmas.Option.{same_Some}
 use Rattle.gn_items.specs.declared.key.Key.{Key}
 use Rattle.gn_items.specs.declared.key.Key.TheVariants.{Read, Import, Setup, Load, Resolve}
 use Rattle.gn_items.specs.declared.key.When.TheVariants.{Early, Usual}
-use Rattle.gn_items.specs.Names.{name_spelled, setup_name, load_name, import_letter, import_name, execution_name}
-
-some_same : {A : Type 0} (x y : A) → Some x ≡ Some y → x ≡ y
-some_same x y h = cc
+use Rattle.gn_items.specs.Names.{name_spelled, setup_name, load_name, import_name, execution_name}
 
 head_same : (x y : ℕ) (s t : List ℕ) → x ∷ s ≡ y ∷ t → x ≡ y
 head_same x y s t h = cc
@@ -61,10 +59,10 @@ record Parts (key : Key) (name : List ℕ) : Type 0 where
 parts_of : (key : Key) (name : List ℕ) → execution_name key ≡ Some name → Parts key name
 unfolding setup_name load_name import_name
 parts_of (Read path) name h = absurd (cc h)
-parts_of (Import Early toolchain path) name h = record { letter = 69; toolchain = toolchain; path = path; is_letter = refl; spelling = some_same _ _ h; key_is = refl }
-parts_of (Import Usual toolchain path) name h = record { letter = 85; toolchain = toolchain; path = path; is_letter = refl; spelling = some_same _ _ h; key_is = refl }
-parts_of (Setup toolchain) name h = record { letter = 83; toolchain = toolchain; path = []; is_letter = refl; spelling = some_same _ _ h; key_is = refl }
-parts_of (Load directory toolchain) name h = record { letter = 76; toolchain = toolchain; path = directory; is_letter = refl; spelling = some_same _ _ h; key_is = refl }
+parts_of (Import Early toolchain path) name h = record { letter = 69; toolchain = toolchain; path = path; is_letter = refl; spelling = same_Some _ _ h; key_is = refl }
+parts_of (Import Usual toolchain path) name h = record { letter = 85; toolchain = toolchain; path = path; is_letter = refl; spelling = same_Some _ _ h; key_is = refl }
+parts_of (Setup toolchain) name h = record { letter = 83; toolchain = toolchain; path = []; is_letter = refl; spelling = same_Some _ _ h; key_is = refl }
+parts_of (Load directory toolchain) name h = record { letter = 76; toolchain = toolchain; path = directory; is_letter = refl; spelling = same_Some _ _ h; key_is = refl }
 parts_of (Resolve label) name h = absurd (cc h)
 
 pub names_differ : (a b : Key) (name : List ℕ) → execution_name a ≡ Some name → execution_name b ≡ Some name → a ≡ b

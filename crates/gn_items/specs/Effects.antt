@@ -6,15 +6,17 @@ use Rattle.std.specs.Prelude.{◌&&◌}
 use Rattle.gn_labels.specs.declared.label.Label.{Label}
 use Rattle.gn_runs.specs.Runs.{Question}
 use Rattle.gn_items.specs.declared.item.Item.{Item}
+use Rattle.gn_items.specs.declared.written.Written.{Written}
 
--- the items, the lines printed and the questions asked, each in order
+-- the items, the lines printed, the files written and the questions asked, each in order. A path may be written more than once: then the last file counts
 pub record Effects : Type 0 where
   pub items : List Item
   pub prints : List (List ℕ)
+  pub written : List Written
   pub asked : List Question
 
 abbrev pub no_effects : Effects
-no_effects = record { items = []; prints = []; asked = [] }
+no_effects = record { items = []; prints = []; written = []; asked = [] }
 
 -- whether two labels are equal
 abbrev pub same_label : Label → Label → Bool
@@ -31,6 +33,10 @@ with_item item effects = record effects { items = effects.items ++ item ∷ [] }
 -- one more line
 unfoldable pub with_print : List ℕ → Effects → Effects
 with_print line effects = record effects { prints = effects.prints ++ line ∷ [] }
+
+-- one more file
+unfoldable pub with_written : Written → Effects → Effects
+with_written file effects = record effects { written = effects.written ++ file ∷ [] }
 
 -- one more question
 abbrev pub with_asked : Question → Effects → Effects

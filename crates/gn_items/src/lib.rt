@@ -7,6 +7,7 @@ mod laws;
 mod names;
 mod outcome;
 mod question;
+mod written;
 
 pub use gn_rows::ItemKind;
 pub use item::Item;
@@ -15,3 +16,4 @@ pub use laws::executions_of_different_keys_differ;
 pub use names::{import_name, load_name};
 pub use outcome::Outcome;
 pub use question::Question;
+pub use written::Written;

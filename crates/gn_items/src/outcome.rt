@@ -1,20 +1,22 @@
 // What an execution leaves beside its variables.
 
 ghost use Rattle.std.specs.Prelude.{◌≡◌, OnOk, OnErr, map};
-ghost use Rattle.gn_items.specs.Effects.{no_effects, is_defined, with_item, with_print, with_asked};
+ghost use Rattle.gn_items.specs.Effects.{no_effects, is_defined, with_item, with_print, with_written, with_asked};
 ghost use Rattle.gn_items.specs.Questions.{question_of};
 ghost use Rattle.gn_runs.specs.Runs.{content_of, import_of};
 
 use crate::item::Item;
 use crate::question::Question;
+use crate::written::Written;
 use gn_labels::Label;
 use gn_paths::{Path, Text};
 use std::alloc::{AllocError, Global};
 use std::collections::BTreeSet;
 use std::marker::Model;
 
-/// What an execution leaves beside its variables: the items that it defines, the lines that it prints and the questions
-/// that it asks, each in order. Items of one label may stand in it twice; `has` tells in time whether a label is new.
+/// What an execution leaves beside its variables: the items that it defines, the lines that it prints, the files that it
+/// writes and the questions that it asks, each in order. Items of one label may stand in it twice; `has` tells in time whether
+/// a label is new. So may files of one path, of which the last counts.
 #[derive(Debug, Drop)]
 pub struct Outcome {
     alloc: Global,
@@ -22,6 +24,7 @@ pub struct Outcome {
     // The labels of the items.
     labels: BTreeSet<Label>,
     prints: Vec<Text>,
+    written: Vec<Written>,
     asked: Vec<Question>,
 }
 
@@ -35,13 +38,13 @@ impl Model for Outcome {
     ghost use Rattle.gn_items.specs.Labels.{HasLabels};
     ghost use Rattle.gn_items.specs.Questions.{question_of};
 
-    ghost view = { λ o. record { items = o.items.items; prints = o.prints.items; asked = map question_of o.asked.items } };
+    ghost view = { λ o. record { items = o.items.items; prints = o.prints.items; written = o.written.items; asked = map question_of o.asked.items } };
 
     ghost invariant = { λ o. HasLabels ⟦<Label as Ord>⟧.cmp o.labels o.items.items };
 }
 
 impl Outcome {
-    /// No items, no lines and no questions. It takes no memory.
+    /// No items, no lines, no files and no questions. It takes no memory.
     pub fn new(alloc: Global) -> Outcome
         ensures { result ≡ no_effects }
     {
@@ -50,6 +53,7 @@ impl Outcome {
             items: Vec::new(alloc),
             labels: BTreeSet::new(alloc),
             prints: Vec::new(alloc),
+            written: Vec::new(alloc),
             asked: Vec::new(alloc),
         }
     }
@@ -81,6 +85,16 @@ impl Outcome {
         ensures err { OnErr result (self.new ≡ self.old) }
     {
         self.prints.push(line)?;
+        Ok(())
+    }
+
+    /// Puts a file that is written behind the others. After want of memory nothing is changed, and the file is dropped.
+    #[tactic(auto, unfolding(crate::specs::Effects::with_written))]
+    pub fn write(&mut self, file: Written) -> Result<(), AllocError>
+        ensures ok { OnOk result (self.new ≡ with_written file self.old) }
+        ensures err { OnErr result (self.new ≡ self.old) }
+    {
+        self.written.push(file)?;
         Ok(())
     }
 
@@ -130,5 +144,12 @@ impl Outcome {
         ensures { result.now ≡ self.now.prints }
     {
         self.prints.as_slice()
+    }
+
+    /// The files written, in order. Of one path the last counts.
+    pub fn written(&self) -> &[Written]
+        ensures { result.now ≡ self.now.written }
+    {
+        self.written.as_slice()
     }
 }

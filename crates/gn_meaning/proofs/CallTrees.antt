@@ -8,17 +8,17 @@ use Rattle.gn_runs.specs.Runs.{Answers}
 use Rattle.gn_environment.specs.Templates.{template_of}
 use Rattle.gn_meaning.specs.Steps.{Steps}
 use Rattle.gn_meaning.specs.Imports.{max_import_nesting}
-use Rattle.gn_meaning.specs.Functions.{function_of}
-use Rattle.gn_meaning.specs.Rules.{takes, rule_of, template_rule}
+use Rattle.gn_functions.specs.Functions.{function_of}
+use Rattle.gn_functions.specs.Rules.{takes, rule_of, template_rule}
 use Rattle.gn_meaning.specs.ChangingCalls.{begins_with_invoker}
 use Rattle.gn_meaning.specs.OpeningCalls.{of_template, of_function}
 use Rattle.gn_meaning.specs.FunctionCalls.{allowed_here, ruled_runs, named_runs, accepted_runs, template_accepted_runs, Parts, given_runs, changing_runs, function_runs, built_in_runs, template_called_runs, template_or_built_in, called_runs}
-use Rattle.gn_meaning.specs.declared.rule.Rule.{Rule}
-use Rattle.gn_meaning.specs.declared.function.Function.{Function}
-use Rattle.gn_meaning.specs.declared.function.Function.TheVariants.{Plain, Changing as OfChanging, Opening, Defined, Foreach}
-use Rattle.gn_meaning.specs.declared.function.Changing.{Changing}
-use Rattle.gn_meaning.specs.declared.function.Named.{Named}
-use Rattle.gn_meaning.specs.declared.function.Named.TheVariants.{Function as OfFunction, Excluded, Unknown}
+use Rattle.gn_functions.specs.declared.rule.Rule.{Rule}
+use Rattle.gn_functions.specs.declared.function.Function.{Function}
+use Rattle.gn_functions.specs.declared.function.Function.TheVariants.{Plain, Changing as OfChanging, Opening, Defined, Foreach}
+use Rattle.gn_functions.specs.declared.function.Changing.{Changing}
+use Rattle.gn_functions.specs.declared.function.Named.{Named}
+use Rattle.gn_functions.specs.declared.function.Named.TheVariants.{Function as OfFunction, Excluded, Unknown}
 use Rattle.gn_meaning.proofs.Steps.{AreQuiet, AreTrees, tree_do, tree_ends, tree_fails, tree_if}
 use Rattle.gn_meaning.proofs.Templates.{opened_tree}
 use Rattle.gn_meaning.proofs.PlainTrees.{plain_tree}

@@ -6,10 +6,11 @@ use Rattle.gn_values.specs.Val.{Val}
 use Rattle.gn_meaning.specs.Arguments.{at_argument}
 use Rattle.gn_meaning.specs.Selections.{Source}
 use Rattle.gn_meaning.specs.ChangingCalls.{source_and_rest, forwarding_runs, unneeded_runs, importing_runs, defining_runs, changed_runs}
-use Rattle.gn_meaning.specs.declared.function.Changing.{Changing}
-use Rattle.gn_meaning.specs.declared.function.Changing.TheVariants.{Import, Template, ForwardVariablesFrom, NotNeeded}
+use Rattle.gn_functions.specs.declared.function.Changing.{Changing}
+use Rattle.gn_functions.specs.declared.function.Changing.TheVariants.{Import, Template, ForwardVariablesFrom, NotNeeded, ReadFile}
 use Rattle.gn_meaning.proofs.Steps.{AreQuiet, AreTrees, tree_fails}
 use Rattle.gn_meaning.proofs.Imports.{imported_tree}
+use Rattle.gn_meaning.proofs.Contents.{reading_tree}
 use Rattle.gn_meaning.proofs.Templates.{template_defined_tree}
 use Rattle.gn_meaning.proofs.Selections.{forwarded_tree, unneeded_one_tree, unneeded_two_tree, unneeded_three_tree}
 
@@ -43,3 +44,4 @@ changed_tree Import invoker vs call n env out = importing_tree vs call env out
 changed_tree Template invoker vs call n env out = defining_tree vs call.block call n env out
 changed_tree ForwardVariablesFrom invoker vs call n env out = forwarding_tree (source_and_rest invoker vs) call env out
 changed_tree NotNeeded invoker vs call n env out = unneeded_tree (source_and_rest invoker vs) call env out
+changed_tree ReadFile invoker vs call n env out = reading_tree vs call env out

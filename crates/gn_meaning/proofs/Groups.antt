@@ -23,15 +23,15 @@ use Rattle.gn_define.specs.Laws.{built_group}
 use Rattle.gn_define.specs.Reading.{then_do, unless, bytes_of, is_plain}
 use Rattle.gn_items.specs.declared.item.Item.{Item}
 use Rattle.gn_environment.specs.Environment.{Environment, value_of}
-use Rattle.gn_meaning.specs.Functions.{excluded_names, excluded_kinds, plain_of, other_function_of, plain_or_other, function_of, target_kind_of}
+use Rattle.gn_functions.specs.Functions.{excluded_names, excluded_kinds, plain_of, other_function_of, plain_or_other, function_of, target_kind_of}
 use Rattle.gn_meaning.specs.Items.{context_here, item_made, defined}
 use Rattle.gn_meaning.specs.ItemLaws.{may_be_strings, GroupsAreTheirDeps, CallsAreOfGroups, TargetsAreGroups}
-use Rattle.gn_meaning.specs.declared.function.Changing.TheVariants.{Import, Template, ForwardVariablesFrom, NotNeeded}
-use Rattle.gn_meaning.specs.declared.function.Function.TheVariants.{Changing, Opening, Defined, Foreach}
-use Rattle.gn_meaning.specs.declared.function.Named.TheVariants.{Function as OfFunction, Excluded, Unknown}
-use Rattle.gn_meaning.specs.declared.function.Opening.TheVariants.{Item as ItemCall, Target, SetDefaults}
-use Rattle.gn_meaning.specs.declared.function.Plain.{Plain as PlainCall}
-use Rattle.gn_meaning.specs.declared.function.TargetKind.TheVariants.{Built, NotBuilt, NoKind}
+use Rattle.gn_functions.specs.declared.function.Changing.TheVariants.{Import, Template, ForwardVariablesFrom, NotNeeded, ReadFile}
+use Rattle.gn_functions.specs.declared.function.Function.TheVariants.{Changing, Opening, Defined, Foreach}
+use Rattle.gn_functions.specs.declared.function.Named.TheVariants.{Function as OfFunction, Excluded, Unknown}
+use Rattle.gn_functions.specs.declared.function.Opening.TheVariants.{Item as ItemCall, Target, SetDefaults}
+use Rattle.gn_functions.specs.declared.function.Plain.{Plain as PlainCall}
+use Rattle.gn_functions.specs.declared.function.TargetKind.TheVariants.{Built, NotBuilt, NoKind}
 
 -- what the fold over the rows of a group gives, whatever its texts depend on
 abbrev RowsAreDeps : Type 0
@@ -67,30 +67,32 @@ unfolding defined block_defines
 groups_are rows name position env = by_name name position env rows (is_name name)
 
 -- by the name of a call
-called : (b1 b2 b3 b4 b5 b6 b7 b8 b9 b10 : Bool) (kind : ItemKind)
+called : (b1 b2 b3 b4 b5 b6 b7 b8 b9 b10 b11 : Bool) (kind : ItemKind)
     → (if b1 then OfFunction Defined else if b2 then OfFunction Foreach else if b3 then OfFunction (Opening (ItemCall Group))
     else if b4 then OfFunction (Changing Import) else if b5 then OfFunction (Changing Template) else if b6 then OfFunction (Opening Target)
     else if b7 then OfFunction (Opening SetDefaults) else if b8 then OfFunction (Changing ForwardVariablesFrom)
-    else if b9 then OfFunction (Changing NotNeeded) else if b10 then Excluded else Unknown)
+    else if b9 then OfFunction (Changing NotNeeded) else if b10 then OfFunction (Changing ReadFile) else if b11 then Excluded else Unknown)
     ≡ OfFunction (Opening (ItemCall kind)) → kind ≡ Group
-called true b2 b3 b4 b5 b6 b7 b8 b9 b10 kind h = absurd cc
-called false true b3 b4 b5 b6 b7 b8 b9 b10 kind h = absurd cc
-called false false true b4 b5 b6 b7 b8 b9 b10 kind h = cc
-called false false false true b5 b6 b7 b8 b9 b10 kind h = absurd cc
-called false false false false true b6 b7 b8 b9 b10 kind h = absurd cc
-called false false false false false true b7 b8 b9 b10 kind h = absurd cc
-called false false false false false false true b8 b9 b10 kind h = absurd cc
-called false false false false false false false true b9 b10 kind h = absurd cc
-called false false false false false false false false true b10 kind h = absurd cc
-called false false false false false false false false false true kind h = absurd cc
-called false false false false false false false false false false kind h = absurd cc
+called true b2 b3 b4 b5 b6 b7 b8 b9 b10 b11 kind h = absurd cc
+called false true b3 b4 b5 b6 b7 b8 b9 b10 b11 kind h = absurd cc
+called false false true b4 b5 b6 b7 b8 b9 b10 b11 kind h = cc
+called false false false true b5 b6 b7 b8 b9 b10 b11 kind h = absurd cc
+called false false false false true b6 b7 b8 b9 b10 b11 kind h = absurd cc
+called false false false false false true b7 b8 b9 b10 b11 kind h = absurd cc
+called false false false false false false true b8 b9 b10 b11 kind h = absurd cc
+called false false false false false false false true b9 b10 b11 kind h = absurd cc
+called false false false false false false false false true b10 b11 kind h = absurd cc
+called false false false false false false false false false true b11 kind h = absurd cc
+called false false false false false false false false false false true kind h = absurd cc
+called false false false false false false false false false false false kind h = absurd cc
 
 other_called : (name : List ℕ) (kind : ItemKind) → other_function_of name ≡ OfFunction (Opening (ItemCall kind)) → kind ≡ Group
 unfolding other_function_of
 other_called name kind h =
     called (bytes_eq name (codes "defined")) (bytes_eq name (codes "foreach")) (bytes_eq name (codes "group")) (bytes_eq name (codes "import"))
     (bytes_eq name (codes "template")) (bytes_eq name (codes "target")) (bytes_eq name (codes "set_defaults"))
-    (bytes_eq name (codes "forward_variables_from")) (bytes_eq name (codes "not_needed")) (list_any (bytes_eq name) excluded_names) kind h
+    (bytes_eq name (codes "forward_variables_from")) (bytes_eq name (codes "not_needed")) (bytes_eq name (codes "read_file"))
+    (list_any (bytes_eq name) excluded_names) kind h
 
 plain_or_called : (plain : Option PlainCall) (name : List ℕ) (kind : ItemKind)
     → plain_or_other plain name ≡ OfFunction (Opening (ItemCall kind)) → kind ≡ Group

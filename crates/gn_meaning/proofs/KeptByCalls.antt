@@ -13,17 +13,17 @@ use Rattle.gn_environment.proofs.Surroundings.{depth_again}
 use Rattle.gn_meaning.specs.Steps.{Left, Steps, max_evaluation_depth}
 use Rattle.gn_meaning.specs.Imports.{max_import_nesting}
 use Rattle.gn_meaning.specs.Templates.{opened_depth}
-use Rattle.gn_meaning.specs.Functions.{function_of}
-use Rattle.gn_meaning.specs.Rules.{takes, rule_of, template_rule}
+use Rattle.gn_functions.specs.Functions.{function_of}
+use Rattle.gn_functions.specs.Rules.{takes, rule_of, template_rule}
 use Rattle.gn_meaning.specs.ChangingCalls.{begins_with_invoker}
 use Rattle.gn_meaning.specs.OpeningCalls.{of_template, of_function}
 use Rattle.gn_meaning.specs.FunctionCalls.{allowed_here, ruled_runs, named_runs, accepted_runs, template_accepted_runs, Parts, given_runs, changing_runs, function_runs, built_in_runs, template_called_runs, template_or_built_in, called_runs}
-use Rattle.gn_meaning.specs.declared.function.Function.{Function}
-use Rattle.gn_meaning.specs.declared.function.Function.TheVariants.{Plain, Changing as OfChanging, Opening, Defined, Foreach}
-use Rattle.gn_meaning.specs.declared.function.Changing.{Changing}
-use Rattle.gn_meaning.specs.declared.function.Opening.TheVariants.{Item as ItemCall, Target, SetDefaults}
-use Rattle.gn_meaning.specs.declared.function.Named.{Named}
-use Rattle.gn_meaning.specs.declared.function.Named.TheVariants.{Function as OfFunction, Excluded, Unknown}
+use Rattle.gn_functions.specs.declared.function.Function.{Function}
+use Rattle.gn_functions.specs.declared.function.Function.TheVariants.{Plain, Changing as OfChanging, Opening, Defined, Foreach}
+use Rattle.gn_functions.specs.declared.function.Changing.{Changing}
+use Rattle.gn_functions.specs.declared.function.Opening.TheVariants.{Item as ItemCall, Target, SetDefaults}
+use Rattle.gn_functions.specs.declared.function.Named.{Named}
+use Rattle.gn_functions.specs.declared.function.Named.TheVariants.{Function as OfFunction, Excluded, Unknown}
 use Rattle.gn_meaning.proofs.Ends.{Ends, Leaves, Keep, ends_do, moved, keep_do, fails_so, so_if}
 use Rattle.gn_meaning.proofs.KeptBySteps.{plain_keeps}
 use Rattle.gn_meaning.proofs.KeptBySelections.{changed_keeps}

@@ -25,11 +25,11 @@ use Rattle.gn_meaning.specs.Steps.{Left, Steps, max_evaluation_depth}
 use Rattle.gn_meaning.specs.Items.{fields_here, rows_read, item_made, defined}
 use Rattle.gn_meaning.specs.Calls.{item_runs, item_end_runs, defaults_taken, scope_begun_runs}
 use Rattle.gn_meaning.specs.Templates.{opened_depth, invoker_checked, template_end_runs, is_build_file, is_inside, allows_items, defaults_end_runs}
-use Rattle.gn_meaning.specs.Functions.{target_kind_of}
+use Rattle.gn_functions.specs.Functions.{target_kind_of}
 use Rattle.gn_meaning.specs.OpeningCalls.{Opener, of_template, of_function, Opened, opened_item, opened_template, opened_defaults, template_begun_runs, item_begun_runs, template_named_runs, item_named_runs, target_kind_runs, target_of_runs, target_runs, defaults_begun_runs, begun_runs, closed_runs, opened_call_runs, valued_runs, opening_runs}
-use Rattle.gn_meaning.specs.declared.function.TargetKind.{TargetKind}
-use Rattle.gn_meaning.specs.declared.function.TargetKind.TheVariants.{Built, NotBuilt, NoKind}
-use Rattle.gn_meaning.specs.declared.function.Opening.TheVariants.{Item as ItemCall, Target, SetDefaults}
+use Rattle.gn_functions.specs.declared.function.TargetKind.{TargetKind}
+use Rattle.gn_functions.specs.declared.function.TargetKind.TheVariants.{Built, NotBuilt, NoKind}
+use Rattle.gn_functions.specs.declared.function.Opening.TheVariants.{Item as ItemCall, Target, SetDefaults}
 use Rattle.gn_meaning.proofs.Ends.{Ends, Leaves, Keep, ends_do, moved, keep_ends, fails_so, so_if}
 use Rattle.gn_meaning.proofs.KeptBySteps.{checked_leaves}
 
@@ -95,7 +95,7 @@ nothing_inside block.Tool r h = absurd (true≢false (sym h))
 nothing_inside block.Arguments r h = absurd (true≢false (sym h))
 
 pub nothing_open : (env : Environment) → allows_items env ≡ true → env.setting.inside ≡ block.Nothing
-nothing_open env h = nothing_inside env.setting.inside (is_build_file env.setting.context.kind) h
+nothing_open env h = nothing_inside env.setting.inside (is_build_file env.setting.kind) h
 
 target_kind_so : (s : Environment) (kind : TargetKind) (kind_name name : List ℕ) (call : Call) (env : Environment) (out : Effects) → surroundings env ≡ s → Ends (IsOpened s) (target_kind_runs kind kind_name name call env out)
 target_kind_so s (Built kind) kind_name name call env out b = by (allows_items env) refl

@@ -24,8 +24,9 @@ use Rattle.gn_meaning.specs.Arguments.{at_argument}
 use Rattle.gn_meaning.specs.Imports.{merged_to, content_runs, path_runs, imported_runs}
 use Rattle.gn_meaning.specs.Templates.{template_defined_runs}
 use Rattle.gn_meaning.specs.ChangingCalls.{source_and_rest, forwarding_runs, unneeded_runs, importing_runs, defining_runs, changed_runs}
-use Rattle.gn_meaning.specs.declared.function.Changing.{Changing}
-use Rattle.gn_meaning.specs.declared.function.Changing.TheVariants.{Import, Template, ForwardVariablesFrom, NotNeeded}
+use Rattle.gn_functions.specs.declared.function.Changing.{Changing}
+use Rattle.gn_functions.specs.declared.function.Changing.TheVariants.{Import, Template, ForwardVariablesFrom, NotNeeded, ReadFile}
+use Rattle.gn_meaning.proofs.Contents.{reading_keeps}
 use Rattle.gn_meaning.proofs.Ends.{Leaves, Keep, keep_do, keep_ends, fails_so, so_if, keep_asks_content, keep_asks_import}
 
 excepting_keeps : {A : Type 0} (names : Option (List (List ℕ))) (at : Position) (next : List (List ℕ) → Steps A) → ((except : List (List ℕ)) → Keep (next except)) → Keep (excepting_runs names at next)
@@ -175,3 +176,4 @@ changed_keeps a Import invoker vs call n env out = importing_keeps a vs call env
 changed_keeps a Template invoker vs call n env out = defining_keeps vs call.block call n env out
 changed_keeps a ForwardVariablesFrom invoker vs call n env out = forwarding_keeps (source_and_rest invoker vs) call env out
 changed_keeps a NotNeeded invoker vs call n env out = unneeded_keeps (source_and_rest invoker vs) call env out
+changed_keeps a ReadFile invoker vs call n env out = reading_keeps a vs call env out

@@ -11,7 +11,7 @@ use Rattle.gn_values.specs.declared.error.ValueError.{ValueError}
 use Rattle.gn_values.specs.declared.error.ElementError.{ElementError}
 use Rattle.gn_values.specs.declared.error.ElementError.TheVariants as element_error
 use Rattle.gn_values.specs.Limits.{list_fits, scope_fits, text_fits}
-use Rattle.gn_items.specs.Effects.{Effects, with_print}
+use Rattle.gn_items.specs.Effects.{Effects, with_print, with_written}
 use Rattle.gn_runs.specs.Runs.{Run}
 use Rattle.gn_environment.specs.Environment.{Environment, value_of, entries_here, entered, restored, given, variable_here, after_assignment, after_assignment_over, after_element_assignment, after_element_assignment_over}
 use Rattle.gn_environment.specs.Invoker.{names_invoker, is_invoker_here, invoker_entries, invoker_entry}
@@ -24,8 +24,8 @@ use Rattle.gn_environment.specs.Surroundings.{surroundings}
 use Rattle.gn_environment.proofs.Surroundings.{IsKept, read_keeps, assignment_keeps, assignment_over_keeps, element_keeps as element_assignment_keeps, element_over_keeps, left_keeps, restored_keeps, given_keeps}
 use Rattle.gn_environment.proofs.SurroundingsOfCalls.{invoker_entry_read_keeps, invoker_read_keeps}
 use Rattle.gn_meaning.specs.Calls.{has_entry_of, has_invoker_entry_runs, has_entry_runs, has_value_runs, turns_run, loop_runs, checked_end, call_value_runs}
-use Rattle.gn_meaning.specs.PlainCalls.{Settled, gives, gives_nothing, prints, refuses, refuses_values, answer, settled_runs, plain_runs}
-use Rattle.gn_meaning.specs.declared.function.Plain.{Plain}
+use Rattle.gn_meaning.specs.PlainCalls.{Settled, gives, gives_nothing, prints, writes, refuses, refuses_values, answer, settled_runs, plain_runs}
+use Rattle.gn_functions.specs.declared.function.Plain.{Plain}
 use Rattle.gn_meaning.proofs.Ends.{Leaves, Keep, moved, keep_do, keep_ends, fails_so, so_if}
 
 -- Values and names
@@ -214,13 +214,14 @@ unfolding call_value_runs
 call_value_keeps (Some v) p env out = keep_ends v env out refl
 call_value_keeps None p env out = fails_so _ out
 
-settled_keeps : (s : Settled) (call : Call) → Keep (settled_runs s call)
-unfolding settled_runs with_print
+pub settled_keeps : (s : Settled) (call : Call) → Keep (settled_runs s call)
+unfolding settled_runs with_print with_written
 settled_keeps (gives v) call env out = keep_ends _ env out refl
 settled_keeps gives_nothing call env out = keep_ends _ env out refl
 settled_keeps (prints line) call env out = keep_ends _ env _ refl
+settled_keeps (writes path bytes) call env out = keep_ends _ env _ refl
 settled_keeps (refuses c number detail) call env out = fails_so _ out
 settled_keeps refuses_values call env out = fails_so _ out
 
 pub plain_keeps : (f : Plain) (vs : List Val) (call : Call) → Keep (plain_runs f vs call)
-plain_keeps f vs call env out = settled_keeps (answer f vs) call env out
+plain_keeps f vs call env out = settled_keeps (answer f env.setting vs) call env out

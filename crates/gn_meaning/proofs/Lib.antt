@@ -12,6 +12,7 @@ pub mod Evaluations
 pub mod ImportTrees
 pub mod Ends
 pub mod KeptBySteps
+pub mod Contents
 pub mod KeptBySelections
 pub mod KeptByOpenings
 pub mod KeptByCalls
@@ -19,5 +20,4 @@ pub mod KeptByBlocks
 pub mod Lists
 pub mod SameRuns
 pub mod SameBlocks
-pub mod RowsOfCalls
 pub mod Groups

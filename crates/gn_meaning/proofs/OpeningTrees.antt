@@ -11,11 +11,11 @@ use Rattle.gn_environment.specs.Environment.{with_open}
 use Rattle.gn_environment.specs.Templates.{template_of, body_begins}
 use Rattle.gn_meaning.specs.Steps.{Steps}
 use Rattle.gn_meaning.specs.Templates.{allows_items}
-use Rattle.gn_meaning.specs.Functions.{target_kind_of}
+use Rattle.gn_functions.specs.Functions.{target_kind_of}
 use Rattle.gn_meaning.specs.OpeningCalls.{Opener, of_template, of_function, Opened, opened_item, opened_template, opened_defaults, template_begun_runs, item_begun_runs, template_named_runs, item_named_runs, target_kind_runs, target_of_runs, target_runs, defaults_begun_runs, begun_runs, body_run, closed_runs, opened_call_runs, valued_runs, opening_runs}
-use Rattle.gn_meaning.specs.declared.function.TargetKind.{TargetKind}
-use Rattle.gn_meaning.specs.declared.function.TargetKind.TheVariants.{Built, NotBuilt, NoKind}
-use Rattle.gn_meaning.specs.declared.function.Opening.TheVariants.{Item, Target, SetDefaults}
+use Rattle.gn_functions.specs.declared.function.TargetKind.{TargetKind}
+use Rattle.gn_functions.specs.declared.function.TargetKind.TheVariants.{Built, NotBuilt, NoKind}
+use Rattle.gn_functions.specs.declared.function.Opening.TheVariants.{Item, Target, SetDefaults}
 use Rattle.gn_meaning.proofs.Steps.{AreQuiet, AreTrees, tree_do, tree_ends, tree_fails, tree_if}
 use Rattle.gn_meaning.proofs.Calls.{scope_begun_tree, item_end_tree}
 use Rattle.gn_meaning.proofs.Templates.{opened_tree, template_end_tree, defaults_end_tree}

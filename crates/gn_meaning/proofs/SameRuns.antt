@@ -16,18 +16,18 @@ use Rattle.gn_environment.proofs.WithinBodies.{not_found_within}
 use Rattle.gn_meaning.specs.Steps.{Left, Steps, onward, then_do, max_evaluation_depth}
 use Rattle.gn_meaning.specs.Calls.{scope_begun_runs}
 use Rattle.gn_meaning.specs.Templates.{opened_depth, allows_items}
-use Rattle.gn_meaning.specs.Functions.{target_kind_of}
+use Rattle.gn_functions.specs.Functions.{target_kind_of}
 use Rattle.gn_meaning.specs.ChangingCalls.{begins_with_invoker, changed_runs}
 use Rattle.gn_meaning.specs.PlainCalls.{plain_runs}
 use Rattle.gn_meaning.specs.OpeningCalls.{Opener, of_template, of_function, Opened, opened_item, opened_template, opened_defaults, template_begun_runs, item_begun_runs, template_named_runs, item_named_runs, target_kind_runs, target_of_runs, target_runs, defaults_begun_runs, begun_runs, body_run, closed_runs, opened_call_runs, valued_runs, opening_runs}
 use Rattle.gn_meaning.specs.FunctionCalls.{accepted_runs, template_accepted_runs, Parts, given_runs, changing_runs, function_runs, built_in_runs, template_called_runs, template_or_built_in, called_runs}
 use Rattle.gn_meaning.specs.TemplateLaws.{AreTheSameBut}
-use Rattle.gn_meaning.specs.declared.function.Function.{Function}
-use Rattle.gn_meaning.specs.declared.function.Function.TheVariants.{Plain, Changing as OfChanging, Opening, Defined, Foreach}
-use Rattle.gn_meaning.specs.declared.function.Changing.{Changing}
-use Rattle.gn_meaning.specs.declared.function.Opening.TheVariants.{Item as ItemCall, Target, SetDefaults}
-use Rattle.gn_meaning.specs.declared.function.TargetKind.{TargetKind}
-use Rattle.gn_meaning.specs.declared.function.TargetKind.TheVariants.{Built, NotBuilt, NoKind}
+use Rattle.gn_functions.specs.declared.function.Function.{Function}
+use Rattle.gn_functions.specs.declared.function.Function.TheVariants.{Plain, Changing as OfChanging, Opening, Defined, Foreach}
+use Rattle.gn_functions.specs.declared.function.Changing.{Changing}
+use Rattle.gn_functions.specs.declared.function.Opening.TheVariants.{Item as ItemCall, Target, SetDefaults}
+use Rattle.gn_functions.specs.declared.function.TargetKind.{TargetKind}
+use Rattle.gn_functions.specs.declared.function.TargetKind.TheVariants.{Built, NotBuilt, NoKind}
 use Rattle.gn_meaning.proofs.Ends.{IfEnded, Ends, Leaves, Keep, ends_do, fails_so, so_if}
 use Rattle.gn_meaning.proofs.KeptByOpenings.{Before, During, IsOpened, begun_so, before_moved}
 use Rattle.gn_meaning.proofs.KeptByCalls.{IsReady, IsAccepted, PartsKeep, accepted_so, template_accepted_so}

@@ -17,16 +17,16 @@ use Rattle.gn_meaning.specs.Templates.{opened_runs, allows_items}
 use Rattle.gn_meaning.specs.PlainCalls.{plain_runs}
 use Rattle.gn_meaning.specs.ChangingCalls.{begins_with_invoker, changed_runs}
 use Rattle.gn_meaning.specs.OpeningCalls.{of_template, of_function, opening_runs}
-use Rattle.gn_meaning.specs.Functions.{function_of}
-use Rattle.gn_meaning.specs.Rules.{takes, rule_of, template_rule}
-use Rattle.gn_meaning.specs.declared.rule.Rule.{Rule}
-use Rattle.gn_meaning.specs.declared.rule.Allowed.{Allowed}
-use Rattle.gn_meaning.specs.declared.rule.Allowed.TheVariants.{Everywhere, WhereItems}
-use Rattle.gn_meaning.specs.declared.function.Function.{Function}
-use Rattle.gn_meaning.specs.declared.function.Function.TheVariants.{Plain, Changing as OfChanging, Opening, Defined, Foreach}
-use Rattle.gn_meaning.specs.declared.function.Changing.{Changing}
-use Rattle.gn_meaning.specs.declared.function.Named.{Named}
-use Rattle.gn_meaning.specs.declared.function.Named.TheVariants.{Function as OfFunction, Excluded, Unknown}
+use Rattle.gn_functions.specs.Functions.{function_of}
+use Rattle.gn_functions.specs.Rules.{takes, rule_of, template_rule}
+use Rattle.gn_functions.specs.declared.rule.Rule.{Rule}
+use Rattle.gn_functions.specs.declared.rule.Allowed.{Allowed}
+use Rattle.gn_functions.specs.declared.rule.Allowed.TheVariants.{Everywhere, WhereItems}
+use Rattle.gn_functions.specs.declared.function.Function.{Function}
+use Rattle.gn_functions.specs.declared.function.Function.TheVariants.{Plain, Changing as OfChanging, Opening, Defined, Foreach}
+use Rattle.gn_functions.specs.declared.function.Changing.{Changing}
+use Rattle.gn_functions.specs.declared.function.Named.{Named}
+use Rattle.gn_functions.specs.declared.function.Named.TheVariants.{Function as OfFunction, Excluded, Unknown}
 
 -- What is judged before the arguments
 

@@ -12,12 +12,12 @@ use Rattle.gn_define.specs.Reading.{is_plain}
 use Rattle.gn_items.specs.declared.item.Item.{Item}
 use Rattle.gn_environment.specs.Environment.{Environment, value_of, after_read}
 use Rattle.gn_environment.specs.Faults.{fault_in}
-use Rattle.gn_meaning.specs.Functions.{function_of, target_kind_of}
+use Rattle.gn_functions.specs.Functions.{function_of, target_kind_of}
 use Rattle.gn_meaning.specs.Items.{item_here, defined}
-use Rattle.gn_meaning.specs.declared.function.Function.TheVariants.{Opening}
-use Rattle.gn_meaning.specs.declared.function.Named.TheVariants.{Function as OfFunction}
-use Rattle.gn_meaning.specs.declared.function.Opening.TheVariants.{Item as ItemCall}
-use Rattle.gn_meaning.specs.declared.function.TargetKind.TheVariants.{Built}
+use Rattle.gn_functions.specs.declared.function.Function.TheVariants.{Opening}
+use Rattle.gn_functions.specs.declared.function.Named.TheVariants.{Function as OfFunction}
+use Rattle.gn_functions.specs.declared.function.Opening.TheVariants.{Item as ItemCall}
+use Rattle.gn_functions.specs.declared.function.TargetKind.TheVariants.{Built}
 
 -- whether a variable may be a list of strings: it has no value, or is one, whose strings have no newline and no NUL
 abbrev pub may_be_strings : Option Val → Bool

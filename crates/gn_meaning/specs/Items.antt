@@ -1,7 +1,6 @@
 -- What the end of an item's block defines, by the rows of its kind.
 use Rattle.std.specs.Prelude.{ℕ, Bool, true, false, List, [], ◌∷◌, Option, Some, None, Result, Ok, Err}
 use Rattle.gn_tree.specs.declared.position.Position.{Position}
-use Rattle.gn_paths.specs.Components.{two_slashes}
 use Rattle.gn_values.specs.Val.{Val, vstr}
 use Rattle.gn_labels.specs.declared.label.Label.{Label}
 use Rattle.gn_labels.specs.Labels.{printed}
@@ -36,9 +35,9 @@ item_here setting kind name position = record {
   place = record { file = setting.file; line = position.line; column = position.column };
 }
 
--- where an item is defined. An evaluation knows no build directory yet, for which the source root stands: no row that is built asks for one
+-- where an item is defined. The build directory stands for the output directory of the toolchain: no row that is built asks for one
 abbrev pub context_here : Setting → ItemKind → Where
-context_here setting kind = record { kind = kind; directory = setting.directory; toolchain = setting.context.toolchain; build = two_slashes; out = two_slashes }
+context_here setting kind = record { kind = kind; directory = setting.directory; toolchain = setting.context.toolchain; build = setting.context.build_directory; out = setting.context.build_directory }
 
 -- the fields of the item whose block has ended, by what is built of its kind, or its first fault: the name is judged first, then each row in order
 abbrev pub fields_here : ItemKind → List ℕ → Environment → Result (List (Variable × Held)) ItemFault

@@ -1,6 +1,4 @@
 pub mod Steps
-pub mod Functions
-pub mod Rules
 pub mod Words
 pub mod Items
 pub mod Arguments
@@ -10,6 +8,7 @@ pub mod Pieces
 pub mod Templates
 pub mod Selections
 pub mod Imports
+pub mod Contents
 pub mod ChangingCalls
 pub mod OpeningCalls
 pub mod FunctionCalls

@@ -14,11 +14,11 @@ use Rattle.gn_meaning.specs.Words.{fails_at}
 use Rattle.gn_meaning.specs.Arguments.{at_argument, refused_runs}
 use Rattle.gn_meaning.specs.Calls.{scope_begun_runs, item_end_runs}
 use Rattle.gn_meaning.specs.Templates.{opened_runs, template_end_runs, allows_items, defaults_end_runs}
-use Rattle.gn_meaning.specs.Functions.{target_kind_of}
-use Rattle.gn_meaning.specs.declared.function.TargetKind.{TargetKind}
-use Rattle.gn_meaning.specs.declared.function.TargetKind.TheVariants.{Built, NotBuilt, NoKind}
-use Rattle.gn_meaning.specs.declared.function.Opening.{Opening}
-use Rattle.gn_meaning.specs.declared.function.Opening.TheVariants.{Item, Target, SetDefaults}
+use Rattle.gn_functions.specs.Functions.{target_kind_of}
+use Rattle.gn_functions.specs.declared.function.TargetKind.{TargetKind}
+use Rattle.gn_functions.specs.declared.function.TargetKind.TheVariants.{Built, NotBuilt, NoKind}
+use Rattle.gn_functions.specs.declared.function.Opening.{Opening}
+use Rattle.gn_functions.specs.declared.function.Opening.TheVariants.{Item, Target, SetDefaults}
 
 -- which call opens a scope: that of a template, before which the evaluation was so deep, or that of a function
 pub data Opener : Type 0 where

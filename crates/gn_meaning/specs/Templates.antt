@@ -51,7 +51,7 @@ is_inside Nothing = false
 is_inside _ = true
 
 abbrev pub allows_items : Environment → Bool
-allows_items env = if is_inside env.setting.inside then false else is_build_file env.setting.context.kind
+allows_items env = if is_inside env.setting.inside then false else is_build_file env.setting.kind
 
 -- `set_defaults`: its block has run in a scope of its own, which ends
 unfoldable pub defaults_end_runs : List ℕ → Steps (Option Val)

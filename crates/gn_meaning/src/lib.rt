@@ -2,21 +2,15 @@
 #![tactic(auto)]
 
 mod block_laws;
-mod function;
 mod item_laws;
 mod laws;
-mod rule;
-mod rule_laws;
 
 pub use block_laws::{
     bodies_never_call_their_templates, evaluations_leave_their_surroundings,
     lists_are_the_values_of_their_items,
 };
-pub use function::{Changing, Function, Named, Opening, Plain, TargetKind};
 pub use item_laws::{groups_alone_are_called, groups_are_their_deps};
 pub use laws::{
     evaluations_are_trees, evaluations_depend_on_what_they_ask, evaluations_stop_at_answers,
     more_answers_keep_evaluations,
 };
-pub use rule::{Allowed, Rule};
-pub use rule_laws::rows_are_of_their_calls;

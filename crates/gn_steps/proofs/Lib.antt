@@ -1,4 +1,3 @@
 pub mod Gathered
-pub mod Lists
 pub mod Positions
 pub mod Texts

@@ -1,6 +1,6 @@
 -- Where a text is forgotten that is too long, its string is too long once all pieces have their texts.
-use Rattle.std.proofs.Common.{◌≡◌, ℕ, Bool, true, false, List, [], ◌∷◌, ◌++◌, Option, Some, None, refl, sym, ap, ◌∙◌, arith, length-append}
-use Rattle.std.proofs.lemmas.Bool.Decides.{nat_tests}
+use Rattle.std.proofs.Common.{◌≡◌, ℕ, Bool, true, false, List, [], ◌∷◌, ◌++◌, Option, Some, None, refl, sym, ap, ◌∙◌}
+use Rattle.gn_value_model.proofs.Within.{text_over}
 use Rattle.gn_tree.specs.declared.position.Position.{Position}
 use Rattle.gn_tree.specs.declared.piece.Piece.{Piece}
 use Rattle.gn_values.specs.Val.{Val, vstr}
@@ -14,15 +14,12 @@ use Rattle.gn_meaning.specs.Words.{fails_at, string_runs}
 use Rattle.gn_meaning.specs.Pieces.{piece_runs, pieces_run}
 use Rattle.gn_steps.specs.Texts.{within, lengthened, pieces_added}
 
-over_stays : (a b : List ℕ) → text_fits a ≡ false → text_fits (a ++ b) ≡ false
-over_stays a b h = let long = length-append a b in grind (arith, nat_tests)
-
 lengthened_within : (text more : List ℕ) → lengthened (within text) more ≡ within (text ++ more)
 lengthened_within text more = by (text_fits text) refl
   where
     by : (b : Bool) → text_fits text ≡ b → lengthened (within text) more ≡ within (text ++ more)
     by true h = rw h refl
-    by false h = rw (h, over_stays text more h) refl
+    by false h = rw (h, text_over text more h) refl
 
 -- the string of a text, or its fault where it was forgotten
 abbrev pub finished : Position → Option (List ℕ) → Steps Val

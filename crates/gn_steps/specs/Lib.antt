@@ -4,5 +4,6 @@ pub mod Texts
 pub mod Selected
 pub mod Resolved
 pub mod Answers
+pub mod Contents
 pub mod Evaluated
 pub mod Openings

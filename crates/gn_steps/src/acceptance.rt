@@ -4,7 +4,7 @@ ghost use Rattle.std.specs.Prelude.{◌≡◌, is_some};
 ghost use Rattle.gn_tree.specs.Counts.{expr_count};
 ghost use Rattle.gn_items.specs.Effects.{Effects};
 ghost use Rattle.gn_meaning.specs.FunctionCalls.{allowed_here, ruled_runs, accepted_runs, template_accepted_runs};
-ghost use Rattle.gn_meaning.specs.Rules.{takes, rule_of};
+ghost use Rattle.gn_functions.specs.Rules.{takes, rule_of};
 ghost use Rattle.gn_steps.specs.Ends.{IsStep};
 
 use crate::arguments::refuse;
@@ -15,7 +15,7 @@ use crate::step::StepEnd;
 use crate::templates::open_call;
 use gn_env::Env;
 use gn_faults::Code;
-use gn_meaning::{Allowed, Function, Named, Rule};
+use gn_functions::{Allowed, Function, Named, Rule};
 use gn_tree::Call;
 use std::alloc::Global;
 

@@ -13,7 +13,7 @@ use crate::faults::wrong_with;
 use crate::step::StepEnd;
 use gn_env::Env;
 use gn_faults::Code;
-use gn_meaning::Changing;
+use gn_functions::Changing;
 use gn_tree::{Call, Expr, Position};
 use std::alloc::Global;
 
@@ -51,7 +51,7 @@ fn takes_invoker(changing: Changing) -> bool
     ensures { result ≡ takes_invoker changing }
 {
     match changing {
-        Changing::Import | Changing::Template => false,
+        Changing::Import | Changing::Template | Changing::ReadFile => false,
         Changing::ForwardVariablesFrom | Changing::NotNeeded => true,
     }
 }

@@ -32,7 +32,7 @@ pub fn make_list(
 }
 
 // These values as the items of a list.
-#[tactic(auto, using(crate::proofs::Lists::fits_less))]
+#[tactic(auto, using(gn_value_model::proofs::Within::list_over))]
 fn gathered(alloc: Global, values: Vec<Value>) -> Result<Items, ValueError>
     ensures ok { IfOk result (λ items. (items ≡ map val_of values.items) × (list_fits (map val_of values.items) ≡ true)) }
     ensures err { IfErr result (λ e. e ≢ ValueError.Memory → (e ≡ ValueError.TooLong) × (list_fits (map val_of values.items) ≡ false)) }

@@ -30,8 +30,8 @@ pub fn place_here(alloc: Global, position: Position, env: &Env) -> Result<Place,
     })
 }
 
-// The code of a text that means no path.
-fn path_code(fault: PathFault) -> Code
+/// The code of a text that means no path.
+pub(crate) fn path_code(fault: PathFault) -> Code
     ensures { result ≡ path_code fault }
 {
     match fault {

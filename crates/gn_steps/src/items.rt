@@ -63,7 +63,7 @@ pub(crate) fn begin_item(
 pub(crate) fn allows_items(env: &Env) -> bool
     ensures { result ≡ allows_items env.now }
 {
-    !is_inside(env.open_block()) && is_build_file(env.context().kind)
+    !is_inside(env.open_block()) && is_build_file(env.kind())
 }
 
 fn is_inside(block: OpenBlock) -> bool

@@ -5,7 +5,7 @@ ghost use Rattle.gn_items.specs.Effects.{Effects};
 ghost use Rattle.gn_values.specs.View.{val_of};
 ghost use Rattle.gn_environment.specs.Templates.{template_of};
 ghost use Rattle.gn_meaning.specs.OpeningCalls.{of_function, template_begun_runs, item_begun_runs, template_named_runs, item_named_runs, target_kind_runs, target_of_runs, target_runs, defaults_begun_runs, begun_runs, closed_runs};
-ghost use Rattle.gn_meaning.specs.Functions.{target_kind_of};
+ghost use Rattle.gn_functions.specs.Functions.{target_kind_of};
 ghost use Rattle.gn_steps.specs.Ends.{IsStep};
 ghost use Rattle.gn_steps.specs.Openings.{opener_view, opened_view};
 
@@ -17,8 +17,8 @@ use crate::step::StepEnd;
 use crate::templates::{end_defaults, end_template, open_call};
 use gn_env::Env;
 use gn_faults::Code;
+use gn_functions::{Opening, TargetKind};
 use gn_items::{ItemKind, Outcome};
-use gn_meaning::{Opening, TargetKind};
 use gn_paths::Text;
 use gn_tree::{Call, Position};
 use gn_values::{Definition, Value};

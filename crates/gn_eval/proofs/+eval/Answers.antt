@@ -136,8 +136,8 @@ calls::run_call-returns-in-None g t c =
 pub expressions::apply-returns-after-left : goal.expressions::apply-returns-after-left
 expressions::apply-returns-after-left g t c = record { runs = search rules; goes = search rules; rose = search rules }
 
-pub expressions::apply-returns-after-left-3 : goal.expressions::apply-returns-after-left-3
-expressions::apply-returns-after-left-3 g t c = record { runs = search rules; goes = search rules; rose = search rules }
+pub expressions::apply-returns-after-left-5 : goal.expressions::apply-returns-after-left-5
+expressions::apply-returns-after-left-5 g t c = record { runs = search rules; goes = search rules; rose = search rules }
 
 pub expressions::eval_values-returns-in_err-value : goal.expressions::eval_values-returns-in_err-value
 expressions::eval_values-returns-in_err-value g t c =

@@ -1,6 +1,6 @@
 use Rattle.std.proofs.Common.{arith}
 use Rattle.std.proofs.lemmas.Grind.{common_steps}
-use Rattle.gn_values.proofs.Mapped.{list_of-vals}
+use Rattle.gn_value_model.proofs.Items.{list_of-vals}
 use Rattle.gn_calls_text.specs.Answers.{texts_in}
 use Rattle.gn_calls_text.proofs.ArgumentLemmas.{all_texts, not_all_texts}
 use Rattle.gn_calls_text.proofs.arguments.texts_of.Goals as goal

@@ -1,4 +1,4 @@
-use Rattle.gn_values.proofs.Equality.{test_from_answer}
+use Rattle.gn_value_model.proofs.Equality.{test_from_answer}
 use Rattle.gn_steps.proofs.operators.equal.Goals as goal
 
 pub returns : goal.returns

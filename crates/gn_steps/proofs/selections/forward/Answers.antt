@@ -1,6 +1,6 @@
 use Rattle.std.proofs.Common.{arith}
 use Rattle.std.proofs.lemmas.Grind.{common_steps}
-use Rattle.gn_values.proofs.Mapped.{entries_of-binds}
+use Rattle.gn_value_model.proofs.Items.{entries_of-binds}
 use Rattle.gn_meaning.specs.Selections.{forwarded_runs}
 use Rattle.gn_steps.proofs.selections.forward.Goals as goal
 

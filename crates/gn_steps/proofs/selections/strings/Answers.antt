@@ -1,6 +1,6 @@
 use Rattle.std.proofs.Common.{arith}
 use Rattle.std.proofs.lemmas.Grind.{common_steps}
-use Rattle.gn_values.proofs.Mapped.{list_of-vals}
+use Rattle.gn_value_model.proofs.Items.{list_of-vals}
 use Rattle.gn_meaning.specs.Selections.{strings_of}
 use Rattle.gn_steps.proofs.selections.strings.Goals as goal
 

@@ -1,9 +1,10 @@
 // What is judged of a call before its arguments.
 
 ghost use Rattle.std.specs.Prelude.{◌≡◌, Some, None};
-ghost use Rattle.gn_meaning.specs.Rules.{rule_of, template_rule, takes, without_block, with_block};
+ghost use Rattle.gn_functions.specs.Rules.{rule_of, template_rule, takes, without_block, with_block};
 
 use crate::function::{Changing, Function, Opening, Plain};
+use gn_calls_path::PathCall;
 use gn_calls_text::TextCall;
 
 /// Where a function may be called.
@@ -66,12 +67,20 @@ impl Function {
         match self {
             Function::Plain(Plain::Assert) => without_block(1, Some(2)),
             Function::Plain(Plain::Print) => without_block(1, None),
+            Function::Plain(Plain::WriteFile) => without_block(2, Some(2)),
             Function::Plain(Plain::Text(TextCall::FilterExclude)) => without_block(2, Some(2)),
             Function::Plain(Plain::Text(TextCall::FilterInclude)) => without_block(2, Some(2)),
             Function::Plain(Plain::Text(TextCall::SplitList)) => without_block(2, Some(2)),
             Function::Plain(Plain::Text(TextCall::StringJoin)) => without_block(2, Some(2)),
             Function::Plain(Plain::Text(TextCall::StringReplace)) => without_block(3, Some(4)),
             Function::Plain(Plain::Text(TextCall::StringSplit)) => without_block(1, Some(2)),
+            Function::Plain(Plain::Path(PathCall::GetLabelInfo)) => without_block(2, Some(2)),
+            Function::Plain(Plain::Path(PathCall::GetPathInfo)) => without_block(2, Some(2)),
+            Function::Plain(Plain::Path(PathCall::LabelMatches)) => without_block(2, Some(2)),
+            Function::Plain(Plain::Path(PathCall::ProcessFileTemplate)) => {
+                without_block(2, Some(2))
+            }
+            Function::Plain(Plain::Path(PathCall::RebasePath)) => without_block(1, Some(3)),
             Function::Changing(Changing::Import) => Rule {
                 least: 1,
                 most: Some(1),
@@ -82,6 +91,7 @@ impl Function {
             Function::Changing(Changing::Template) => with_block(1, Allowed::Everywhere),
             Function::Changing(Changing::ForwardVariablesFrom) => without_block(2, Some(3)),
             Function::Changing(Changing::NotNeeded) => without_block(1, Some(3)),
+            Function::Changing(Changing::ReadFile) => without_block(2, Some(2)),
             Function::Opening(Opening::Item(_)) => with_block(1, Allowed::WhereItems),
             Function::Opening(Opening::Target) => with_block(2, Allowed::Everywhere),
             Function::Opening(Opening::SetDefaults) => with_block(1, Allowed::Everywhere),

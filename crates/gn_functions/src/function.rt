@@ -3,23 +3,28 @@
 ghost use Rattle.std.specs.Prelude.{◌≡◌};
 ghost use Rattle.std.specs.List.{list_any};
 ghost use Rattle.std.specs.Str.{bytes_eq};
-ghost use Rattle.gn_meaning.specs.Functions.{excluded_names, excluded_kinds, plain_of, other_function_of, function_of, target_kind_of};
+ghost use Rattle.gn_functions.specs.Functions.{excluded_names, excluded_kinds, plain_of, other_function_of, function_of, target_kind_of};
 
+use gn_calls_path::PathCall;
 use gn_calls_text::TextCall;
 use gn_items::ItemKind;
 
-/// A function that needs nothing but the values of its arguments.
+/// A function that needs nothing but the values of its arguments and where it stands.
 #[derive(Clone, Copy, Debug, PartialEq, Eq)]
 pub enum Plain {
     /// `assert`
     Assert,
     /// `print`
     Print,
+    /// `write_file`
+    WriteFile,
     /// A call on texts and lists.
     Text(TextCall),
+    /// A call on paths and labels.
+    Path(PathCall),
 }
 
-/// A function that needs the values of its arguments and changes where it stands.
+/// A function that needs the values of its arguments and changes where it stands, or asks for the content of a file.
 #[derive(Clone, Copy, Debug, PartialEq, Eq)]
 pub enum Changing {
     /// `import`
@@ -30,6 +35,8 @@ pub enum Changing {
     ForwardVariablesFrom,
     /// `not_needed`
     NotNeeded,
+    /// `read_file`
+    ReadFile,
 }
 
 /// A function that opens a scope, in which its block runs.
@@ -46,9 +53,9 @@ pub enum Opening {
 /// A function of the language.
 #[derive(Clone, Copy, Debug, PartialEq, Eq)]
 pub enum Function {
-    /// A function that needs nothing but the values of its arguments.
+    /// A function that needs nothing but the values of its arguments and where it stands.
     Plain(Plain),
-    /// A function that needs the values of its arguments and changes where it stands.
+    /// A function that needs the values of its arguments and changes where it stands, or asks for the content of a file.
     Changing(Changing),
     /// A function that opens a scope, in which its block runs.
     Opening(Opening),
@@ -81,7 +88,7 @@ pub enum TargetKind {
 }
 
 // The functions of GN that are left out: those that the profile leaves out for good, and those that aren't built yet.
-const EXCLUDED: [&[u8]; 33] = [
+const EXCLUDED: [&[u8]; 26] = [
     b"action",
     b"action_foreach",
     b"bundle_data",
@@ -94,17 +101,11 @@ const EXCLUDED: [&[u8]; 33] = [
     b"filter_labels_exclude",
     b"filter_labels_include",
     b"generated_file",
-    b"get_label_info",
-    b"get_path_info",
     b"get_target_outputs",
     b"getenv",
-    b"label_matches",
     b"loadable_module",
     b"path_exists",
     b"pool",
-    b"process_file_template",
-    b"read_file",
-    b"rebase_path",
     b"rust_library",
     b"rust_proc_macro",
     b"set_default_toolchain",
@@ -114,7 +115,6 @@ const EXCLUDED: [&[u8]; 33] = [
     b"string_hash",
     b"tool",
     b"toolchain",
-    b"write_file",
 ];
 
 // The kinds of targets that aren't built yet.
@@ -151,6 +151,8 @@ fn plain_of(name: &[u8]) -> Option<Plain>
         Some(Plain::Assert)
     } else if name == b"print".as_slice() {
         Some(Plain::Print)
+    } else if name == b"write_file".as_slice() {
+        Some(Plain::WriteFile)
     } else if name == b"filter_exclude".as_slice() {
         Some(Plain::Text(TextCall::FilterExclude))
     } else if name == b"filter_include".as_slice() {
@@ -163,6 +165,16 @@ fn plain_of(name: &[u8]) -> Option<Plain>
         Some(Plain::Text(TextCall::StringReplace))
     } else if name == b"string_split".as_slice() {
         Some(Plain::Text(TextCall::StringSplit))
+    } else if name == b"get_label_info".as_slice() {
+        Some(Plain::Path(PathCall::GetLabelInfo))
+    } else if name == b"get_path_info".as_slice() {
+        Some(Plain::Path(PathCall::GetPathInfo))
+    } else if name == b"label_matches".as_slice() {
+        Some(Plain::Path(PathCall::LabelMatches))
+    } else if name == b"process_file_template".as_slice() {
+        Some(Plain::Path(PathCall::ProcessFileTemplate))
+    } else if name == b"rebase_path".as_slice() {
+        Some(Plain::Path(PathCall::RebasePath))
     } else {
         None
     }
@@ -191,6 +203,8 @@ fn other_function_of(name: &[u8]) -> Named
         Named::Function(Function::Changing(Changing::ForwardVariablesFrom))
     } else if name == b"not_needed".as_slice() {
         Named::Function(Function::Changing(Changing::NotNeeded))
+    } else if name == b"read_file".as_slice() {
+        Named::Function(Function::Changing(Changing::ReadFile))
     } else if is_excluded(name) {
         Named::Excluded
     } else {

@@ -4,26 +4,25 @@ use Rattle.std.specs.List.{list_any}
 use Rattle.std.specs.Str.{bytes_eq}
 use Rattle.gn_rows.specs.declared.kinds.ItemKind.TheVariants.{Group}
 use Rattle.gn_calls_text.specs.declared.call.TextCall.TheVariants.{FilterInclude, FilterExclude, SplitList, StringJoin, StringReplace, StringSplit}
-use Rattle.gn_meaning.specs.declared.function.TargetKind.{TargetKind}
-use Rattle.gn_meaning.specs.declared.function.TargetKind.TheVariants.{Built, NotBuilt, NoKind}
-use Rattle.gn_meaning.specs.declared.function.Named.{Named}
-use Rattle.gn_meaning.specs.declared.function.Named.TheVariants.{Function as OfFunction, Excluded, Unknown}
-use Rattle.gn_meaning.specs.declared.function.Function.TheVariants.{Plain as OfPlain, Changing, Opening, Defined, Foreach}
-use Rattle.gn_meaning.specs.declared.function.Plain.{Plain}
-use Rattle.gn_meaning.specs.declared.function.Plain.TheVariants.{Assert, Print, Text}
-use Rattle.gn_meaning.specs.declared.function.Changing.TheVariants.{Import, Template, ForwardVariablesFrom, NotNeeded}
-use Rattle.gn_meaning.specs.declared.function.Opening.TheVariants.{Item, Target, SetDefaults}
+use Rattle.gn_calls_path.specs.declared.call.PathCall.TheVariants.{GetLabelInfo, GetPathInfo, LabelMatches, ProcessFileTemplate, RebasePath}
+use Rattle.gn_functions.specs.declared.function.TargetKind.{TargetKind}
+use Rattle.gn_functions.specs.declared.function.TargetKind.TheVariants.{Built, NotBuilt, NoKind}
+use Rattle.gn_functions.specs.declared.function.Named.{Named}
+use Rattle.gn_functions.specs.declared.function.Named.TheVariants.{Function as OfFunction, Excluded, Unknown}
+use Rattle.gn_functions.specs.declared.function.Function.TheVariants.{Plain as OfPlain, Changing, Opening, Defined, Foreach}
+use Rattle.gn_functions.specs.declared.function.Plain.{Plain}
+use Rattle.gn_functions.specs.declared.function.Plain.TheVariants.{Assert, Print, WriteFile, Text, Path}
+use Rattle.gn_functions.specs.declared.function.Changing.TheVariants.{Import, Template, ForwardVariablesFrom, NotNeeded, ReadFile}
+use Rattle.gn_functions.specs.declared.function.Opening.TheVariants.{Item, Target, SetDefaults}
 
 -- the functions of GN that are left out: those that the profile leaves out for good, and those that aren't built yet
 unfoldable pub excluded_names : List (List ℕ)
 excluded_names =
     codes "action" ∷ codes "action_foreach" ∷ codes "bundle_data" ∷ codes "config" ∷ codes "copy" ∷ codes "create_bundle" ∷ codes "declare_args"
     ∷ codes "exec_script" ∷ codes "executable" ∷ codes "filter_labels_exclude" ∷ codes "filter_labels_include"
-    ∷ codes "generated_file" ∷ codes "get_label_info" ∷ codes "get_path_info"
-    ∷ codes "get_target_outputs" ∷ codes "getenv" ∷ codes "label_matches" ∷ codes "loadable_module"
-    ∷ codes "path_exists" ∷ codes "pool" ∷ codes "process_file_template" ∷ codes "read_file" ∷ codes "rebase_path" ∷ codes "rust_library"
-    ∷ codes "rust_proc_macro" ∷ codes "set_default_toolchain" ∷ codes "shared_library" ∷ codes "source_set"
-    ∷ codes "static_library" ∷ codes "string_hash" ∷ codes "tool" ∷ codes "toolchain" ∷ codes "write_file" ∷ []
+    ∷ codes "generated_file" ∷ codes "get_target_outputs" ∷ codes "getenv" ∷ codes "loadable_module" ∷ codes "path_exists" ∷ codes "pool"
+    ∷ codes "rust_library" ∷ codes "rust_proc_macro" ∷ codes "set_default_toolchain" ∷ codes "shared_library"
+    ∷ codes "source_set" ∷ codes "static_library" ∷ codes "string_hash" ∷ codes "tool" ∷ codes "toolchain" ∷ []
 
 -- the kinds of targets that aren't built yet
 unfoldable pub excluded_kinds : List (List ℕ)
@@ -43,12 +42,18 @@ unfoldable pub plain_of : List ℕ → Option Plain
 plain_of name =
     if bytes_eq name (codes "assert") then Some Assert
     else if bytes_eq name (codes "print") then Some Print
+    else if bytes_eq name (codes "write_file") then Some WriteFile
     else if bytes_eq name (codes "filter_exclude") then Some (Text FilterExclude)
     else if bytes_eq name (codes "filter_include") then Some (Text FilterInclude)
     else if bytes_eq name (codes "split_list") then Some (Text SplitList)
     else if bytes_eq name (codes "string_join") then Some (Text StringJoin)
     else if bytes_eq name (codes "string_replace") then Some (Text StringReplace)
     else if bytes_eq name (codes "string_split") then Some (Text StringSplit)
+    else if bytes_eq name (codes "get_label_info") then Some (Path GetLabelInfo)
+    else if bytes_eq name (codes "get_path_info") then Some (Path GetPathInfo)
+    else if bytes_eq name (codes "label_matches") then Some (Path LabelMatches)
+    else if bytes_eq name (codes "process_file_template") then Some (Path ProcessFileTemplate)
+    else if bytes_eq name (codes "rebase_path") then Some (Path RebasePath)
     else None
 
 -- what a name calls that is no plain call's
@@ -63,6 +68,7 @@ other_function_of name =
     else if bytes_eq name (codes "set_defaults") then OfFunction (Opening SetDefaults)
     else if bytes_eq name (codes "forward_variables_from") then OfFunction (Changing ForwardVariablesFrom)
     else if bytes_eq name (codes "not_needed") then OfFunction (Changing NotNeeded)
+    else if bytes_eq name (codes "read_file") then OfFunction (Changing ReadFile)
     else if list_any (bytes_eq name) excluded_names then Excluded
     else Unknown
 

@@ -1,13 +1,14 @@
 -- What is judged of a call before its arguments: a row for each function.
 use Rattle.std.specs.Prelude.{ℕ, Bool, true, false, ◌&&◌, not, nat_le, Option, Some, None}
 use Rattle.gn_calls_text.specs.declared.call.TextCall.TheVariants.{FilterInclude, FilterExclude, SplitList, StringJoin, StringReplace, StringSplit}
-use Rattle.gn_meaning.specs.declared.rule.Rule.{Rule}
-use Rattle.gn_meaning.specs.declared.rule.Allowed.TheVariants.{Everywhere, WhereItems}
-use Rattle.gn_meaning.specs.declared.function.Function.{Function}
-use Rattle.gn_meaning.specs.declared.function.Function.TheVariants.{Plain, Changing, Opening, Defined, Foreach}
-use Rattle.gn_meaning.specs.declared.function.Plain.TheVariants.{Assert, Print, Text}
-use Rattle.gn_meaning.specs.declared.function.Changing.TheVariants.{Import, Template, ForwardVariablesFrom, NotNeeded}
-use Rattle.gn_meaning.specs.declared.function.Opening.TheVariants.{Item, Target, SetDefaults}
+use Rattle.gn_calls_path.specs.declared.call.PathCall.TheVariants.{GetLabelInfo, GetPathInfo, LabelMatches, ProcessFileTemplate, RebasePath}
+use Rattle.gn_functions.specs.declared.rule.Rule.{Rule}
+use Rattle.gn_functions.specs.declared.rule.Allowed.TheVariants.{Everywhere, WhereItems}
+use Rattle.gn_functions.specs.declared.function.Function.{Function}
+use Rattle.gn_functions.specs.declared.function.Function.TheVariants.{Plain, Changing, Opening, Defined, Foreach}
+use Rattle.gn_functions.specs.declared.function.Plain.TheVariants.{Assert, Print, WriteFile, Text, Path}
+use Rattle.gn_functions.specs.declared.function.Changing.TheVariants.{Import, Template, ForwardVariablesFrom, NotNeeded, ReadFile}
+use Rattle.gn_functions.specs.declared.function.Opening.TheVariants.{Item, Target, SetDefaults}
 
 -- so many arguments at least and at most, and no block, or one
 abbrev pub without_block : ℕ → Option ℕ → Rule
@@ -20,16 +21,23 @@ with_block count = record { least = count; most = Some count; block = true; impo
 unfoldable pub rule_of : Function → Rule
 rule_of (Plain Assert) = without_block 1 (Some 2)
 rule_of (Plain Print) = without_block 1 None
+rule_of (Plain WriteFile) = without_block 2 (Some 2)
 rule_of (Plain (Text FilterExclude)) = without_block 2 (Some 2)
 rule_of (Plain (Text FilterInclude)) = without_block 2 (Some 2)
 rule_of (Plain (Text SplitList)) = without_block 2 (Some 2)
 rule_of (Plain (Text StringJoin)) = without_block 2 (Some 2)
 rule_of (Plain (Text StringReplace)) = without_block 3 (Some 4)
 rule_of (Plain (Text StringSplit)) = without_block 1 (Some 2)
+rule_of (Plain (Path GetLabelInfo)) = without_block 2 (Some 2)
+rule_of (Plain (Path GetPathInfo)) = without_block 2 (Some 2)
+rule_of (Plain (Path LabelMatches)) = without_block 2 (Some 2)
+rule_of (Plain (Path ProcessFileTemplate)) = without_block 2 (Some 2)
+rule_of (Plain (Path RebasePath)) = without_block 1 (Some 3)
 rule_of (Changing Import) = record (without_block 1 (Some 1)) { imports = true }
 rule_of (Changing Template) = with_block 1
 rule_of (Changing ForwardVariablesFrom) = without_block 2 (Some 3)
 rule_of (Changing NotNeeded) = without_block 1 (Some 3)
+rule_of (Changing ReadFile) = without_block 2 (Some 2)
 rule_of (Opening (Item kind)) = record (with_block 1) { allowed = WhereItems }
 rule_of (Opening Target) = with_block 2
 rule_of (Opening SetDefaults) = with_block 1
