@@ -6,6 +6,7 @@ pub mod StoreLemmas
 pub mod ProjectLemmas
 pub mod LoadingLemmas
 pub mod EndingLemmas
+pub mod SourceLemmas
 pub mod ReadLemmas
 pub mod LibraryLemmas
 pub mod StepLemmas

@@ -10,6 +10,7 @@ use Rattle.std.specs.Cmp.Lexicographic.{slice_cmp, lists_total}
 use Rattle.std.specs.BTreeSet.{insert_key}
 use Rattle.std.specs.FinMap.{FinMap, IsAntisymmetric, empty, len-empty, len-entries, insert, keys, entries, entries-insert, from_entries, get-from_entries, get-insert, same_map, slice_cmp-IsAntisymmetric, nat_cmp-IsAntisymmetric}
 use Rattle.std.specs.FinMap.Entries.{find, put, by_order}
+use Rattle.gn_basics.proofs.Orders.{then_equal}
 use Rattle.gn_labels.specs.declared.label.Label.{Label}
 use Rattle.gn_labels.specs.Labels.{toolchain_key, order_key}
 use Rattle.gn_labels.specs.contracts.label.LabelOrd.TheImpl.{cmp-value}
@@ -19,11 +20,6 @@ use Rattle.gn_top.specs.Labels.{label_cmp, entries_of, in_label_order, labels_of
 -- the order of texts, and of lists of texts
 text_cmp : List ℕ → List ℕ → Ordering
 text_cmp = slice_cmp nat_cmp
-
-then_equal : (r : Ordering) → r ≡ ordering_then r Equal
-then_equal Less = refl
-then_equal Equal = refl
-then_equal Greater = refl
 
 -- toolchains compare as what they are ordered by
 toolchains_alike : (s t : List ℕ) → slice_cmp nat_cmp s t ≡ ordering_then (slice_cmp nat_cmp (toolchain_key [] s) (toolchain_key [] t)) Equal

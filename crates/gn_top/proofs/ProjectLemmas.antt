@@ -7,8 +7,9 @@ use Rattle.gn_items.specs.declared.key.When.TheVariants.{Usual}
 use Rattle.gn_runs.specs.Runs.{is_absent}
 use Rattle.gn_imports.specs.Loading.{IsOneOf, IsWrong, IsProject}
 use Rattle.gn_imports.proofs.PathOrder.{any_one}
-use Rattle.gn_unit.proofs.ExecutionTrees.{import_meaning_tree, absent_import}
+use Rattle.gn_executions.proofs.ExecutionTrees.{import_meaning_tree, absent_import}
 use Rattle.gn_top.specs.Loading.{content_in, project_of}
+use Rattle.gn_executions.specs.Base.{plain_base}
 
 listed : (tree : Tree) (path : List ℕ) → (content_in (answer_of (get tree path)) ≡ is_absent) ⊎ IsOneOf path (keys tree)
 listed tree path = by (get tree path) refl
@@ -19,7 +20,7 @@ listed tree path = by (get tree path) refl
 
 pub tree_project : (tree : Tree) → IsProject (project_of tree)
 tree_project tree = record {
-  trees = import_meaning_tree Usual [];
+  trees = import_meaning_tree plain_base Usual [];
   listed = listed tree;
-  absent = λ path a h. subst IsWrong (sym (absent_import Usual [] path a h)) tt;
+  absent = λ path a h. subst IsWrong (sym (absent_import plain_base Usual [] path a h)) tt;
 }

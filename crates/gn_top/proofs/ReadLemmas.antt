@@ -10,7 +10,7 @@ use Rattle.gn_outside.specs.Tree.{Tree}
 use Rattle.gn_outside.specs.States.{SourceRead, SourceState}
 use Rattle.gn_outside.specs.Lists.{AllDiffer, Each, Extends, OneOf}
 use Rattle.gn_outside.specs.Sources.{CountsFailures, plain_reads}
-use Rattle.gn_outside.proofs.SourceLemmas.{one_read, ended_by, paths-plain, stops-plain, none-plain, paths-ended, stops-ended, some-ended, plain-ended}
+use Rattle.gn_top.proofs.SourceLemmas.{one_read, ended_by, paths-plain, stops-plain, none-plain, paths-ended, stops-ended, some-ended, plain-ended}
 use Rattle.gn_paths.specs.declared.place.Place.{Place}
 use Rattle.gn_items.specs.declared.key.When.TheVariants.{Usual}
 use Rattle.gn_runs.specs.Runs.{content_of, Content}
@@ -22,8 +22,8 @@ use Rattle.gn_imports.specs.Loading.{IsOneOf, Known, answers_of, set_at, with_co
 use Rattle.gn_imports.proofs.AskedFor.{need_asked}
 use Rattle.gn_imports.proofs.PathOrder.{content_one}
 use Rattle.gn_imports.proofs.Sets.{set_cases, set_here}
-use Rattle.gn_unit.specs.Units.{import_execution, load_execution}
-use Rattle.gn_unit.proofs.ExecutionTrees.{import_execution_tree, load_execution_tree}
+use Rattle.gn_executions.specs.Units.{import_execution, load_execution}
+use Rattle.gn_executions.proofs.ExecutionTrees.{import_execution_tree, load_execution_tree}
 use Rattle.gn_top.specs.Loading.{build_run, questions, project_of, max_paths}
 use Rattle.gn_top.specs.Store.{known_in}
 use Rattle.gn_top.specs.Progress.{root, Loads, HasRead, ReadsAsked, FailsAt, IsStep, NeedsAt, NeedsAnswer}
@@ -34,6 +34,7 @@ use Rattle.gn_top.specs.declared.store.FileContent.{FileContent}
 use Rattle.gn_top.specs.declared.store.Store.{Store}
 use Rattle.gn_top.proofs.LoadingLemmas.{needs_of}
 use Rattle.gn_top.proofs.ProjectLemmas.{tree_project}
+use Rattle.gn_executions.specs.Base.{plain_base}
 
 pub one_of : (ps : List (List ℕ)) (p : List ℕ) → IsOneOf p ps → OneOf ps p
 one_of [] p h = h
@@ -81,13 +82,13 @@ need_one : (tree : Tree) (store : Store) (links : List Link) → Loads tree stor
 unfolding questions build_run
 need_one tree store links loads path place h =
     one_of (contents_asked (questions tree)) path (content_one (questions tree) path
-    (need_asked (project_of tree) (load_execution root []) (tree_project tree) (load_execution_tree root []) (known_in store) links loads.loading.right (content_of path) place
+    (need_asked (project_of tree) (load_execution plain_base root []) (tree_project tree) (load_execution_tree plain_base root []) (known_in store) links loads.loading.right (content_of path) place
     (needs_of tree (known_in store) links (content_of path) place h)))
 
 -- and isn't known
 need_unknown : (known : Known) (links : List Link) (path : List ℕ) (place : Place) → NeedsAt known links (content_of path) place → known.contents path ≡ None
-need_unknown known [] path place h = (tree_needs_unknown (load_execution root []) (load_execution_tree root []) (answers_of known) (content_of path) place h).0
-need_unknown known (l ∷ ls) path place h = (tree_needs_unknown (import_execution Usual [] l.path) (import_execution_tree Usual [] l.path) (answers_of known) (content_of path) place h).0
+need_unknown known [] path place h = (tree_needs_unknown (load_execution plain_base root []) (load_execution_tree plain_base root []) (answers_of known) (content_of path) place h).0
+need_unknown known (l ∷ ls) path place h = (tree_needs_unknown (import_execution plain_base Usual [] l.path) (import_execution_tree plain_base Usual [] l.path) (answers_of known) (content_of path) place h).0
 
 -- the last read of a source that has read this
 last_read : (before now : Option (List SourceRead)) (reads : List SourceRead) (read : SourceRead) → Extends before now (reads ++ read ∷ []) → IsSome before → (all earlier : List SourceRead) × (before ≡ Some all) × (now ≡ Some (all ++ earlier ++ read ∷ []))

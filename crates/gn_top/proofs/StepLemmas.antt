@@ -8,6 +8,7 @@ use Rattle.gn_runs.specs.Runs.{import_of}
 use Rattle.gn_imports.specs.Causes.{Link, cycle_fault, least_waiting}
 use Rattle.gn_imports.specs.Loading.{Known, answers_of, with_import, NoneIs, OneIs}
 use Rattle.gn_eval.specs.Library.{Need}
+use Rattle.gn_executions.specs.Base.{plain_base}
 use Rattle.gn_unit.specs.Ends.{IsUnitOf, IsNeedOf}
 use Rattle.gn_unit.specs.declared.unit.Unit.{Unit as Evaluated}
 use Rattle.gn_top.specs.Loading.{loaded}
@@ -46,19 +47,19 @@ cycle_step old new waiting rest last q at least kept is place fault contents kno
 -- the last import that waits has ended
 pub settle_step : (old new : Store) (waiting rest : List Waiting) (last : Waiting) (u : Evaluated) (kept : Kept) → waiting ≡ last ∷ rest → new.contents ≡ old.contents → IsKept (known_in old) u kept
     → known_in new ≡ with_import (known_in old) last.path (Some (imported_view kept)) (fault_view kept) → new.imports.entries ≡ with_name last.path kept old.imports.entries → IsSortedByPath new.imports.entries
-    → (tree : Tree) → Loads tree old (links_in waiting) → IsUnitOf (next_key (links_in waiting)) u (answers_of (known_in old)) → Loads tree new (links_in rest)
+    → (tree : Tree) → Loads tree old (links_in waiting) → IsUnitOf plain_base (next_key (links_in waiting)) u (answers_of (known_in old)) → Loads tree new (links_in rest)
 settle_step old new waiting rest last u kept is contents k known entries sorted tree loads unit =
     settled_loads tree old new (link_view last) (links_in rest) u kept
     (subst (λ ws. Loads tree old (links_in ws)) is loads) contents
-    (subst (λ ws. IsUnitOf (next_key (links_in ws)) u (answers_of (known_in old))) is unit)
+    (subst (λ ws. IsUnitOf plain_base (next_key (links_in ws)) u (answers_of (known_in old))) is unit)
     k known entries sorted
 
 -- the build file has ended
 pub end_step : (store : Store) (waiting : List Waiting) (u : Evaluated) (ending : Ending) → waiting ≡ [] → IsEnding (known_in store) u ending
-    → (tree : Tree) → Loads tree store (links_in waiting) → IsUnitOf (next_key (links_in waiting)) u (answers_of (known_in store)) → loaded tree ≡ has_built store ending
+    → (tree : Tree) → Loads tree store (links_in waiting) → IsUnitOf plain_base (next_key (links_in waiting)) u (answers_of (known_in store)) → loaded tree ≡ has_built store ending
 end_step store waiting u ending is e tree loads unit =
     build_ends tree store (subst (λ ws. Loads tree store (links_in ws)) is loads) u ending
-    (subst (λ ws. IsUnitOf (next_key (links_in ws)) u (answers_of (known_in store))) is unit) e
+    (subst (λ ws. IsUnitOf plain_base (next_key (links_in ws)) u (answers_of (known_in store))) is unit) e
 
 -- an import begins to wait
 pub wait_step : (store : Store) (waiting more : List Waiting) (path : List ℕ) (at : Place) → more ≡ record { path = path; place = at } ∷ waiting → NoneIs path (links_in waiting)
@@ -68,7 +69,7 @@ wait_step store waiting more path at is none tree loads needs =
     (waits_loads tree store (record { path = path; place = at }) (links_in waiting) loads needs none)
 
 -- what the loader needs next
-pub needs_next : (known : Known) (links : List Link) (need : Need) → IsNeedOf (next_key links) need (answers_of known) → NeedsAt known links need.question need.place
+pub needs_next : (known : Known) (links : List Link) (need : Need) → IsNeedOf plain_base (next_key links) need (answers_of known) → NeedsAt known links need.question need.place
 needs_next known [] need h = h
 needs_next known (l ∷ ls) need h = h
 

@@ -12,7 +12,8 @@ use Rattle.gn_imports.specs.Rounds.{Project, final}
 use Rattle.gn_imports.specs.Causes.{cause}
 use Rattle.gn_imports.specs.Asked.{all_asked, contents_asked, imports_asked, in_path_order}
 use Rattle.gn_meaning.specs.Steps.{Left}
-use Rattle.gn_unit.specs.Units.{import_execution, import_meaning, load_execution}
+use Rattle.gn_executions.specs.Units.{import_execution, import_meaning, load_execution}
+use Rattle.gn_executions.specs.Base.{plain_base}
 
 -- what a read answers, as an answer to an evaluation
 abbrev pub content_in : Answer → Content
@@ -22,11 +23,11 @@ content_in TooBig = is_too_big
 
 -- the files of a tree and their executions
 abbrev pub project_of : Tree → Project
-project_of tree = record { content = λ path. content_in (read_of tree path); paths = keys tree; execute = import_meaning Usual [] }
+project_of tree = record { content = λ path. content_in (read_of tree path); paths = keys tree; execute = import_meaning plain_base Usual [] }
 
 -- the run of the build file of the source root, over all answers
 unfoldable pub build_run : Tree → Run (Left (Unit {0}))
-build_run tree = load_execution (codes "//") [] (final (project_of tree))
+build_run tree = load_execution plain_base (codes "//") [] (final (project_of tree))
 
 -- all that it asks, directly or through imports
 unfoldable pub questions : Tree → List Question
@@ -48,7 +49,7 @@ effects_of (spoiled path place) = no_effects
 effects_of (needs question place) = no_effects
 
 abbrev pub import_effects : Tree → List ℕ → Effects
-import_effects tree path = effects_of (import_execution Usual [] path (final (project_of tree))).end
+import_effects tree path = effects_of (import_execution plain_base Usual [] path (final (project_of tree))).end
 
 -- what a build leaves: what each import of it leaves, in the order of their paths, and then the build file
 pub record Build : Type 0 where

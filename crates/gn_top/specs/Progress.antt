@@ -16,7 +16,7 @@ use Rattle.gn_runs.specs.Runs.{Question, needs}
 use Rattle.gn_imports.specs.Asked.{contents_asked}
 use Rattle.gn_imports.specs.Causes.{Link}
 use Rattle.gn_imports.specs.Loading.{Known, answers_of, IsLoading}
-use Rattle.gn_unit.specs.Units.{import_execution, load_execution}
+use Rattle.gn_executions.specs.Units.{import_execution, load_execution}
 use Rattle.gn_unit.specs.Ends.{IsUnitOf, IsNeedOf}
 use Rattle.gn_unit.specs.declared.unit.Unit.{Unit as Evaluated}
 use Rattle.gn_unit.specs.declared.unit.Unit.TheVariants as unit
@@ -35,6 +35,7 @@ use Rattle.gn_top.specs.declared.settling.Ending.{Ending}
 use Rattle.gn_top.specs.declared.settling.Ending.TheVariants.{Left, Wrong}
 use Rattle.gn_top.specs.declared.loading.Loaded.{Loaded}
 use Rattle.gn_top.specs.declared.loading.Loaded.TheVariants.{Built, Failed}
+use Rattle.gn_executions.specs.Base.{BaseState, plain_base}
 
 abbrev pub root : List ℕ
 root = codes "//"
@@ -44,10 +45,14 @@ abbrev pub next_key : List Link → Key
 next_key [] = LoadKey root []
 next_key (l ∷ ls) = ImportKey Usual [] l.path
 
--- the next execution over what is known has ended, or needs an answer
+-- the next execution over a base and what is known has ended, or needs an answer
+abbrev pub IsNextOver : BaseState → Known → List Link → Next → Type 0
+IsNextOver base known links (Ended unit) = IsUnitOf base (next_key links) unit (answers_of known)
+IsNextOver base known links (Needs needed) = IsNeedOf base (next_key links) (need_view needed) (answers_of known)
+
+-- the same over the base of a build that has no build configuration
 abbrev pub IsNext : Known → List Link → Next → Type 0
-IsNext known links (Ended unit) = IsUnitOf (next_key links) unit (answers_of known)
-IsNext known links (Needs needed) = IsNeedOf (next_key links) (need_view needed) (answers_of known)
+IsNext known links next = IsNextOver plain_base known links next
 
 -- what is kept of an import that has ended
 abbrev pub IsKept : Known → Evaluated → Kept → Type 0
@@ -66,7 +71,7 @@ IsEnding known (unit.Spoiled path place asked) ending = (fault : Fault) × (know
 -- what is known of a tree is right, and was asked for; each import that is kept has left what it leaves over all answers, no more paths have been
 -- read than a build may ask for, and both are kept in the order of paths
 pub record Loads (tree : Tree) (store : Store) (links : List Link) : Type 0 where
-  pub loading : IsLoading (project_of tree) (load_execution root []) (known_in store) links
+  pub loading : IsLoading (project_of tree) (load_execution plain_base root []) (known_in store) links
   pub effects : Each (λ e. import_effects tree e.0 ≡ effects_view e.1) store.imports.entries
   pub few : length (keys_of store.contents.entries) ≤ max_paths
   pub contents_sorted : IsSortedByPath store.contents.entries
@@ -108,8 +113,8 @@ IsStep before now store links (Err Memory) = (now.faults ≡ before.faults) × R
 
 -- the next execution over what is known needs this answer, for a call at this place
 abbrev pub NeedsAt : Known → List Link → Question → Place → Type 0
-NeedsAt known [] question place = (load_execution root [] (answers_of known)).end ≡ needs question place
-NeedsAt known (l ∷ ls) question place = (import_execution Usual [] l.path (answers_of known)).end ≡ needs question place
+NeedsAt known [] question place = (load_execution plain_base root [] (answers_of known)).end ≡ needs question place
+NeedsAt known (l ∷ ls) question place = (import_execution plain_base Usual [] l.path (answers_of known)).end ≡ needs question place
 
 abbrev pub NeedsAnswer : Store → List Link → Question → Type 0
 NeedsAnswer store links question = (place : Place) × NeedsAt (known_in store) links question place

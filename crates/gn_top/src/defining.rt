@@ -13,7 +13,7 @@ use gn_eval::DefineError;
 use gn_faults::Fault;
 use gn_items::{Item, ItemKind};
 use gn_labels::Label;
-use gn_paths::{Path, Place, Text, Texts};
+use gn_paths::{Place, Text, Texts};
 use gn_rows::{Row, built_rows_of};
 use gn_tree::Position;
 use gn_values::Value;
@@ -90,7 +90,8 @@ fn item_read(
     Ok(item)
 }
 
-// Where the item is defined. No row that is built asks for a build directory: the source root stands for it.
+// Where the item is defined. No row that is built asks for the output directory of the toolchain: the build directory
+// stands for it.
 fn context_here(alloc: Global, kind: ItemKind, env: &Env) -> Result<Where, AllocError>
     ensures { IfOk result (λ w. w ≡ context_here env.now.setting kind) }
 {
@@ -98,8 +99,8 @@ fn context_here(alloc: Global, kind: ItemKind, env: &Env) -> Result<Where, Alloc
         kind,
         directory: env.directory().copy(alloc)?,
         toolchain: env.context().toolchain.copy(alloc)?,
-        build: Path::root(alloc)?,
-        out: Path::root(alloc)?,
+        build: env.context().build_directory.copy(alloc)?,
+        out: env.context().build_directory.copy(alloc)?,
     })
 }
 

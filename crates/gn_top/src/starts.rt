@@ -3,14 +3,14 @@
 ghost use Rattle.std.specs.Prelude.{◌≡◌, IfOk};
 ghost use Rattle.gn_top.specs.Store.{known_in};
 ghost use Rattle.gn_top.specs.Waiting.{links_in};
-ghost use Rattle.gn_top.specs.Progress.{next_key, IsNext};
+ghost use Rattle.gn_top.specs.Progress.{next_key, IsNextOver, IsNext};
 
 use crate::library::{Needed, Told, Wanted};
 use crate::store::Store;
 use crate::waiting::Waiting;
 use gn_items::{Claim, Key, When};
 use gn_paths::{Path, Place, Text};
-use gn_unit::{EvalStop, Unit, evaluate};
+use gn_unit::{Base, EvalStop, Unit, evaluate};
 use std::alloc::{AllocError, Global};
 use std::collections::VecDeque;
 
@@ -57,7 +57,25 @@ fn library(alloc: Global, store: &Store) -> Result<Told<'_>, AllocError>
     })
 }
 
-/// Executes what is next, from its start, over what the store has.
+// Executes what is next, from its start, over a base and what the store has.
+fn start_over(
+    alloc: Global,
+    base: &Base,
+    store: &Store,
+    waiting: &VecDeque<Waiting>,
+) -> Result<Next, AllocError>
+    ensures { IfOk result (λ next. IsNextOver base.now (known_in store.now) (links_in waiting.now.items) next) }
+{
+    let key = next_key(alloc, waiting)?;
+    let mut told = library(alloc, store)?;
+    match evaluate(alloc, Claim::issue(key, 0, 0), base, &mut told) {
+        Ok((_, unit)) => Ok(Next::Ended(unit)),
+        Err((_, EvalStop::Stopped)) => Ok(Next::Needs(told.need)),
+        Err((_, EvalStop::Memory)) => Err(AllocError),
+    }
+}
+
+/// Executes what is next, from its start, over what the store has. The build has no build configuration.
 pub(crate) fn start(
     alloc: Global,
     store: &Store,
@@ -65,11 +83,6 @@ pub(crate) fn start(
 ) -> Result<Next, AllocError>
     ensures { IfOk result (λ next. IsNext (known_in store.now) (links_in waiting.now.items) next) }
 {
-    let key = next_key(alloc, waiting)?;
-    let mut told = library(alloc, store)?;
-    match evaluate(alloc, Claim::issue(key, 0, 0), &mut told) {
-        Ok((_, unit)) => Ok(Next::Ended(unit)),
-        Err((_, EvalStop::Stopped)) => Ok(Next::Needs(told.need)),
-        Err((_, EvalStop::Memory)) => Err(AllocError),
-    }
+    let base = Base::plain(alloc)?;
+    start_over(alloc, &base, store, waiting)
 }

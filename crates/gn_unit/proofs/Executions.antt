@@ -1,5 +1,6 @@
 -- What is done with the tree of a file is done behind its reading.
 use Rattle.std.proofs.Common.{◌≡◌, ℕ, List, Option, Some, Result, Ok, Err, IsErrAnd, refl, sym, ◌∙◌, ap, subst, arith}
+use Rattle.gn_runs.proofs.TreeLaws.{below_itself}
 use Rattle.gn_tree.specs.Tree.{BlockTree}
 use Rattle.gn_faults.specs.declared.code.Code.{Code}
 use Rattle.gn_faults.specs.declared.code.Code.TheVariants as code
@@ -19,9 +20,10 @@ use Rattle.gn_eval.specs.declared.ending.EvalEnd.{EvalEnd}
 use Rattle.gn_eval.specs.declared.ending.EvalEnd.TheVariants.{Wrong, Spoiled, Stopped, Memory}
 use Rattle.gn_unit.specs.Found.{content_view}
 use Rattle.gn_syntax.specs.Reading.{reading}
-use Rattle.gn_unit.specs.Faults.{whole_file_fault}
-use Rattle.gn_unit.specs.Units.{setting_of, reading_runs, content_runs, own_place, tree_runs, import_begins, load_begins, load_runs, load_execution}
+use Rattle.gn_executions.specs.Faults.{whole_file_fault}
+use Rattle.gn_executions.specs.Units.{reading_runs, content_runs, own_place, tree_runs, import_begins, load_begins, load_runs, load_execution}
 use Rattle.gn_unit.specs.Ends.{EndsWith}
+use Rattle.gn_executions.specs.Base.{BaseState, setting_of}
 
 -- what is found at a path is the content that the answers have
 content_found : (path : List ℕ) (a : Answers) (found : Found) → ContentAnswers path a found → a.contents path ≡ Some (content_view found)
@@ -30,13 +32,13 @@ content_found path a Absent h = h
 content_found path a TooBig h = h
 
 -- where the execution of a file begins
-pub import_set : (when : When) (toolchain path : List ℕ) → (import_begins when toolchain path).setting ≡ setting_of Import toolchain path
+pub import_set : (base : BaseState) (when : When) (toolchain path : List ℕ) → (import_begins base when toolchain path).setting ≡ setting_of base Import path
 unfolding new_environment
-import_set when toolchain path = refl
+import_set base when toolchain path = refl
 
-pub load_set : (directory toolchain path : List ℕ) → (load_begins directory toolchain path).setting ≡ setting_of BuildFile toolchain path
+pub load_set : (base : BaseState) (directory toolchain path : List ℕ) → (load_begins base directory toolchain path).setting ≡ setting_of base BuildFile path
 unfolding new_environment
-load_set directory toolchain path = refl
+load_set base directory toolchain path = refl
 
 -- the content of a file is read
 pub bytes_run : {T : Type 0} (view : T → BlockTree) (need : Need) (result : Result T EvalEnd) (env : Environment) (out : Effects) (found : Found) (bytes read : List ℕ) → found ≡ Bytes bytes → read ≡ bytes → IsRun view need result env out (reading_runs read (reading read) env out) → IsRun view need result env out (content_runs (content_view found) env out)
@@ -45,17 +47,17 @@ bytes_run view need result env out found bytes read h same done =
     (subst (λ (b : List ℕ). IsRun view need result env out (reading_runs b (reading b) env out)) same done)
 
 -- a file that isn't there, and one above the limit
-module _ (env : Environment) (out : Effects) (kind : FileKind) (toolchain path : List ℕ) (is : env.setting ≡ setting_of kind toolchain path) (found : Found) (fault : Fault) where
-  whole_file_breaks : (c : Code) → fault ≡ whole_file_fault (setting_of kind toolchain path) c → breaks {A = BlockTree} (whole_file_fault env.setting c) out ≡ breaks fault out
+module _ (env : Environment) (out : Effects) (base : BaseState) (kind : FileKind) (path : List ℕ) (is : env.setting ≡ setting_of base kind path) (found : Found) (fault : Fault) where
+  whole_file_breaks : (c : Code) → fault ≡ whole_file_fault (setting_of base kind path) c → breaks {A = BlockTree} (whole_file_fault env.setting c) out ≡ breaks fault out
   whole_file_breaks c e = ap (λ (s : Setting). breaks {A = BlockTree} (whole_file_fault s c) out) is ∙ ap (λ (f : Fault). breaks {A = BlockTree} f out) (sym e)
 
-  pub absent_breaks : found ≡ Absent → fault ≡ whole_file_fault (setting_of kind toolchain path) code.NoFile → content_runs (content_view found) env out ≡ breaks fault out
+  pub absent_breaks : found ≡ Absent → fault ≡ whole_file_fault (setting_of base kind path) code.NoFile → content_runs (content_view found) env out ≡ breaks fault out
   absent_breaks h e = ap (λ (f : Found). content_runs (content_view f) env out) h ∙ whole_file_breaks code.NoFile e
 
-  pub too_big_breaks : found ≡ TooBig → fault ≡ whole_file_fault (setting_of kind toolchain path) code.FileTooBig → content_runs (content_view found) env out ≡ breaks fault out
+  pub too_big_breaks : found ≡ TooBig → fault ≡ whole_file_fault (setting_of base kind path) code.FileTooBig → content_runs (content_view found) env out ≡ breaks fault out
   too_big_breaks h e = ap (λ (f : Found). content_runs (content_view f) env out) h ∙ whole_file_breaks code.FileTooBig e
 
-module _ (kind : FileKind) (toolchain path : List ℕ) (a : Answers) (env : Environment) (out : Effects) (is : env.setting ≡ setting_of kind toolchain path) where
+module _ (base : BaseState) (kind : FileKind) (path : List ℕ) (a : Answers) (env : Environment) (out : Effects) (is : env.setting ≡ setting_of base kind path) where
   named : env.setting.file ≡ path
   named = ap (λ (s : Setting). s.file) is
 
@@ -79,7 +81,7 @@ pub covered : {T : Type 0} (told : Option Answers) (result : Result T EvalEnd) (
 covered told (Ok x) a h = h
 covered told (Err (Wrong fault)) a h = h
 covered told (Err (Spoiled path place)) a h = h
-covered told (Err Stopped) a h = subst (λ (t : Option Answers). Includes t a) (sym h) (record { contents = λ path y e. e; imports = λ path y e. e })
+covered told (Err Stopped) a h = subst (λ (t : Option Answers). Includes t a) (sym h) (below_itself a)
 covered told (Err Memory) a h = absurd h
 
 -- a library that goes on, and on from there
@@ -91,8 +93,8 @@ goes_on_further s t u first second = record {
 }
 
 -- how a build file ends that has run
-pub load_ended : (directory toolchain : List ℕ) (a : Answers) (before after : Effects) → before ≡ no_effects → HasLeft tt after (load_runs directory toolchain a before) → EndsWith tt after (load_execution directory toolchain a).end
-load_ended directory toolchain a before after same left = (left.0, ap (λ (o : Effects). (load_runs directory toolchain a o).end) (sym same) ∙ ap (λ (r : Run (Left (Unit {0}))). r.end) left.1)
+pub load_ended : (base : BaseState) (directory toolchain : List ℕ) (a : Answers) (before after : Effects) → before ≡ no_effects → HasLeft tt after (load_runs base directory toolchain a before) → EndsWith tt after (load_execution base directory toolchain a).end
+load_ended base directory toolchain a before after same left = (left.0, ap (λ (o : Effects). (load_runs base directory toolchain a o).end) (sym same) ∙ ap (λ (r : Run (Left (Unit {0}))). r.end) left.1)
 
 module _ {A : Type 0} (next : BlockTree → Environment → Effects → Run (Left A)) (need : Need) where
   -- where the tree of a file has been read, its execution is what is done with the tree

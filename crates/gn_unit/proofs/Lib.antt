@@ -1,4 +1,2 @@
-pub mod BuildFiles
 pub mod Readings
 pub mod Executions
-pub mod ExecutionTrees

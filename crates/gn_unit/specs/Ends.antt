@@ -9,9 +9,10 @@ use Rattle.gn_runs.specs.Runs.{Question, Answers, End, ended, wrong, spoiled, ne
 use Rattle.gn_environment.specs.Environment.{Environment}
 use Rattle.gn_meaning.specs.Steps.{Left}
 use Rattle.gn_eval.specs.Library.{Need}
-use Rattle.gn_unit.specs.Units.{import_execution, load_execution}
+use Rattle.gn_executions.specs.Units.{import_execution, load_execution}
 use Rattle.gn_unit.specs.declared.unit.Unit.{Unit as Evaluated}
 use Rattle.gn_unit.specs.declared.unit.Unit.TheVariants.{Load, Import, Wrong, Spoiled}
+use Rattle.gn_executions.specs.Base.{BaseState}
 
 -- an execution has ended with this value and these effects, whatever its environment is then
 abbrev pub EndsWith : {A : Type 0} → A → Effects → End (Left A) → Type 0
@@ -23,7 +24,7 @@ IsExecuted (ImportKey when toolchain path) = Unit {0}
 IsExecuted (LoadKey directory toolchain) = Unit {0}
 IsExecuted _ = ⊥
 
--- what is answered for a key is how its execution over these answers ends
+-- what is answered for a key over a base is how its execution over these answers ends
 abbrev pub IsLoadOf : Evaluated → End (Left (Unit {0})) → Type 0
 IsLoadOf (Load effects) end = EndsWith tt effects end
 IsLoadOf (Import value effects) end = ⊥
@@ -36,19 +37,19 @@ IsImportOf (Import value effects) end = EndsWith value effects end
 IsImportOf (Wrong fault asked) end = end ≡ wrong fault
 IsImportOf (Spoiled path place asked) end = end ≡ spoiled path place
 
-abbrev pub IsUnitOf : Key → Evaluated → Answers → Type 0
-IsUnitOf (ImportKey when toolchain path) unit answers = IsImportOf unit (import_execution when toolchain path answers).end
-IsUnitOf (LoadKey directory toolchain) unit answers = IsLoadOf unit (load_execution directory toolchain answers).end
-IsUnitOf _ unit answers = ⊥
+abbrev pub IsUnitOf : BaseState → Key → Evaluated → Answers → Type 0
+IsUnitOf base (ImportKey when toolchain path) unit answers = IsImportOf unit (import_execution base when toolchain path answers).end
+IsUnitOf base (LoadKey directory toolchain) unit answers = IsLoadOf unit (load_execution base directory toolchain answers).end
+IsUnitOf base _ unit answers = ⊥
 
 -- over these answers an execution needs what was noted
 abbrev pub IsNeeded : {A : Type 0} → Need → End A → Type 0
 IsNeeded need end = end ≡ needs need.question need.place
 
-abbrev pub IsNeedOf : Key → Need → Answers → Type 0
-IsNeedOf (ImportKey when toolchain path) need answers = IsNeeded need (import_execution when toolchain path answers).end
-IsNeedOf (LoadKey directory toolchain) need answers = IsNeeded need (load_execution directory toolchain answers).end
-IsNeedOf _ need answers = ⊥
+abbrev pub IsNeedOf : BaseState → Key → Need → Answers → Type 0
+IsNeedOf base (ImportKey when toolchain path) need answers = IsNeeded need (import_execution base when toolchain path answers).end
+IsNeedOf base (LoadKey directory toolchain) need answers = IsNeeded need (load_execution base directory toolchain answers).end
+IsNeedOf base _ need answers = ⊥
 
 -- the questions that were asked, as is answered for a key
 abbrev pub asked_of : Evaluated → List Question
@@ -58,7 +59,7 @@ asked_of (Wrong fault asked) = map question_of asked.items
 asked_of (Spoiled path place asked) = map question_of asked.items
 
 -- they are those of its execution over these answers, in order
-abbrev pub HasAskedOf : Key → Evaluated → Answers → Type 0
-HasAskedOf (ImportKey when toolchain path) unit answers = (import_execution when toolchain path answers).asked ≡ asked_of unit
-HasAskedOf (LoadKey directory toolchain) unit answers = (load_execution directory toolchain answers).asked ≡ asked_of unit
-HasAskedOf _ unit answers = ⊥
+abbrev pub HasAskedOf : BaseState → Key → Evaluated → Answers → Type 0
+HasAskedOf base (ImportKey when toolchain path) unit answers = (import_execution base when toolchain path answers).asked ≡ asked_of unit
+HasAskedOf base (LoadKey directory toolchain) unit answers = (load_execution base directory toolchain answers).asked ≡ asked_of unit
+HasAskedOf base _ unit answers = ⊥

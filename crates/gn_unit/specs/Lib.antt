@@ -1,5 +1,2 @@
-pub mod Faults
-pub mod Units
 pub mod Ends
 pub mod Found
-pub mod Laws

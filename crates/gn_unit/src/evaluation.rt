@@ -4,8 +4,9 @@ ghost use Rattle.std.specs.Prelude.{◌≡◌, ◌<◌, Err, IfOk, IfErr, Some};
 ghost use Rattle.gn_runs.specs.Runs.{Answers};
 ghost use Rattle.gn_eval.specs.Library.{Includes, GoesOn};
 ghost use Rattle.gn_unit.specs.Ends.{IsExecuted, IsLoadOf, IsImportOf, IsUnitOf, IsNeeded, IsNeedOf, asked_of, HasAskedOf};
-ghost use Rattle.gn_unit.specs.Units.{load_execution, import_execution};
+ghost use Rattle.gn_executions.specs.Units.{load_execution, import_execution};
 
+use crate::base::Base;
 use crate::execution::{execute_import, execute_load};
 use crate::unit::{EvalStop, Unit};
 use gn_eval::{Definer, EvalEnd, Library};
@@ -16,18 +17,19 @@ use std::alloc::Global;
 // The unit of a build file.
 fn load_unit<L: Library + Definer>(
     alloc: Global,
+    base: &Base,
     directory: &Path,
     toolchain: &Text,
     library: &mut L,
 ) -> Result<Unit, EvalStop>
-    ensures unit { IfOk result (λ unit. (a : Answers) → Includes (L.state library.new).told a → IsLoadOf unit (load_execution directory.now toolchain.now a).end) }
-    ensures asked { IfOk result (λ unit. (a : Answers) → Includes (L.state library.new).told a → (load_execution directory.now toolchain.now a).asked ≡ asked_of unit) }
-    ensures need { result ≡ Err EvalStop.Stopped → (a : Answers) → (L.state library.new).told ≡ Some a → IsNeeded (L.state library.new).need (load_execution directory.now toolchain.now a).end }
+    ensures unit { IfOk result (λ unit. (a : Answers) → Includes (L.state library.new).told a → IsLoadOf unit (load_execution base.now directory.now toolchain.now a).end) }
+    ensures asked { IfOk result (λ unit. (a : Answers) → Includes (L.state library.new).told a → (load_execution base.now directory.now toolchain.now a).asked ≡ asked_of unit) }
+    ensures need { result ≡ Err EvalStop.Stopped → (a : Answers) → (L.state library.new).told ≡ Some a → IsNeeded (L.state library.new).need (load_execution base.now directory.now toolchain.now a).end }
     ensures goes { GoesOn (L.state library.old) (L.state library.new) }
     ensures rose { result ≡ Err EvalStop.Stopped → (L.state library.old).stops < (L.state library.new).stops }
 {
     let mut out = Outcome::new(alloc);
-    match execute_load(alloc, directory, toolchain, &mut out, library) {
+    match execute_load(alloc, base, directory, toolchain, &mut out, library) {
         Ok(()) => Ok(Unit::Load(out)),
         Err(EvalEnd::Wrong(fault)) => Ok(Unit::Wrong(fault, out.into_asked())),
         Err(EvalEnd::Spoiled(path, place)) => Ok(Unit::Spoiled(path, place, out.into_asked())),
@@ -39,19 +41,20 @@ fn load_unit<L: Library + Definer>(
 // The unit of a file that is imported.
 fn import_unit<L: Library + Definer>(
     alloc: Global,
+    base: &Base,
     when: When,
     toolchain: &Text,
     path: &Path,
     library: &mut L,
 ) -> Result<Unit, EvalStop>
-    ensures unit { IfOk result (λ unit. (a : Answers) → Includes (L.state library.new).told a → IsImportOf unit (import_execution when toolchain.now path.now a).end) }
-    ensures asked { IfOk result (λ unit. (a : Answers) → Includes (L.state library.new).told a → (import_execution when toolchain.now path.now a).asked ≡ asked_of unit) }
-    ensures need { result ≡ Err EvalStop.Stopped → (a : Answers) → (L.state library.new).told ≡ Some a → IsNeeded (L.state library.new).need (import_execution when toolchain.now path.now a).end }
+    ensures unit { IfOk result (λ unit. (a : Answers) → Includes (L.state library.new).told a → IsImportOf unit (import_execution base.now when toolchain.now path.now a).end) }
+    ensures asked { IfOk result (λ unit. (a : Answers) → Includes (L.state library.new).told a → (import_execution base.now when toolchain.now path.now a).asked ≡ asked_of unit) }
+    ensures need { result ≡ Err EvalStop.Stopped → (a : Answers) → (L.state library.new).told ≡ Some a → IsNeeded (L.state library.new).need (import_execution base.now when toolchain.now path.now a).end }
     ensures goes { GoesOn (L.state library.old) (L.state library.new) }
     ensures rose { result ≡ Err EvalStop.Stopped → (L.state library.old).stops < (L.state library.new).stops }
 {
     let mut out = Outcome::new(alloc);
-    match execute_import(alloc, when, toolchain, path, &mut out, library) {
+    match execute_import(alloc, base, when, toolchain, path, &mut out, library) {
         Ok(value) => Ok(Unit::Import(value, out)),
         Err(EvalEnd::Wrong(fault)) => Ok(Unit::Wrong(fault, out.into_asked())),
         Err(EvalEnd::Spoiled(path, place)) => Ok(Unit::Spoiled(path, place, out.into_asked())),
@@ -63,42 +66,46 @@ fn import_unit<L: Library + Definer>(
 // The unit that a key names.
 fn unit_of<L: Library + Definer>(
     alloc: Global,
+    base: &Base,
     key: &Key,
     library: &mut L,
 ) -> Result<Unit, EvalStop>
     requires { IsExecuted key.now }
-    ensures unit { IfOk result (λ unit. (a : Answers) → Includes (L.state library.new).told a → IsUnitOf key.now unit a) }
-    ensures asked { IfOk result (λ unit. (a : Answers) → Includes (L.state library.new).told a → HasAskedOf key.now unit a) }
-    ensures need { result ≡ Err EvalStop.Stopped → (a : Answers) → (L.state library.new).told ≡ Some a → IsNeedOf key.now (L.state library.new).need a }
+    ensures unit { IfOk result (λ unit. (a : Answers) → Includes (L.state library.new).told a → IsUnitOf base.now key.now unit a) }
+    ensures asked { IfOk result (λ unit. (a : Answers) → Includes (L.state library.new).told a → HasAskedOf base.now key.now unit a) }
+    ensures need { result ≡ Err EvalStop.Stopped → (a : Answers) → (L.state library.new).told ≡ Some a → IsNeedOf base.now key.now (L.state library.new).need a }
     ensures goes { GoesOn (L.state library.old) (L.state library.new) }
     ensures rose { result ≡ Err EvalStop.Stopped → (L.state library.old).stops < (L.state library.new).stops }
 {
     match key {
-        Key::Load(directory, toolchain) => load_unit(alloc, directory, toolchain, library),
-        Key::Import(when, toolchain, path) => import_unit(alloc, *when, toolchain, path, library),
+        Key::Load(directory, toolchain) => load_unit(alloc, base, directory, toolchain, library),
+        Key::Import(when, toolchain, path) => import_unit(
+            alloc, base, *when, toolchain, path, library,
+        ),
         Key::Read(_) | Key::Setup(_) | Key::Resolve(_) => unreachable!(),
     }
 }
 
-/// Executes the file that the key of a claim names, under the toolchain of the key, from its start, over what the library
-/// tells. The claim comes back. What is answered is how that execution ends over all answers that include those told, and
-/// what it asked. `Stopped` comes where the library lacks an answer: over just what it tells, the execution needs the one
-/// that it has noted.
+/// Executes the file that the key of a claim names, under the toolchain of the key, from its start, over a base and what the
+/// library tells. The claim comes back. What is answered is how that execution ends over all answers that include those
+/// told, and what it asked. `Stopped` comes where the library lacks an answer: over just what it tells, the execution needs
+/// the one that it has noted. The base is that of the evaluations under this toolchain: what its context says is taken.
 pub fn evaluate<L: Library + Definer>(
     alloc: Global,
     claim: Claim,
+    base: &Base,
     library: &mut L,
 ) -> Result<(Claim, Unit), (Claim, EvalStop)>
     requires { IsExecuted claim.key }
     ensures claim { IfOk result (λ r. r.0 ≡ claim) }
     ensures claim_back { IfErr result (λ r. r.0 ≡ claim) }
-    ensures unit { IfOk result (λ r. (a : Answers) → Includes (L.state library.new).told a → IsUnitOf claim.key r.1 a) }
-    ensures asked { IfOk result (λ r. (a : Answers) → Includes (L.state library.new).told a → HasAskedOf claim.key r.1 a) }
-    ensures need { IfErr result (λ r. r.1 ≡ EvalStop.Stopped → (a : Answers) → (L.state library.new).told ≡ Some a → IsNeedOf claim.key (L.state library.new).need a) }
+    ensures unit { IfOk result (λ r. (a : Answers) → Includes (L.state library.new).told a → IsUnitOf base.now claim.key r.1 a) }
+    ensures asked { IfOk result (λ r. (a : Answers) → Includes (L.state library.new).told a → HasAskedOf base.now claim.key r.1 a) }
+    ensures need { IfErr result (λ r. r.1 ≡ EvalStop.Stopped → (a : Answers) → (L.state library.new).told ≡ Some a → IsNeedOf base.now claim.key (L.state library.new).need a) }
     ensures goes { GoesOn (L.state library.old) (L.state library.new) }
     ensures rose { IfErr result (λ r. r.1 ≡ EvalStop.Stopped → (L.state library.old).stops < (L.state library.new).stops) }
 {
-    match unit_of(alloc, &claim.key, library) {
+    match unit_of(alloc, base, &claim.key, library) {
         Ok(unit) => Ok((claim, unit)),
         Err(stop) => Err((claim, stop)),
     }

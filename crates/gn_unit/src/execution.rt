@@ -4,30 +4,30 @@ ghost use Rattle.std.specs.Prelude.{◌≡◌, ◌≢◌, ◌≤◌, [], true, f
 ghost use Rattle.gn_tree.specs.Depth.{IsShallow};
 ghost use Rattle.gn_faults.specs.declared.file_kind.FileKind.{FileKind as Kind};
 ghost use Rattle.gn_items.specs.Effects.{Effects};
-ghost use Rattle.gn_environment.specs.Environment.{Environment, new_environment};
+ghost use Rattle.gn_environment.specs.Environment.{Environment};
 ghost use Rattle.gn_meaning.specs.Meaning.{file_runs, import_file_runs};
 ghost use Rattle.gn_meaning.specs.Steps.{then_do};
 ghost use Rattle.gn_eval.specs.Library.{Need, IsWithinLimit};
 ghost use Rattle.gn_eval.specs.Ends.{IsRun, Claims, EvaluatesSpent};
 ghost use Rattle.gn_syntax.specs.Reading.{reading};
 ghost use Rattle.gn_unit.specs.Found.{content_view};
-ghost use Rattle.gn_unit.specs.Units.{context_of, setting_of, reading_runs, content_runs, own_place, tree_runs, build_file_of, import_begins, import_runs, load_begins, load_runs};
+ghost use Rattle.gn_executions.specs.Units.{reading_runs, content_runs, own_place, tree_runs, build_file_of, import_begins, import_runs, load_begins, load_runs};
+ghost use Rattle.gn_executions.specs.Base.{setting_of, begins_over};
 
+use crate::base::Base;
 use crate::faults::{syntax_fault, whole_file_fault};
 use gn_env::Env;
-use gn_environment::Context;
 use gn_eval::{Definer, EvalEnd, Found, LibStop, Library, run_file, run_import_file};
-use gn_faults::{Code, FileKind, Stage};
+use gn_faults::{Code, FileKind};
 use gn_items::{Outcome, When, import_name, load_name};
 use gn_paths::{Path, PathError, Place, Text, directory, resolve};
 use gn_syntax::{Parsed, parse};
 use gn_tree::Block;
-use gn_values::{ImportValue, MadeBy};
+use gn_values::ImportValue;
 use std::alloc::{AllocError, Global};
-use std::sync::Arc;
 
 // The path of the build file of a directory.
-#[tactic(auto, using(crate::proofs::BuildFiles::build_file_resolved))]
+#[tactic(auto, using(gn_executions::proofs::BuildFiles::build_file_resolved))]
 fn build_file(alloc: Global, directory: &Path) -> Result<Path, AllocError>
     ensures { IfOk result (λ p. p ≡ build_file_of directory.now) }
 {
@@ -39,55 +39,41 @@ fn build_file(alloc: Global, directory: &Path) -> Result<Path, AllocError>
     }
 }
 
-// As what a file is executed under a toolchain, which is the empty text for the default one.
-fn context(alloc: Global, kind: FileKind, toolchain: &Text) -> Result<Arc<Context>, AllocError>
-    ensures { IfOk result (λ context. context.value ≡ context_of kind toolchain.now) }
-{
-    let named = toolchain.copy(alloc)?;
-    let context = Context {
-        stage: Stage::Loading,
-        kind,
-        toolchain: named,
-        fault_toolchain: toolchain.copy(alloc)?,
-        default_toolchain: Text::new(alloc),
-    };
-    Ok(Arc::new(alloc, context)?)
-}
-
-// Where the execution of the file at a path begins, by its name.
+// Where the execution of the file at a path begins over a base, by its name.
 fn environment(
     alloc: Global,
-    toolchain: &Text,
+    base: &Base,
     path: &Path,
     kind: FileKind,
     execution: Text,
     checked: bool,
 ) -> Result<Env, AllocError>
-    ensures { IfOk result (λ env. env ≡ new_environment (setting_of kind toolchain.now path.now) execution checked [] []) }
+    ensures { IfOk result (λ env. env ≡ begins_over base.now kind path.now execution checked) }
 {
-    let context = context(alloc, kind, toolchain)?;
+    let context = base.share_context()?;
     Ok(Env::new(
         alloc,
         context,
+        kind,
         path.as_text().copy(alloc)?,
         directory(alloc, path)?,
         execution,
         checked,
-        Vec::new(alloc),
-        MadeBy::new(alloc),
+        base.share_beneath(alloc)?,
+        base.share_definitions(alloc)?,
     ))
 }
 
 // What the bytes of the file at a path are read as: their tree, or the fault of their first error.
-fn parsed(alloc: Global, toolchain: &Text, path: &Path, bytes: &[u8]) -> Result<Parsed, EvalEnd>
+fn parsed(alloc: Global, base: &Base, path: &Path, bytes: &[u8]) -> Result<Parsed, EvalEnd>
     requires { length bytes.now ≤ 16777216 }
-    ensures tree { (kind : Kind) (env : Environment) (need : Need) (out : Effects) → env.setting ≡ setting_of kind toolchain.now path.now → IsRun (λ t. t) need result env out (reading_runs bytes.now (reading bytes.now) env out) }
+    ensures tree { (kind : Kind) (env : Environment) (need : Need) (out : Effects) → env.setting ≡ setting_of base.now kind path.now → IsRun (λ t. t) need result env out (reading_runs bytes.now (reading bytes.now) env out) }
     ensures reads { result ≢ Err EvalEnd.Stopped }
     ensures shallow { IfOk result (λ tree. IsShallow tree) }
 {
     match parse(alloc, bytes) {
         Ok(parsed) => Ok(parsed),
-        Err(error) => Err(EvalEnd::Wrong(syntax_fault(alloc, toolchain, path, bytes, error)?)),
+        Err(error) => Err(EvalEnd::Wrong(syntax_fault(alloc, base, path, bytes, error)?)),
     }
 }
 
@@ -103,23 +89,18 @@ fn own_place(alloc: Global, path: &Path) -> Result<Place, AllocError>
 }
 
 // What is done with what a library tells of the content of the file at a path.
-fn tree_of(alloc: Global, toolchain: &Text, path: &Path, found: Found) -> Result<Parsed, EvalEnd>
+fn tree_of(alloc: Global, base: &Base, path: &Path, found: Found) -> Result<Parsed, EvalEnd>
     requires { IsWithinLimit found }
-    ensures tree { (kind : Kind) (env : Environment) (need : Need) (out : Effects) → env.setting ≡ setting_of kind toolchain.now path.now → IsRun (λ t. t) need result env out (content_runs (content_view found) env out) }
+    ensures tree { (kind : Kind) (env : Environment) (need : Need) (out : Effects) → env.setting ≡ setting_of base.now kind path.now → IsRun (λ t. t) need result env out (content_runs (content_view found) env out) }
     ensures reads { result ≢ Err EvalEnd.Stopped }
     ensures shallow { IfOk result (λ tree. IsShallow tree) }
 {
     match found {
-        Found::Bytes(bytes) => parsed(alloc, toolchain, path, bytes.as_bytes()),
-        Found::Absent => Err(EvalEnd::Wrong(whole_file_fault(
-            alloc,
-            toolchain,
-            path,
-            Code::NoFile,
-        )?)),
+        Found::Bytes(bytes) => parsed(alloc, base, path, bytes.as_bytes()),
+        Found::Absent => Err(EvalEnd::Wrong(whole_file_fault(alloc, base, path, Code::NoFile)?)),
         Found::TooBig => Err(EvalEnd::Wrong(whole_file_fault(
             alloc,
-            toolchain,
+            base,
             path,
             Code::FileTooBig,
         )?)),
@@ -127,22 +108,22 @@ fn tree_of(alloc: Global, toolchain: &Text, path: &Path, found: Found) -> Result
 }
 
 // The tree of the file at a path, as far as the library has its content. What is asked is noted.
-#[tactic(auto, unfolding(crate::specs::Units::tree_runs))]
+#[tactic(auto, unfolding(gn_executions::specs::Units::tree_runs))]
 fn tree_at<L: Library>(
     alloc: Global,
-    toolchain: &Text,
+    base: &Base,
     path: &Path,
     out: &mut Outcome,
     library: &mut L,
 ) -> Result<Parsed, EvalEnd>
-    ensures evaluates { Claims (L.state library.old) (L.state library.new) result (λ a. (kind : Kind) (env : Environment) → env.setting ≡ setting_of kind toolchain.now path.now → IsRun (λ t. t) (L.state library.new).need result env out.new (tree_runs a env out.old)) }
+    ensures evaluates { Claims (L.state library.old) (L.state library.new) result (λ a. (kind : Kind) (env : Environment) → env.setting ≡ setting_of base.now kind path.now → IsRun (λ t. t) (L.state library.new).need result env out.new (tree_runs a env out.old)) }
     ensures shallow { IfOk result (λ tree. IsShallow tree) }
 {
     let place = own_place(alloc, path)?;
     match library.bytes(alloc, path, &place) {
         Ok(found) => {
             out.ask_content(path)?;
-            tree_of(alloc, toolchain, path, found)
+            tree_of(alloc, base, path, found)
         }
         Err(LibStop::Stopped) => Err(EvalEnd::Stopped),
         Err(LibStop::Memory) => Err(EvalEnd::Memory),
@@ -152,6 +133,7 @@ fn tree_at<L: Library>(
 // Runs the tree of the build file of a directory, which stands at a path, in one scope, which is checked.
 fn run_build_file<L: Library + Definer>(
     alloc: Global,
+    base: &Base,
     directory: &Path,
     toolchain: &Text,
     path: &Path,
@@ -160,10 +142,10 @@ fn run_build_file<L: Library + Definer>(
     library: &mut L,
 ) -> Result<(), EvalEnd>
     requires shallow { IsShallow block.now }
-    ensures { EvaluatesSpent (λ u. u) (L.state library.old) (L.state library.new) result out.new (λ a. file_runs a block.now (load_begins directory.now toolchain.now path.now) out.old) }
+    ensures { EvaluatesSpent (λ u. u) (L.state library.old) (L.state library.new) result out.new (λ a. file_runs a block.now (load_begins base.now directory.now toolchain.now path.now) out.old) }
 {
     let execution = load_name(alloc, directory, toolchain)?;
-    let mut env = environment(alloc, toolchain, path, FileKind::BuildFile, execution, true)?;
+    let mut env = environment(alloc, base, path, FileKind::BuildFile, execution, true)?;
     let done = run_file(alloc, block, &mut env, out, library);
     drop(env);
     done
@@ -172,17 +154,19 @@ fn run_build_file<L: Library + Definer>(
 // Executes the build file of a directory, which stands at a path.
 fn load_file<L: Library + Definer>(
     alloc: Global,
+    base: &Base,
     directory: &Path,
     toolchain: &Text,
     path: &Path,
     out: &mut Outcome,
     library: &mut L,
 ) -> Result<(), EvalEnd>
-    ensures { EvaluatesSpent (λ u. u) (L.state library.old) (L.state library.new) result out.new (λ a. then_do (tree_runs a (load_begins directory.now toolchain.now path.now) out.old) (λ tree env1 out1. file_runs a tree env1 out1)) }
+    ensures { EvaluatesSpent (λ u. u) (L.state library.old) (L.state library.new) result out.new (λ a. then_do (tree_runs a (load_begins base.now directory.now toolchain.now path.now) out.old) (λ tree env1 out1. file_runs a tree env1 out1)) }
 {
-    let parsed = tree_at(alloc, toolchain, path, out, library)?;
+    let parsed = tree_at(alloc, base, path, out, library)?;
     run_build_file(
         alloc,
+        base,
         directory,
         toolchain,
         path,
@@ -192,26 +176,28 @@ fn load_file<L: Library + Definer>(
     )
 }
 
-/// Executes the build file of a directory under a toolchain: its content is asked for, parsed, and run in one scope, which is
-/// checked. What it leaves and what it asks is added to `out`. `Wrong` has the first fault, and comes exactly where there is
-/// one, but for want of memory; `Spoiled` and `Stopped` come as from `run_file`.
-#[tactic(auto, unfolding(crate::specs::Units::load_runs))]
+/// Executes the build file of a directory under a toolchain, over a base: its content is asked for, parsed, and run in one
+/// scope, which is checked. What it leaves and what it asks is added to `out`. `Wrong` has the first fault, and comes exactly
+/// where there is one, but for want of memory; `Spoiled` and `Stopped` come as from `run_file`.
+#[tactic(auto, unfolding(gn_executions::specs::Units::load_runs))]
 pub(crate) fn execute_load<L: Library + Definer>(
     alloc: Global,
+    base: &Base,
     directory: &Path,
     toolchain: &Text,
     out: &mut Outcome,
     library: &mut L,
 ) -> Result<(), EvalEnd>
-    ensures { EvaluatesSpent (λ u. u) (L.state library.old) (L.state library.new) result out.new (λ a. load_runs directory.now toolchain.now a out.old) }
+    ensures { EvaluatesSpent (λ u. u) (L.state library.old) (L.state library.new) result out.new (λ a. load_runs base.now directory.now toolchain.now a out.old) }
 {
     let path = build_file(alloc, directory)?;
-    load_file(alloc, directory, toolchain, &path, out, library)
+    load_file(alloc, base, directory, toolchain, &path, out, library)
 }
 
 // Runs the tree of the file at a path that is imported, in one scope, which isn't checked.
 fn run_imported<L: Library + Definer>(
     alloc: Global,
+    base: &Base,
     when: When,
     toolchain: &Text,
     path: &Path,
@@ -220,27 +206,37 @@ fn run_imported<L: Library + Definer>(
     library: &mut L,
 ) -> Result<ImportValue, EvalEnd>
     requires shallow { IsShallow block.now }
-    ensures { EvaluatesSpent (λ v. v) (L.state library.old) (L.state library.new) result out.new (λ a. import_file_runs a block.now (import_begins when toolchain.now path.now) out.old) }
+    ensures { EvaluatesSpent (λ v. v) (L.state library.old) (L.state library.new) result out.new (λ a. import_file_runs a block.now (import_begins base.now when toolchain.now path.now) out.old) }
 {
     let execution = import_name(alloc, when, toolchain, path)?;
-    let env = environment(alloc, toolchain, path, FileKind::Import, execution, false)?;
+    let env = environment(alloc, base, path, FileKind::Import, execution, false)?;
     run_import_file(alloc, block, env, out, library)
 }
 
-/// Executes a file that is imported under a toolchain, early or as usual: its content is asked for, parsed, and run in one
-/// scope, which isn't checked. It has what the file leaves for those who import it; its lines and what it asks are added to
-/// `out`. The errors are as those of `execute_load`.
-#[tactic(auto, unfolding(crate::specs::Units::import_runs))]
+/// Executes a file that is imported under a toolchain, early or as usual, over a base: its content is asked for, parsed, and
+/// run in one scope, which isn't checked. It has what the file leaves for those who import it; its lines and what it asks are
+/// added to `out`. The errors are as those of `execute_load`.
+#[tactic(auto, unfolding(gn_executions::specs::Units::import_runs))]
 pub(crate) fn execute_import<L: Library + Definer>(
     alloc: Global,
+    base: &Base,
     when: When,
     toolchain: &Text,
     path: &Path,
     out: &mut Outcome,
     library: &mut L,
 ) -> Result<ImportValue, EvalEnd>
-    ensures { EvaluatesSpent (λ v. v) (L.state library.old) (L.state library.new) result out.new (λ a. import_runs when toolchain.now path.now a out.old) }
+    ensures { EvaluatesSpent (λ v. v) (L.state library.old) (L.state library.new) result out.new (λ a. import_runs base.now when toolchain.now path.now a out.old) }
 {
-    let parsed = tree_at(alloc, toolchain, path, out, library)?;
-    run_imported(alloc, when, toolchain, path, parsed.block(), out, library)
+    let parsed = tree_at(alloc, base, path, out, library)?;
+    run_imported(
+        alloc,
+        base,
+        when,
+        toolchain,
+        path,
+        parsed.block(),
+        out,
+        library,
+    )
 }

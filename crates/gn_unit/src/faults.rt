@@ -4,37 +4,38 @@ ghost use Rattle.std.specs.Prelude.{◌≡◌, ◌≤◌, Some, length, IfOk, Ma
 ghost use Rattle.gn_grammar.specs.Position.{position_of};
 ghost use Rattle.gn_syntax.specs.Reading.{fault_of};
 ghost use Rattle.gn_faults.specs.declared.file_kind.FileKind.{FileKind as Kind};
-ghost use Rattle.gn_unit.specs.Faults.{whole_file_fault, syntax_fault};
-ghost use Rattle.gn_unit.specs.Units.{setting_of};
+ghost use Rattle.gn_executions.specs.Faults.{whole_file_fault, syntax_fault};
+ghost use Rattle.gn_executions.specs.Base.{setting_of};
 
-use gn_faults::{Code, Fault, Stage};
-use gn_paths::{Path, Place, Text, Texts};
+use crate::base::Base;
+use gn_faults::{Code, Fault};
+use gn_paths::{Path, Place, Texts};
 use gn_syntax::{SyntaxError, place_of};
 use gn_tokens::TokenError;
 use gn_tree::Position;
 use std::alloc::{AllocError, Global};
 
-// A fault of the file at a path that is executed under a toolchain.
+// A fault of the file at a path that is executed over a base.
 fn fault(
     alloc: Global,
-    toolchain: &Text,
+    base: &Base,
     path: &Path,
     code: Code,
     position: Position,
     detail: Texts,
 ) -> Result<Fault, AllocError>
     ensures { IfOk result (λ f. f ≡ record {
-      stage = Stage.Loading;
+      stage = base.now.context.stage;
       place = Some (record { file = path.now; line = position.line; column = position.column });
-      toolchain = toolchain.now;
+      toolchain = base.now.context.fault_toolchain;
       code = code;
       detail = detail;
     }) }
 {
     let file = path.as_text().copy(alloc)?;
-    let toolchain = toolchain.copy(alloc)?;
+    let toolchain = base.context().fault_toolchain.copy(alloc)?;
     Ok(Fault {
-        stage: Stage::Loading,
+        stage: base.context().stage,
         place: Some(Place {
             file,
             line: position.line,
@@ -49,29 +50,29 @@ fn fault(
 /// A fault of the whole file at a path, which stands at its beginning and shows its path.
 pub(crate) fn whole_file_fault(
     alloc: Global,
-    toolchain: &Text,
+    base: &Base,
     path: &Path,
     code: Code,
 ) -> Result<Fault, AllocError>
-    ensures { IfOk result (λ f. (kind : Kind) → f ≡ whole_file_fault (setting_of kind toolchain.now path.now) code) }
+    ensures { IfOk result (λ f. (kind : Kind) → f ≡ whole_file_fault (setting_of base.now kind path.now) code) }
 {
     let mut detail = Texts::new(alloc);
     detail.push(path.as_text().copy(alloc)?)?;
     let beginning = Position { line: 1, column: 1 };
-    fault(alloc, toolchain, path, code, beginning, detail)
+    fault(alloc, base, path, code, beginning, detail)
 }
 
 /// The fault of a syntax error of the bytes of the file at a path, or want of memory.
 pub(crate) fn syntax_fault(
     alloc: Global,
-    toolchain: &Text,
+    base: &Base,
     path: &Path,
     bytes: &[u8],
     error: SyntaxError,
 ) -> Result<Fault, AllocError>
     requires { length bytes.now ≤ 16777216 }
     ensures { IfOk result (λ f. MatchOption (fault_of error) ⊥ (λ found.
-        (kind : Kind) → f ≡ syntax_fault (setting_of kind toolchain.now path.now) bytes.now found)) }
+        (kind : Kind) → f ≡ syntax_fault (setting_of base.now kind path.now) bytes.now found)) }
 {
     let (code, offset) = match error {
         SyntaxError::Token(TokenError::BadByte(offset)) => (Code::BadByte, offset),
@@ -83,7 +84,7 @@ pub(crate) fn syntax_fault(
         SyntaxError::Memory => return Err(AllocError),
     };
     let position = position_of(bytes, offset);
-    fault(alloc, toolchain, path, code, position, Texts::new(alloc))
+    fault(alloc, base, path, code, position, Texts::new(alloc))
 }
 
 // The line and column of an offset. One behind the end of the file counts as the end.

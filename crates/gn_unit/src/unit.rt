@@ -8,9 +8,9 @@ use gn_values::ImportValue;
 /// What the execution of a whole file leaves, or why it leaves nothing.
 #[derive(Drop)]
 pub enum Unit {
-    /// A build file has run, and leaves items, lines and the questions asked.
+    /// A build file has run, and leaves items, lines, files and the questions asked.
     Load(Outcome),
-    /// A file that is imported has run: what it leaves for those who import it, its lines and the questions asked.
+    /// A file that is imported has run: what it leaves for those who import it, its lines, its files and the questions asked.
     Import(ImportValue, Outcome),
     /// The first fault, and the questions asked, in order.
     Wrong(Fault, Vec<Question>),

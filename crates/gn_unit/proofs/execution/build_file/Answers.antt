@@ -1,4 +1,4 @@
-use Rattle.gn_unit.proofs.BuildFiles.{refused_for_memory}
+use Rattle.gn_executions.proofs.BuildFiles.{refused_for_memory}
 use Rattle.gn_unit.proofs.execution.build_file.Goals as goal
 
 pub unreachable-requires : goal.unreachable-requires

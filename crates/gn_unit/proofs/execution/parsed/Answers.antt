@@ -8,4 +8,4 @@ returns-in-Ok-clause-tree c = λ kind env need out is. rw c.in-Ok.ensures.read r
 
 pub returns-in_ok-syntax_fault-in-Err-clause-tree : goal.returns-in_ok-syntax_fault-in-Err-clause-tree
 returns-in_ok-syntax_fault-in-Err-clause-tree c = λ kind env need out is.
-    refused_run c.args.bytes.now c.args.toolchain.now c.args.path.now (fault_of c.in-Err.error) (reading c.args.bytes.now) _ c.in-Err.ensures.read c.in_ok-syntax_fault-in-Err.ensures kind env out is
+    refused_run c.args.base.now c.args.bytes.now c.args.path.now (fault_of c.in-Err.error) (reading c.args.bytes.now) _ c.in-Err.ensures.read c.in_ok-syntax_fault-in-Err.ensures kind env out is

@@ -7,8 +7,8 @@ returns-in-Bytes-clause-tree c = λ kind env need out is.
 
 pub returns-in_ok-whole_file_fault-in-Absent-clause-tree : goal.returns-in_ok-whole_file_fault-in-Absent-clause-tree
 returns-in_ok-whole_file_fault-in-Absent-clause-tree c = λ kind env need out is.
-    absent_breaks env out kind c.args.toolchain.now c.args.path.now is c.args.found c.in_ok-whole_file_fault-in-Absent.field-0 c.in-Absent.is (c.in_ok-whole_file_fault-in-Absent.ensures kind)
+    absent_breaks env out c.args.base.now kind c.args.path.now is c.args.found c.in_ok-whole_file_fault-in-Absent.field-0 c.in-Absent.is (c.in_ok-whole_file_fault-in-Absent.ensures kind)
 
 pub returns-in_ok-whole_file_fault-in-TooBig-clause-tree : goal.returns-in_ok-whole_file_fault-in-TooBig-clause-tree
 returns-in_ok-whole_file_fault-in-TooBig-clause-tree c = λ kind env need out is.
-    too_big_breaks env out kind c.args.toolchain.now c.args.path.now is c.args.found c.in_ok-whole_file_fault-in-TooBig.field-0 c.in-TooBig.is (c.in_ok-whole_file_fault-in-TooBig.ensures kind)
+    too_big_breaks env out c.args.base.now kind c.args.path.now is c.args.found c.in_ok-whole_file_fault-in-TooBig.field-0 c.in-TooBig.is (c.in_ok-whole_file_fault-in-TooBig.ensures kind)

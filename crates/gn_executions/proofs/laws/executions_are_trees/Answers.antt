@@ -1,5 +1,5 @@
-use Rattle.gn_unit.proofs.ExecutionTrees.{import_meaning_tree, load_execution_tree, absent_import}
-use Rattle.gn_unit.proofs.laws.executions_are_trees.Goals as goal
+use Rattle.gn_executions.proofs.ExecutionTrees.{import_meaning_tree, load_execution_tree, absent_import}
+use Rattle.gn_executions.proofs.laws.executions_are_trees.Goals as goal
 
 pub returns-clause-imports : goal.returns-clause-imports
 returns-clause-imports c = import_meaning_tree

@@ -7,7 +7,7 @@ use Rattle.gn_paths.specs.declared.error.PathError.{PathError}
 use Rattle.gn_paths.specs.declared.error.PathError.TheVariants.{Memory}
 use Rattle.gn_paths.specs.Normal.{is_path_text}
 use Rattle.gn_paths.specs.Resolve.{led, path_meant, path_answered, resolved}
-use Rattle.gn_unit.specs.Units.{build_file_of}
+use Rattle.gn_executions.specs.Units.{build_file_of}
 
 -- what `BUILD.gn` means in a directory
 pub build_file_meant : (directory : List ℕ) → path_meant directory (codes "BUILD.gn") ≡ Ok (build_file_of directory)

@@ -14,8 +14,9 @@ use Rattle.gn_meaning.specs.Meaning.{import_file_runs}
 use Rattle.gn_meaning.proofs.Steps.{AreQuiet, AreTrees, whole_tree, tree_do, tree_ends, tree_fails, tree_asks_content}
 use Rattle.gn_meaning.proofs.ImportTrees.{file_tree, import_file_tree}
 use Rattle.gn_syntax.specs.Reading.{reading}
-use Rattle.gn_unit.specs.Faults.{whole_file_fault}
-use Rattle.gn_unit.specs.Units.{setting_of, reading_runs, content_runs, own_place, tree_runs, import_begins, import_runs, import_execution, import_meaning, build_file_of, load_begins, load_runs, load_execution}
+use Rattle.gn_executions.specs.Faults.{whole_file_fault}
+use Rattle.gn_executions.specs.Units.{reading_runs, content_runs, own_place, tree_runs, import_begins, import_runs, import_execution, import_meaning, build_file_of, load_begins, load_runs, load_execution}
+use Rattle.gn_executions.specs.Base.{BaseState, setting_of}
 
 reading_tree : (bytes : List ℕ) (x : Result BlockTree SyntaxFault) → AreQuiet (reading_runs bytes x)
 reading_tree bytes (Ok tree) env out = tree_ends tree env out
@@ -32,29 +33,29 @@ tree_runs_tree env out =
     tree_asks_content env.setting.file (own_place env.setting.file) out _ (λ y. content_tree y env (with_asked (content_of env.setting.file) out))
 
 -- the execution of an import is a tree of questions
-pub import_execution_tree : (when : When) (toolchain path : List ℕ) → IsTree (import_execution when toolchain path)
+pub import_execution_tree : (base : BaseState) (when : When) (toolchain path : List ℕ) → IsTree (import_execution base when toolchain path)
 unfolding import_runs
-import_execution_tree when toolchain path =
-    whole_tree _ (tree_do _ _ (tree_runs_tree (import_begins when toolchain path) no_effects) (λ tree env1 out1. import_file_tree tree env1 out1))
+import_execution_tree base when toolchain path =
+    whole_tree _ (tree_do _ _ (tree_runs_tree (import_begins base when toolchain path) no_effects) (λ tree env1 out1. import_file_tree tree env1 out1))
 
-pub import_meaning_tree : (when : When) (toolchain path : List ℕ) → IsTree (import_meaning when toolchain path)
-import_meaning_tree when toolchain path =
-    tree_then (import_execution when toolchain path) (λ a l. leaves l.value) (import_execution_tree when toolchain path) (λ l. tree_leaves l.value)
+pub import_meaning_tree : (base : BaseState) (when : When) (toolchain path : List ℕ) → IsTree (import_meaning base when toolchain path)
+import_meaning_tree base when toolchain path =
+    tree_then (import_execution base when toolchain path) (λ a l. leaves l.value) (import_execution_tree base when toolchain path) (λ l. tree_leaves l.value)
 
 -- the execution of a build file is one
-pub load_execution_tree : (directory toolchain : List ℕ) → IsTree (load_execution directory toolchain)
+pub load_execution_tree : (base : BaseState) (directory toolchain : List ℕ) → IsTree (load_execution base directory toolchain)
 unfolding load_runs
-load_execution_tree directory toolchain =
-    whole_tree _ (tree_do _ _ (tree_runs_tree (load_begins directory toolchain (build_file_of directory)) no_effects) (λ tree env1 out1. file_tree tree env1 out1))
+load_execution_tree base directory toolchain =
+    whole_tree _ (tree_do _ _ (tree_runs_tree (load_begins base directory toolchain (build_file_of directory)) no_effects) (λ tree env1 out1. file_tree tree env1 out1))
 
 wrong_after : {A B : Type 0} (run : Run A) (next : A → Run B) (fault : Fault) → run.end ≡ wrong fault → (followed run next).end ≡ wrong fault
 wrong_after {A} {B} run next fault h = ap (λ (e : End A). (after {B = B} e run.asked next).end) h
 
-absent_execution : (when : When) (toolchain path : List ℕ) (a : Answers) → a.contents path ≡ Some is_absent → (import_execution when toolchain path a).end ≡ wrong (whole_file_fault (setting_of Import toolchain path) code.NoFile)
+absent_execution : (base : BaseState) (when : When) (toolchain path : List ℕ) (a : Answers) → a.contents path ≡ Some is_absent → (import_execution base when toolchain path a).end ≡ wrong (whole_file_fault (setting_of base Import path) code.NoFile)
 unfolding import_runs tree_runs new_environment import_file_runs
-absent_execution when toolchain path a h = rw h refl
+absent_execution base when toolchain path a h = rw h refl
 
 -- where there is no file, importing it is wrong
-pub absent_import : (when : When) (toolchain path : List ℕ) (a : Answers) → a.contents path ≡ Some is_absent → (import_meaning when toolchain path a).end ≡ wrong (whole_file_fault (setting_of Import toolchain path) code.NoFile)
-absent_import when toolchain path a h =
-    wrong_after (import_execution when toolchain path a) (λ l. leaves l.value) (whole_file_fault (setting_of Import toolchain path) code.NoFile) (absent_execution when toolchain path a h)
+pub absent_import : (base : BaseState) (when : When) (toolchain path : List ℕ) (a : Answers) → a.contents path ≡ Some is_absent → (import_meaning base when toolchain path a).end ≡ wrong (whole_file_fault (setting_of base Import path) code.NoFile)
+absent_import base when toolchain path a h =
+    wrong_after (import_execution base when toolchain path a) (λ l. leaves l.value) (whole_file_fault (setting_of base Import path) code.NoFile) (absent_execution base when toolchain path a h)

@@ -1,0 +1,2 @@
+pub mod BuildFiles
+pub mod ExecutionTrees

@@ -1,0 +1,4 @@
+pub mod Base
+pub mod Faults
+pub mod Units
+pub mod Laws
