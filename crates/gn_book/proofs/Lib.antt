@@ -12,3 +12,5 @@ pub mod Back
 pub mod Chains
 pub mod Runs
 pub mod Blocking
+pub mod Graphing
+pub mod Claims

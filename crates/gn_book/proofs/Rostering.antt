@@ -1,5 +1,5 @@
 -- What a roster keeps while keys get numbers and stand otherwise.
-use Rattle.std.proofs.Common.{◌≡◌, ℕ, zero, suc, ◌+◌, ◌<◌, List, [], ◌∷◌, ◌++◌, length, map, Option, Some, None, option_map, unwrap_or, slice_get, slice_set, refl, sym, ◌∙◌, ap, subst, ◌⊎◌, inl, inr, Bool, true, false, cond, nat_eq, eq-eqb, eqb-true, true≢false, arith}
+use Rattle.std.proofs.Common.{◌≡◌, ℕ, zero, suc, ◌+◌, ◌<◌, List, [], ◌∷◌, ◌++◌, length, map, Option, Some, None, option_map, unwrap_or, slice_get, slice_set, refl, sym, ◌∙◌, ap, subst, ◌⊎◌, inl, inr, ◌||◌, Bool, true, false, cond, nat_eq, eq-eqb, eqb-true, true≢false, arith}
 use Rattle.std.specs.List.{list_any}
 use Rattle.std.proofs.lemmas.Bool.{cases_lt}
 use Rattle.std.proofs.lemmas.List.{length-set, length-append, map-append}
@@ -11,10 +11,10 @@ use Rattle.gn_book.specs.declared.status.Status.{Status}
 use Rattle.gn_book.specs.declared.status.Status.TheVariants as status
 use Rattle.gn_book.specs.declared.task.Task.{Task}
 use Rattle.gn_book.specs.Keys.{key_of}
-use Rattle.gn_book.specs.Standings.{Standing, standing_of, is_open, is_blocked, is_filed, seat_in, named}
+use Rattle.gn_book.specs.Standings.{Standing, standing_of, is_open, is_blocked, is_filed, seat_in, named, standing_at, answer_in}
 use Rattle.gn_book.specs.Rosters.{Table, table_of, with_standing, IsHeld, IsFirstReady, IsOneHeld, IsRoster}
 use Rattle.gn_book.specs.Tasks.{Numbers, Seats, key_in, IsNoLater, IsPut, AreKept, IsSeated, SeatsAreKept, IsFirst, IsOneSeated}
-use Rattle.gn_book.proofs.Standing.{named_at, get_own, get_other}
+use Rattle.gn_book.proofs.Standing.{named_at, standing_here, get_own, get_other}
 use Rattle.gn_book.proofs.Numbering.{get_more, get_last, found, table_more}
 use Rattle.gn_book.proofs.Steps.{map_length}
 use Rattle.gn_book.proofs.Tasks.{task_for, task_is}
@@ -111,7 +111,7 @@ pub not_open : (xs : List Standing) (n seat : ℕ) → seat_in (slice_get xs n) 
 not_open xs n seat claimed stands = let none : seat_in (slice_get xs n) ≡ None = ap seat_in stands in cc (none, claimed)
 
 -- the last of a list, and the seats of a list to which an open key was added
-at_end : {A : Type 0} (xs : List A) (x : A) → slice_get (xs ++ x ∷ []) (length xs) ≡ Some x
+pub at_end : {A : Type 0} (xs : List A) (x : A) → slice_get (xs ++ x ∷ []) (length xs) ≡ Some x
 at_end [] x = refl
 at_end (y ∷ xs) x = at_end xs x
 
@@ -277,3 +277,24 @@ roster_filed ks xs ready held later r old view_is n v l claimed released =
 
     here : seat_in (slice_get xs n) ≡ Some claimed.0
     here = ap (λ (t : Table). seat_in (slice_get t.standings n)) view_is ∙ claimed.1
+
+-- a key that isn't in the list has no standing
+pub lacking : (ks : List Key) (xs : List Standing) (k : Key) → list_any (same_key k) ks ≡ false → standing_at ks xs k ≡ None
+lacking [] xs k e = refl
+lacking (j ∷ ks) [] k e = refl
+lacking (j ∷ ks) (x ∷ xs) k e = by (λ h. lacking ks xs k h) (same_key j k) (same_key k j) refl refl e
+  where
+    by : (list_any (same_key k) ks ≡ false → standing_at ks xs k ≡ None) → (a b : Bool) → same_key j k ≡ a → same_key k j ≡ b → (b || list_any (same_key k) ks) ≡ false → cond a (Some x) (standing_at ks xs k) ≡ None
+    by rest true b s t h =
+        let same : j ≡ k = same_key_is j k s in
+        let own : b ≡ true = sym t ∙ subst (λ (z : Key). same_key k z ≡ true) (sym same) (key_own k) in
+        let yes : (b || list_any (same_key k) ks) ≡ true = ap (λ (z : Bool). z || list_any (same_key k) ks) own in
+        absurd (true≢false (sym yes ∙ h))
+    by rest false true s t h = absurd (cc h)
+    by rest false false s t h = rest h
+
+-- the answer of the key of a number
+pub answer_of_key : (ks : List Key) (xs : List Standing) (ready : Numbers) (held : Seats) (old : Table) → IsRoster ks xs ready held → table_of ks xs ≡ old
+    → (n : ℕ) (k : Key) → slice_get ks n ≡ Some k → answer_in (slice_get old.standings n) ≡ answer_in (standing_at old.keys old.standings k)
+answer_of_key ks xs ready held old r view_is n k at =
+    ap answer_in (ap (λ (t : Table). slice_get t.standings n) (sym view_is) ∙ sym (standing_here ks xs n k r.table r.sized at) ∙ ap (λ (t : Table). standing_at t.keys t.standings k) view_is)

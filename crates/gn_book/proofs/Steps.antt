@@ -25,7 +25,7 @@ use Rattle.gn_book.specs.Blocks.{LeadsBack}
 use Rattle.gn_book.specs.Chains.{LeadsTo}
 use Rattle.gn_book.proofs.Standing.{named_at, standing_here, get_other, unblocked}
 use Rattle.gn_book.proofs.Chains.{leads_same}
-use Rattle.gn_book.proofs.Keeping.{IsNext, next_claim, next_file, next_block, next_free_block, whole_next, log_next, known_push, replay_push, first_push, seats_push}
+use Rattle.gn_book.proofs.Keeping.{IsNext, next_claim, next_file, next_block, next_free_block, whole_next, log_next, known_push, replay_push, first_push, seats_push, unfiled_at}
 
 -- a whole book, and what contracts see of it
 pub record Before (seats remaining : ℕ) (stop : Option Reason) (ks : List Key) (xs : List Standing) (es : List Logged) (used capacity : ℕ) (old : Log) : Type 0 where
@@ -132,6 +132,14 @@ answer_here seats remaining stop ks xs es used capacity old before n l =
     let book = before.whole.0 in
     ap answer_in (sym (standing_here ks xs n (named ks n) book.table book.sized (named_at ks n (subst (λ (z : Log). n < length z.keys) (sym before.view_is) l))))
     ∙ book.tied.filed (named ks n) ∙ ap (λ (z : Log). (state_of z).filed (key_at z n)) before.view_is
+
+-- a key that a seat has claimed has no answer
+pub unfiled_here : (seats remaining : ℕ) (stop : Option Reason) (ks : List Key) (xs : List Standing) (es : List Logged) (used capacity : ℕ) (old : Log)
+    → Before seats remaining stop ks xs es used capacity old → (n seat : ℕ) → n < length old.keys → (state_of old).claims (key_at old n) ≡ Some seat → (state_of old).filed (key_at old n) ≡ None
+unfiled_here seats remaining stop ks xs es used capacity old before n seat l claimed =
+    sym (answer_here seats remaining stop ks xs es used capacity old before n l)
+    ∙ unfiled_at ks xs es n seat before.whole.0 (subst (λ (z : Log). n < length z.keys) (sym before.view_is) l)
+    (subst (λ (z : Log). (state_of z).claims (key_at z n) ≡ Some seat) (sym before.view_is) claimed)
 
 -- the numbered events of the log are its events
 answer_same : (ks : List Key) (xs : List Standing) (s : State) → IsTable ks → length xs ≡ length ks → Tied ks xs s → (n : ℕ) → told xs n ≡ answer_by s (slice_get ks n)

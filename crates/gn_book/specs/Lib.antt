@@ -10,3 +10,5 @@ pub mod Rosters
 pub mod Next
 pub mod NextLaws
 pub mod Runs
+pub mod Graphs
+pub mod Claims

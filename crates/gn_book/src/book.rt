@@ -8,12 +8,19 @@ ghost use Rattle.gn_book.specs.Blocks.{LeadsBack, BlocksAs};
 ghost use Rattle.gn_book.specs.Keys.{key_of};
 ghost use Rattle.gn_book.specs.Logs.{Log, state_of, with_key, with_event, block_event, key_at, events_by, IsFree, cause_in, HasKeys, has_stopped, earlier, first_cause};
 ghost use Rattle.gn_book.specs.Next.{HasNoClaim, NextIs};
+ghost use Rattle.gn_book.specs.Graphs.{is_unit, IsNew, with_answer, UnitsHaveNumbers, HasMoreKeys};
+ghost use Rattle.gn_closure.specs.Computed.{is_too_large};
+ghost use Rattle.gn_core.specs.Keys.{units};
+ghost use Rattle.gn_graph.specs.Needs.{home};
+ghost use Rattle.gn_graph.specs.Numbers.{IsMore};
 
 use crate::answer::Answer;
 use crate::event::{Block, Cause, Event, KeyId};
 use crate::next::{Next, next_by};
+use crate::reached::{add_answer, number_facts};
 use crate::roster::Roster;
 use crate::status::Holder;
+use gn_graph::{Graph, more_answers_reach_more, start_graph};
 use gn_items::Key;
 use gn_paths::Place;
 use std::alloc::{AllocError, Global};
@@ -38,6 +45,28 @@ fn make_room(log: &mut Vec<Event>, left: u32) -> Result<(), AllocError>
     ensures kept { vec_capacity log.old ≤ vec_capacity log.new }
 {
     log.reserve(left as usize + 1)
+}
+
+// Makes room for the event of an answer, and adds the answer to the graph. After want of memory the graph is as it was.
+fn take_in<A: Answer>(
+    alloc: Global,
+    log: &mut Vec<Event>,
+    left: u32,
+    graph: &mut Graph,
+    key: &Key,
+    answer: &A,
+) -> Result<(), AllocError>
+    requires { IsNew graph.old.replies (key_of key.now) }
+    ensures items { log.new.items ≡ log.old.items }
+    ensures len { vec_len log.new ≡ vec_len log.old }
+    ensures room { OnOk result (vec_len log.new + 1 + left ≤ vec_capacity log.new) }
+    ensures kept { vec_capacity log.old ≤ vec_capacity log.new }
+    ensures ok { OnOk result (graph.new.replies ≡ with_answer graph.old.replies (key_of key.now) (A.meaning answer.now)) }
+    ensures found { OnOk result (IsMore graph.old.found graph.new.found) }
+    ensures err { OnErr result (graph.new ≡ graph.old) }
+{
+    make_room(log, left)?;
+    add_answer(alloc, graph, key, answer)
 }
 
 // Puts an event behind the others; there is room for it.
@@ -88,9 +117,10 @@ fn wait_or_cycle(closes: bool, seat: u32) -> Blocked
 }
 
 /// The book of loading. Contracts see its keys, each at its number, and its log: the list of all events. What is claimed,
-/// blocked and filed is what that log leaves.
+/// blocked and filed is what that log leaves. It keeps the graph of the units that are reached over what is filed.
 #[derive(Drop)]
 pub struct Book<A: Answer> {
+    alloc: Global,
     seats: u32,
     // How many seats haven't stopped.
     left: u32,
@@ -99,12 +129,17 @@ pub struct Book<A: Answer> {
     log: Vec<Event>,
     // The cause of the first stop.
     stop: Option<Cause>,
+    // What is reached over the answers that are filed.
+    graph: Graph,
+    // How many facts of the graph were looked at: the units that they reach have numbers.
+    seen: usize,
 }
 
 impl<A: Answer> Model for Book<A> {
     ghost use Rattle.std.specs.Prelude.{vec_len, vec_capacity};
     ghost use Rattle.gn_book.specs.Logs.{Log};
     ghost use Rattle.gn_book.specs.Books.{log_in, IsWhole};
+    ghost use Rattle.gn_book.specs.Graphs.{IsGraphed};
     ghost use Rattle.std.specs.Coded.{codes};
     ghost use Rattle.gn_values.specs.ImportedCode.{import_code};
 
@@ -114,7 +149,8 @@ impl<A: Answer> Model for Book<A> {
 
     ghost view = { λ b. log_in b.seats b.roster.keys b.roster.standings b.log.items };
 
-    ghost invariant = { λ b. IsWhole b.seats b.left b.stop b.roster.keys b.roster.standings b.log.items (vec_len b.log) (vec_capacity b.log) };
+    ghost invariant = { λ b. IsWhole b.seats b.left b.stop b.roster.keys b.roster.standings b.log.items (vec_len b.log) (vec_capacity b.log)
+        × IsGraphed (log_in b.seats b.roster.keys b.roster.standings b.log.items) b.graph b.seen };
 }
 
 impl<A: Answer> Book<A> {
@@ -122,14 +158,18 @@ impl<A: Answer> Book<A> {
     pub fn new(alloc: Global, seats: u32) -> Result<Book<A>, AllocError>
         ensures { IfOk result (λ book. book ≡ record { seats = seats; keys = []; events = [] }) }
     {
+        let graph = start_graph(alloc)?;
         let mut log = Vec::new(alloc);
         log.reserve(seats as usize)?;
         Ok(Book {
+            alloc,
             seats,
             left: seats,
             roster: Roster::new(alloc),
             log,
             stop: None,
+            graph,
+            seen: 0,
         })
     }
 
@@ -147,6 +187,21 @@ impl<A: Answer> Book<A> {
         ensures { option_map (λ answer. A.meaning answer.now) result ≡ (state_of self.now).filed (key_at self.now key) }
     {
         self.roster.answer(key)
+    }
+
+    /// The answer of a key. None comes exactly where none is filed, also where the key has no number. It takes no memory.
+    pub fn find(&self, key: &Key) -> Option<&A>
+        ensures { option_map (λ answer. A.meaning answer.now) result ≡ (state_of self.now).filed (key_of key.now) }
+    {
+        self.roster.find(key)
+    }
+
+    /// Whether more build files, each counted under each of its toolchains, or more build configurations are reached over what
+    /// is filed than a build may have. It takes no memory and no time.
+    pub fn reaches_too_many(&self) -> bool
+        ensures { result ≡ is_too_large home (units (state_of self.now).filed) }
+    {
+        self.graph.is_too_large()
     }
 
     /// All events, the first one first. The answer of a key that was filed is that of `answer`. It takes no memory.
@@ -178,14 +233,24 @@ impl<A: Answer> Book<A> {
         }
     }
 
-    /// The number of a key. A key that has none gets the next one; a unit or a label is ready from then on. After want of memory
-    /// nothing is changed, and the key is dropped.
+    /// The number of a key that isn't a unit. A key that has none gets the next one; a label is ready from then on. After want of
+    /// memory nothing is changed, and the key is dropped.
     pub fn number(&mut self, key: Key) -> Result<KeyId, AllocError>
+        requires { is_unit (key_of key) ≡ false }
         ensures number { IfOk result (λ number. slice_get self.new.keys number ≡ Some (key_of key)) }
         ensures ok { OnOk result (self.new ≡ with_key self.old (key_of key)) }
         ensures err { OnErr result (self.new ≡ self.old) }
     {
         self.roster.number(key)
+    }
+
+    /// Each unit that is reached over what is filed gets a number, if it has none, and is ready from then on; no other unit has a
+    /// number. After want of memory some may still have none: the next call goes on.
+    pub fn number_reached(&mut self) -> Result<(), AllocError>
+        ensures ok { OnOk result (UnitsHaveNumbers self.new) }
+        ensures keys { HasMoreKeys self.old self.new }
+    {
+        number_facts(self.alloc, &mut self.roster, &self.graph, &mut self.seen)
     }
 
     /// The seat claims a key that has no answer and that nobody has claimed. After want of memory nothing is changed.
@@ -205,7 +270,9 @@ impl<A: Answer> Book<A> {
             number: key,
         })
     }
-    /// Files the answer of a key that the seat of the claim has claimed. After want of memory nothing is changed, and the claim
+
+    /// Files the answer of a key that the seat of the claim has claimed: units that are reached by it get their numbers by
+    /// `number_reached`. After want of memory nothing is changed, and the claim
     /// and the answer come back.
     pub fn file(&mut self, claim: Claim, answer: A) -> Result<(), (Claim, A)>
         requires number { claim.number < length self.old.keys }
@@ -214,13 +281,21 @@ impl<A: Answer> Book<A> {
         ensures err { OnErr result (self.new ≡ self.old) }
         ensures back { IfErr result (λ back. back ≡ (claim, answer)) }
     {
-        match make_room(&mut self.log, self.left) {
+        match take_in(
+            self.alloc,
+            &mut self.log,
+            self.left,
+            &mut self.graph,
+            self.roster.key(claim.number),
+            &answer,
+        ) {
             Err(_) => Err((claim, answer)),
             Ok(()) => {
                 let seat = claim.seat;
                 let number = claim.number;
                 claim.spend();
                 self.roster.file(number, answer);
+                more_answers_reach_more();
                 note(&mut self.log, Event::File(seat, number));
                 Ok(())
             }

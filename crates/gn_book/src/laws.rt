@@ -1,5 +1,6 @@
 // What a book is to the rules of loading.
 
+ghost use Rattle.gn_book.specs.Claims.{ClaimsAreGiven, ClaimsStay};
 ghost use Rattle.gn_book.specs.NextLaws.{KindsAreInOrder, TasksHaveNoTies, NextIsByRules, ReadyMeansWork, QuietMeansQuiet};
 ghost use Rattle.gn_book.specs.Runs.{IsOpenAtFirst, EventsExtendRuns, AsksNoMore};
 
@@ -25,4 +26,11 @@ pub fn next_is_by_the_rules()
     ensures says { NextIsByRules }
     ensures work { ReadyMeansWork }
     ensures quiet { QuietMeansQuiet }
+{}
+
+/// Who claims a key has it, and so has who waits for a key that nobody has claimed. Whatever happens, a key that a seat has
+/// claimed stays claimed by it, until its answer is filed.
+pub fn claims_stay()
+    ensures given { ClaimsAreGiven }
+    ensures stay { ClaimsStay }
 {}

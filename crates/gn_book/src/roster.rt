@@ -8,7 +8,7 @@ ghost use Rattle.gn_book.specs.Chains.{LeadsTo};
 ghost use Rattle.gn_book.specs.Holders.{HoldsAs};
 ghost use Rattle.gn_book.specs.Keys.{key_of};
 ghost use Rattle.gn_book.specs.Rosters.{with_standing, with_key, with_number, IsNumberOf, IsHeld, IsFirstReady, IsOneHeld};
-ghost use Rattle.gn_book.specs.Standings.{is_open, is_claimed, is_blocked, is_filed, seat_in, answer_in, next_of};
+ghost use Rattle.gn_book.specs.Standings.{is_open, is_claimed, is_blocked, is_filed, seat_in, answer_in, next_of, standing_at};
 ghost use Rattle.gn_book.specs.declared.status.Status.TheVariants.{Open};
 
 use crate::answer::Answer;
@@ -132,6 +132,16 @@ impl<A: Answer> Roster<A> {
         ensures { option_map (λ answer. A.meaning answer.now) result ≡ answer_in (slice_get self.now.standings number) }
     {
         status_at(&self.statuses, number).answer()
+    }
+
+    // The answer of a key, if it has one.
+    pub(crate) fn find(&self, key: &Key) -> Option<&A>
+        ensures { option_map (λ answer. A.meaning answer.now) result ≡ answer_in (standing_at self.now.keys self.now.standings (key_of key.now)) }
+    {
+        match number_of(&self.keys, key) {
+            None => None,
+            Some(number) => self.answer(number),
+        }
     }
 
     // Who has the key of a number.

@@ -5,13 +5,10 @@ use Rattle.std.proofs.lemmas.List.{append_assoc, append-nil}
 use Rattle.gn_closure.specs.Closure.{Horn, In}
 use Rattle.gn_closure.specs.Reach.{Unit_key, Setup, Done}
 use Rattle.gn_closure.specs.Ground.{Step}
-use Rattle.gn_closure.specs.Computed.{is_reached, same_unit, start_rules}
-use Rattle.gn_closure.proofs.SameStep.{step_tested}
+use Rattle.gn_closure.specs.Computed.{same_unit, start_rules}
+use Rattle.gn_closure.proofs.SameStep.{unit_is, unit_own}
+use Rattle.gn_closure.proofs.Opened.{in_append}
 use Rattle.gn_graph.specs.Replies.{Reply, units_in, AreSingle, default_in, reply_rules, rules_by, all_rules, more_rules, after}
-use Rattle.gn_graph.proofs.Reached.{unit_is, in_append}
-
-unit_own : (k : Unit_key) → same_unit k k ≡ true
-unit_own k = (step_tested (is_reached k) (is_reached k)).1 refl
 
 abbrev pub or_else : {A : Type 0} → Option A → Option A → Option A
 or_else None y = y

@@ -1,20 +1,21 @@
 -- How many units of each kind were found, and whether they are too many.
 use Rattle.std.proofs.Common.{◌≡◌, ℕ, zero, suc, ◌+◌, ◌<◌, ◌≤◌, ltb, List, [], ◌∷◌, ◌++◌, length, take, map, Bool}
-use Rattle.std.proofs.Common.{true, false, cond, ◌||◌, Some, slice_get, refl, sym, ◌∙◌, ap, subst, ◌⊎◌, ◌↔◌, inl, inr, filter, arith}
+use Rattle.std.proofs.Common.{true, false, cond, ◌||◌, Some, slice_get, refl, sym, ◌∙◌, ap, subst, ◌↔◌, inl, inr, filter, arith}
 use Rattle.std.specs.List.{IsDistinct, AllByRecursion}
 use Rattle.std.specs.Set.{is_member}
-use Rattle.std.specs.Cmp.{IsEquivalence}
-use Rattle.std.proofs.lemmas.Bool.Decides.{nat_tests}
+use Rattle.std.specs.Cmp.{IsEquivalence, both_ways}
 use Rattle.std.proofs.lemmas.List.{take_more, length-append, take-append-le, length-take-le}
 use Rattle.std.proofs.lemmas.Option.{get_or_from_slice_get, slice_get_within}
 use Rattle.std.proofs.lemmas.Map.Made.{length-le_from_is_member}
+use Rattle.std.proofs.Math.Bool.{or-true}
+use Rattle.std.proofs.lemmas.Bool.{or_cases, false_from_ne_true, ltb-true, lt-ltb}
 use Rattle.gn_closure.specs.Closure.{In}
 use Rattle.gn_closure.specs.Reach.{Unit_key, Units, Fact, Is_reached, Holds}
 use Rattle.gn_closure.specs.Ground.{Step, Holding}
 use Rattle.gn_closure.specs.Computed.{is_reached, same_step, is_load, is_setup, load_limit, setup_limit, is_too_large}
 use Rattle.gn_closure.specs.Least.{IsLoad, IsSetup, ReachesMore}
 use Rattle.gn_closure.proofs.Least.{IsKind, load_kind, setup_kind, unit_in, distinct_units, long_units, named_units, kind_at, distinct_steps, long_steps, named_steps, limits_exact}
-use Rattle.gn_closure.proofs.SameStep.{step_tested}
+use Rattle.gn_closure.proofs.SameStep.{step_is, step_tested}
 use Rattle.gn_graph.specs.Needs.{home}
 use Rattle.gn_graph.specs.Numbers.{IsTable}
 use Rattle.gn_graph.specs.declared.counts.Counts.{Counts}
@@ -85,22 +86,13 @@ filter_in kind (x ∷ xs) s (inl f) k = by (kind x) (ap kind f ∙ k)
     by false e = absurd (cc e)
 filter_in kind (x ∷ xs) s (inr i) k = by (kind x) (filter_in kind xs s i k)
   where
-    or_true : (b : Bool) → (b || true) ≡ true
-    or_true true = refl
-    or_true false = refl
-
     by : (b : Bool) → is_member same_step (filter kind xs) s ≡ true → is_member same_step (cond b (x ∷ filter kind xs) (filter kind xs)) s ≡ true
-    by true h = ap (λ z. same_step s x || z) h ∙ or_true (same_step s x)
+    by true h = ap (λ z. same_step s x || z) h ∙ or-true (same_step s x)
     by false h = h
-
--- facts found once are distinct, and so are some of them
-not_true : (b : Bool) → (b ≡ true → ⊥) → b ≡ false
-not_true true f = absurd (f refl)
-not_true false f = refl
 
 apart_all : (s : Step) (xs : List Step) → ((i : ℕ) → slice_get xs i ≡ Some s → ⊥) → AllByRecursion (λ y. same_step s y ≡ false) xs
 apart_all s [] f = tt
-apart_all s (x ∷ xs) f = (not_true (same_step s x) (λ e. f 0 (ap Some (sym ((step_tested s x).0 e)))), apart_all s xs (λ i. f (suc i)))
+apart_all s (x ∷ xs) f = (false_from_ne_true (same_step s x) (λ e. f 0 (ap Some (sym ((step_tested s x).0 e)))), apart_all s xs (λ i. f (suc i)))
 
 distinct : (xs : List Step) → IsTable xs → IsDistinct same_step xs
 unfolding IsDistinct
@@ -135,28 +127,14 @@ member_of (x ∷ xs) s m = by (same_step s x) refl (member_of xs s) m
     by true e h n = inl (sym ((step_tested s x).0 e))
     by false e h n = inr (h n)
 
-below : (t n : ℕ) → ltb t n ≡ true → t < n
-below t n h = grind (arith, nat_tests)
-
-above : (t n : ℕ) → t < n → ltb t n ≡ true
-above t n h = grind (arith, nat_tests)
-
-same_tests : (b c : Bool) → (b ≡ true → c ≡ true) → (c ≡ true → b ≡ true) → b ≡ c
-same_tests true c f g = sym (f refl)
-same_tests false true f g = g refl
-same_tests false false f g = refl
-
-same_is : (x y : Step) → same_step x y ≡ true → x ≡ y
-same_is x y = (step_tested x y).0
-
 same_own : (x y : Step) → x ≡ y → same_step x y ≡ true
 same_own x y = (step_tested x y).1
 
 step_equiv : IsEquivalence same_step
 step_equiv = record {
   refl = λ x. same_own x x refl;
-  symm = λ x y. same_tests (same_step x y) (same_step y x) (λ e. same_own y x (sym (same_is x y e))) (λ e. same_own x y (sym (same_is y x e)));
-  congr = λ x y z e. ap (λ (w : Step). same_step w z) (same_is x y e);
+  symm = λ x y. both_ways (same_step x y) (same_step y x) (λ e. same_own y x (sym (step_is x y e))) (λ e. same_own x y (sym (step_is y x e)));
+  congr = λ x y z e. ap (λ (w : Step). same_step w z) (step_is x y e);
 }
 
 module _ (a : Units) (found : List Step) (table : IsTable found) (whole : (f : Fact) → In found (Holding f) ↔ Holds home a f)
@@ -167,7 +145,7 @@ module _ (a : Units) (found : List Step) (table : IsTable found) (whole : (f : F
       let tests : (s : Step) → In xs s → test s ≡ true = λ s i. (in_filter test found s i).1 in (
         map unit_in xs,
         distinct_units home a test kind is xs tests (distinct_filter test found (distinct found table)),
-        subst (λ (z : ℕ). limit < z) (sym (long_units home a test kind is xs)) (below limit (length xs) h),
+        subst (λ (z : ℕ). limit < z) (sym (long_units home a test kind is xs)) (ltb-true limit (length xs) h),
         λ k i. let j = named_units home a test kind is xs tests k i in (kind_at home a test kind is k (tests (is_reached k) j), (whole (Is_reached k)).0 (in_filter test found (is_reached k) j).0),
       )
 
@@ -177,16 +155,12 @@ module _ (a : Units) (found : List Step) (table : IsTable found) (whole : (f : F
       (λ q i. let w = named_steps home a test kind is m.0 q (member_of (map is_reached m.0) q i) in
       let k = m.3 w.0 w.1 in
       subst (λ (z : Step). is_member same_step (filter test found) z ≡ true) (sym w.2) (filter_in test found (is_reached w.0) ((whole (Is_reached w.0)).1 k.1) (is.back w.0 k.0))) in
-      above limit (count_of test found) (omega (arith, few, m.2, long_steps home a test kind is m.0))
+      lt-ltb limit (count_of test found) (omega (arith, few, m.2, long_steps home a test kind is m.0))
 
 pub limits_found : (a : Units) (found : List Step) → IsTable found → ((f : Fact) → In found (Holding f) ↔ Holds home a f)
     → (ltb load_limit (count_of is_load found) || ltb setup_limit (count_of is_setup found)) ≡ is_too_large home a
-limits_found a found table whole = same_tests _ _ there back
+limits_found a found table whole = both_ways _ _ there back
   where
-    either : (b c : Bool) → (b || c) ≡ true → (b ≡ true) ⊎ (c ≡ true)
-    either true c h = inl refl
-    either false c h = inr h
-
     left : (b c : Bool) → b ≡ true → (b || c) ≡ true
     left true c h = refl
     left false c h = absurd (cc h)
@@ -202,7 +176,7 @@ limits_found a found table whole = same_tests _ _ there back
     S = ltb setup_limit (count_of is_setup found)
 
     there : (L || S) ≡ true → is_too_large home a ≡ true
-    there h = (limits_exact home a).1 (elim (either L S h) [
+    there h = (limits_exact home a).1 (elim (or_cases L S h) [
       | inl x ↦ inl (too_many a found table whole is_load IsLoad load_kind load_limit x)
       | inr x ↦ inr (too_many a found table whole is_setup IsSetup setup_kind setup_limit x)
     ])

@@ -1,28 +1,14 @@
 -- Membership tests on lists of numbers.
 use Rattle.std.proofs.Common.{◌≡◌, ℕ, zero, suc, ◌+◌, ◌<◌, ◌≤◌, List, [], ◌∷◌, ◌++◌, length, take, drop, get_or}
-use Rattle.std.proofs.Common.{Bool, true, false, ◌||◌, refl, sym, ◌∙◌, ap, ◌⊎◌, inl, inr, nat_eq, eq-eqb, arith}
+use Rattle.std.proofs.Common.{true, false, ◌||◌, refl, sym, ◌∙◌, ap, nat_eq, eq-eqb, arith}
 use Rattle.std.proofs.lemmas.List.{take_more, take-append-drop}
 use Rattle.std.proofs.lemmas.List.Folds.{list_any-append}
 use Rattle.std.specs.List.{IsDistinct}
 use Rattle.std.proofs.lemmas.Bool.Decides.{nat_tests}
 use Rattle.std.proofs.lemmas.Map.Keys.{apart_from_distinct}
+pub use Rattle.std.proofs.Math.Bool.{or-false as or_false, or-true as or_true}
+pub use Rattle.std.proofs.lemmas.Bool.{or_cases as either, or_parts as absent}
 use Rattle.gn_graph.specs.Clauses.{has}
-
-pub or_false : (b : Bool) → (b || false) ≡ b
-or_false true = refl
-or_false false = refl
-
-pub or_true : (b : Bool) → (b || true) ≡ true
-or_true true = refl
-or_true false = refl
-
-pub either : (a b : Bool) → (a || b) ≡ true → (a ≡ true) ⊎ (b ≡ true)
-either true b h = inl refl
-either false b h = inr h
-
-pub absent : (a b : Bool) → (a || b) ≡ false → (a ≡ false) × (b ≡ false)
-absent true b h = absurd (cc h)
-absent false b h = (refl, h)
 
 pub has_own : (x : ℕ) (xs : List ℕ) → has (x ∷ xs) x ≡ true
 has_own x xs = ap (λ b. b || has xs x) (eq-eqb x x refl)

@@ -7,28 +7,12 @@ use Rattle.gn_closure.specs.Ground.{Step, Holding, Asked, Used, Defined, Set_up}
 use Rattle.gn_closure.specs.Computed.{is_reached, same_unit, start_rules, unit_rules, known_system, first_system, system_at, holds_in}
 use Rattle.gn_closure.specs.Least.{IsTooLarge}
 use Rattle.gn_closure.proofs.Least.{derived_holds, holds_derived, computed_least}
-use Rattle.gn_closure.proofs.SameStep.{step_tested}
+use Rattle.gn_closure.proofs.SameStep.{unit_is}
+use Rattle.gn_closure.proofs.Opened.{in_append, in_left, in_right, in_flat, flat_in}
 use Rattle.gn_graph.specs.Facts.{under}
 use Rattle.gn_graph.specs.Needs.{home}
 use Rattle.gn_graph.specs.Numbers.{Derived, by_rule as derive}
 use Rattle.gn_graph.specs.Replies.{Reply, reply, units_in, AreSingle, default_in, reply_rules, rules_by, all_rules}
-
-pub unit_is : (k q : Unit_key) → same_unit k q ≡ true → k ≡ q
-unit_is k q e = let s : is_reached k ≡ is_reached q = (step_tested (is_reached k) (is_reached q)).0 e in cc
-
-pub in_append : {A : Type 0} (xs ys : List A) (x : A) → In (xs ++ ys) x → In xs x ⊎ In ys x
-in_append [] ys x i = inr i
-in_append (y ∷ xs) ys x (inl e) = inl (inl e)
-in_append (y ∷ xs) ys x (inr i) = elim (in_append xs ys x i) [ inl a ↦ inl (inr a) | inr b ↦ inr b ]
-
-in_left : {A : Type 0} (xs ys : List A) (x : A) → In xs x → In (xs ++ ys) x
-in_left [] ys x i = absurd i
-in_left (y ∷ xs) ys x (inl e) = inl e
-in_left (y ∷ xs) ys x (inr i) = inr (in_left xs ys x i)
-
-in_right : {A : Type 0} (xs ys : List A) (x : A) → In ys x → In (xs ++ ys) x
-in_right [] ys x i = i
-in_right (y ∷ xs) ys x i = inr (in_right xs ys x i)
 
 in_map : {A B : Type 0} (f : A → B) (xs : List A) (y : B) → In (map f xs) y → (x : A) × In xs x × (f x ≡ y)
 in_map f [] y i = absurd i
@@ -39,18 +23,6 @@ map_in : {A B : Type 0} (f : A → B) (xs : List A) (x : A) → In xs x → In (
 map_in f [] x i = absurd i
 map_in f (y ∷ xs) x (inl e) = inl (ap f e)
 map_in f (y ∷ xs) x (inr i) = inr (map_in f xs x i)
-
-in_flat : {A B : Type 0} (f : A → List B) (xs : List A) (y : B) → In (flat_map f xs) y → (x : A) × In xs x × In (f x) y
-in_flat f [] y i = absurd i
-in_flat f (x ∷ xs) y i = elim (in_append (f x) (flat_map f xs) y i) [
-  | inl a ↦ (x, inl refl, a)
-  | inr b ↦ let q = in_flat f xs y b in (q.0, inr q.1, q.2)
-]
-
-flat_in : {A B : Type 0} (f : A → List B) (xs : List A) (x : A) (y : B) → In xs x → In (f x) y → In (flat_map f xs) y
-flat_in f [] x y i j = absurd i
-flat_in f (z ∷ xs) x y (inl e) j = in_left (f z) (flat_map f xs) y (subst (λ w. In (f w) y) (sym e) j)
-flat_in f (z ∷ xs) x y (inr i) j = in_right (f z) (flat_map f xs) y (flat_in f xs x y i j)
 
 -- an answer that the function gives stands in the list
 pub told : (rs : List Reply) (k : Unit_key) (x : Option Done) → units_in rs k ≡ Some x → In rs (reply k x)

@@ -1,6 +1,6 @@
 // The graph of reached units and generated labels, over the answers that were added.
 
-ghost use Rattle.std.specs.Prelude.{◌≡◌, ◌++◌, ◌∷◌, [], None, Some, IfOk, OnOk, OnErr, true, ◌↔◌, map, vec_len, vec_capacity, ◌<◌, ◌≤◌, length, slice_get, option_map, option_copied, ltb, ◌||◌};
+ghost use Rattle.std.specs.Prelude.{◌≡◌, ◌++◌, ◌∷◌, [], None, Some, IfOk, OnOk, OnErr, true, ◌↔◌, map, vec_len, vec_capacity, ◌<◌, ◌≤◌, ◌^◌, length, slice_get, option_map, option_copied, ltb, ◌||◌};
 ghost use Rattle.gn_closure.specs.Closure.{In};
 ghost use Rattle.gn_closure.specs.Reach.{Setup, Fact as Held, Holds};
 ghost use Rattle.gn_closure.specs.Ground.{Holding};
@@ -216,6 +216,15 @@ impl Graph {
         set_default(&mut self.default, default);
         keep(&mut self.answers, answered);
         Ok(())
+    }
+
+    /// How many facts hold over the answers. It takes no memory.
+    pub fn len(&self) -> usize
+        ensures len { result ≡ length self.now.found }
+        ensures small { result < 2 ^ 63 }
+        ensures whole { (f : Held) → In self.now.found (Holding f) ↔ Holds home (units_in self.now.replies) f }
+    {
+        self.closure.len()
     }
 
     /// The fact of a number among those that hold over the answers, in the order in which they were found. None comes exactly

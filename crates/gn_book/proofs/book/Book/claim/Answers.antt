@@ -3,28 +3,34 @@ use Rattle.gn_book.specs.declared.event.Event.{Event as Logged}
 use Rattle.gn_book.specs.declared.event.Event.TheVariants as logged
 use Rattle.gn_book.specs.Keys.{key_of}
 use Rattle.gn_book.proofs.Steps.{within, free_open, kept_whole, kept_log, err_says, claim_step, named_key}
+use Rattle.gn_book.proofs.Graphing.{graphed_same, graphed_event}
 use Rattle.gn_book.proofs.book.Book.claim.Goals as goal
 
 pub claim-requires-clause-number : goal.claim-requires-clause-number
-claim-requires-clause-number g c = within c.self.inside.seats c.self.inside.left c.self.inside.stop c.self.inside.roster.keys c.self.inside.roster.standings c.self.inside.log.items (vec_len c.self.inside.log) (vec_capacity c.self.inside.log) c.args.self.now (record { whole = c.self.invariant; view_is = c.self.view_is }) c.args.key c.requires.number
+claim-requires-clause-number g c = within c.self.inside.seats c.self.inside.left c.self.inside.stop c.self.inside.roster.keys c.self.inside.roster.standings c.self.inside.log.items (vec_len c.self.inside.log) (vec_capacity c.self.inside.log) c.args.self.now (record { whole = c.self.invariant.0; view_is = c.self.view_is }) c.args.key c.requires.number
 
 pub claim-requires-clause-is_open : goal.claim-requires-clause-is_open
-claim-requires-clause-is_open g c = free_open c.self.inside.seats c.self.inside.left c.self.inside.stop c.self.inside.roster.keys c.self.inside.roster.standings c.self.inside.log.items (vec_len c.self.inside.log) (vec_capacity c.self.inside.log) c.args.self.now (record { whole = c.self.invariant; view_is = c.self.view_is }) c.args.key c.requires.number c.requires.free
+claim-requires-clause-is_open g c = free_open c.self.inside.seats c.self.inside.left c.self.inside.stop c.self.inside.roster.keys c.self.inside.roster.standings c.self.inside.log.items (vec_len c.self.inside.log) (vec_capacity c.self.inside.log) c.args.self.now (record { whole = c.self.invariant.0; view_is = c.self.view_is }) c.args.key c.requires.number c.requires.free
 
 pub invariant_of-self-in_err-named : goal.invariant_of-self-in_err-named
-invariant_of-self-in_err-named g c = kept_whole c.self.inside.seats c.self.inside.left c.self.inside.stop c.self.inside.roster.keys c.self.inside.roster.standings c.self.inside.log.items (vec_len c.self.inside.log) (vec_capacity c.self.inside.log) c.self.invariant c.claim.new.self c.make_room.new.log.items (vec_len c.make_room.new.log) (vec_capacity c.make_room.new.log)
-    c.in_err-named.ensures.err c.make_room.ensures.items c.make_room.ensures.len c.make_room.ensures.kept
+invariant_of-self-in_err-named g c = (
+  kept_whole c.self.inside.seats c.self.inside.left c.self.inside.stop c.self.inside.roster.keys c.self.inside.roster.standings c.self.inside.log.items (vec_len c.self.inside.log) (vec_capacity c.self.inside.log) c.self.invariant.0 c.claim.new.self c.make_room.new.log.items (vec_len c.make_room.new.log) (vec_capacity c.make_room.new.log)
+      c.in_err-named.ensures.err c.make_room.ensures.items c.make_room.ensures.len c.make_room.ensures.kept,
+  graphed_same _ _ _ _ _ c.self.view_is (kept_log c.self.inside.seats c.self.inside.roster c.claim.new.self c.self.inside.log.items c.make_room.new.log.items c.args.self.now c.self.view_is c.in_err-named.ensures.err c.make_room.ensures.items) c.self.invariant.1,
+)
 
 pub invariant_of-self-2 : goal.invariant_of-self-2
-invariant_of-self-2 g c = (claim_step c.self.inside.seats c.self.inside.left c.self.inside.stop c.self.inside.roster.keys c.self.inside.roster.standings c.self.inside.log.items (vec_len c.self.inside.log) (vec_capacity c.self.inside.log) c.args.self.now (record { whole = c.self.invariant; view_is = c.self.view_is })
+invariant_of-self-2 g c =
+    let done = claim_step c.self.inside.seats c.self.inside.left c.self.inside.stop c.self.inside.roster.keys c.self.inside.roster.standings c.self.inside.log.items (vec_len c.self.inside.log) (vec_capacity c.self.inside.log) c.args.self.now (record { whole = c.self.invariant.0; view_is = c.self.view_is })
     c.args.key c.args.seat c.requires.number c.requires.free
     c.claim.new.self c.note.new.log.items (vec_len c.note.new.log) (vec_capacity c.note.new.log)
     c.in_ok-named.ensures.ok
     (c.note.ensures.items ∙ ap (λ (z : List Logged). z ++ logged.Claim c.args.seat c.args.key ∷ []) c.make_room.ensures.items)
-    (omega (arith, c.note.ensures.len, c.note.ensures.capacity, c.in_ok-make_room.ensures.room))).0
+    (omega (arith, c.note.ensures.len, c.note.ensures.capacity, c.in_ok-make_room.ensures.room)) in
+    (done.0, graphed_event _ _ _ _ _ _ c.self.view_is done.1 refl c.self.invariant.1)
 
 pub returns-clause-ok : goal.returns-clause-ok
-returns-clause-ok g c = (claim_step c.self.inside.seats c.self.inside.left c.self.inside.stop c.self.inside.roster.keys c.self.inside.roster.standings c.self.inside.log.items (vec_len c.self.inside.log) (vec_capacity c.self.inside.log) c.args.self.now (record { whole = c.self.invariant; view_is = c.self.view_is })
+returns-clause-ok g c = (claim_step c.self.inside.seats c.self.inside.left c.self.inside.stop c.self.inside.roster.keys c.self.inside.roster.standings c.self.inside.log.items (vec_len c.self.inside.log) (vec_capacity c.self.inside.log) c.args.self.now (record { whole = c.self.invariant.0; view_is = c.self.view_is })
     c.args.key c.args.seat c.requires.number c.requires.free
     c.claim.new.self c.note.new.log.items (vec_len c.note.new.log) (vec_capacity c.note.new.log)
     c.in_ok-named.ensures.ok
@@ -32,7 +38,7 @@ returns-clause-ok g c = (claim_step c.self.inside.seats c.self.inside.left c.sel
     (omega (arith, c.note.ensures.len, c.note.ensures.capacity, c.in_ok-make_room.ensures.room))).1
 
 pub returns-clause-claim : goal.returns-clause-claim
-returns-clause-claim g c = (named_key c.self.inside.seats c.self.inside.left c.self.inside.stop c.self.inside.roster.keys c.self.inside.roster.standings c.self.inside.log.items (vec_len c.self.inside.log) (vec_capacity c.self.inside.log) c.args.self.now (record { whole = c.self.invariant; view_is = c.self.view_is }) c.args.key (key_of c.in_ok-named.named) c.in_ok-named.ensures.key, refl, refl)
+returns-clause-claim g c = (named_key c.self.inside.seats c.self.inside.left c.self.inside.stop c.self.inside.roster.keys c.self.inside.roster.standings c.self.inside.log.items (vec_len c.self.inside.log) (vec_capacity c.self.inside.log) c.args.self.now (record { whole = c.self.invariant.0; view_is = c.self.view_is }) c.args.key (key_of c.in_ok-named.named) c.in_ok-named.ensures.key, refl, refl)
 
 pub returns-in_err-named-clause-err : goal.returns-in_err-named-clause-err
 returns-in_err-named-clause-err g c = err_says c.from_residual-in_err-named.result _ (kept_log c.self.inside.seats c.self.inside.roster c.claim.new.self c.self.inside.log.items c.make_room.new.log.items c.args.self.now c.self.view_is c.in_err-named.ensures.err c.make_room.ensures.items)

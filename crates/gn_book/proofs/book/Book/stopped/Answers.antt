@@ -3,4 +3,4 @@ use Rattle.gn_book.proofs.Steps.{stopped_same}
 use Rattle.gn_book.proofs.book.Book.stopped.Goals as goal
 
 pub returns : goal.returns
-returns g c = stopped_same c.self.inside.seats c.self.inside.left c.self.inside.stop c.self.inside.roster.keys c.self.inside.roster.standings c.self.inside.log.items (vec_len c.self.inside.log) (vec_capacity c.self.inside.log) c.args.self.now (record { whole = c.self.invariant; view_is = c.self.view_is })
+returns g c = stopped_same c.self.inside.seats c.self.inside.left c.self.inside.stop c.self.inside.roster.keys c.self.inside.roster.standings c.self.inside.log.items (vec_len c.self.inside.log) (vec_capacity c.self.inside.log) c.args.self.now (record { whole = c.self.invariant.0; view_is = c.self.view_is })

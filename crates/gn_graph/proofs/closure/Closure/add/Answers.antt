@@ -6,7 +6,7 @@ use Rattle.gn_graph.specs.Clauses.{has, horn_of, horns, waits_at}
 use Rattle.gn_graph.specs.Facts.{steps_in, rules_in}
 use Rattle.gn_graph.specs.Plans.{IsUsed, IsPlan}
 use Rattle.gn_graph.specs.Numbers.{Known, known, IsKnown, horns_at, facts_of}
-use Rattle.gn_graph.proofs.Results.{err_says}
+use Rattle.gn_basics.proofs.Results.{on_err_too}
 use Rattle.gn_graph.proofs.Table.{still, stays, all_found}
 use Rattle.gn_graph.proofs.Known.{known_more, rules_more, found_more, found_once}
 use Rattle.gn_graph.proofs.closure.Closure.add.Goals as goal
@@ -25,7 +25,7 @@ pub returns-in_err-extra-clause-err : goal.returns-in_err-extra-clause-err
 returns-in_err-extra-clause-err c =
     let ss = steps_in c.self.inside.facts.keys in
     let new = steps_in c.make_plan.new.facts.keys in
-    err_says c.from_residual.result _ (stays ss (horns c.self.inside.clauses.items) c.self.inside.holds.keys (waits_at c.self.inside.uses) c.self.invariant new c.make_plan.ensures.grows.0
+    on_err_too c.from_residual.result _ (stays ss (horns c.self.inside.clauses.items) c.self.inside.holds.keys (waits_at c.self.inside.uses) c.self.invariant new c.make_plan.ensures.grows.0
     ∙ c.self.view_is)
 
 pub invariant_of-self-in_err-reserve : goal.invariant_of-self-in_err-reserve
@@ -44,7 +44,7 @@ returns-in_err-reserve-clause-err c =
     let ss = steps_in c.self.inside.facts.keys in
     let new = steps_in c.make_plan.new.facts.keys in
     let rs = horns c.self.inside.clauses.items in
-    err_says c.from_residual-in_err-reserve.result _ (ap (known new rs) c.reserve.ensures.keys
+    on_err_too c.from_residual-in_err-reserve.result _ (ap (known new rs) c.reserve.ensures.keys
     ∙ stays ss rs c.self.inside.holds.keys (waits_at c.self.inside.uses) c.self.invariant new c.make_plan.ensures.grows.0 ∙ c.self.view_is)
 
 pub invariant_of-self-in_err-append : goal.invariant_of-self-in_err-append
@@ -64,7 +64,7 @@ returns-in_err-append-clause-err c =
     let ss = steps_in c.self.inside.facts.keys in
     let new = steps_in c.make_plan.new.facts.keys in
     let rs = horns c.self.inside.clauses.items in
-    err_says c.from_residual-in_err-append.result _ (ap (λ z. known new (horns z) c.reserve.new.self.keys) c.in_err-append.ensures.items ∙ ap (known new rs) c.reserve.ensures.keys
+    on_err_too c.from_residual-in_err-append.result _ (ap (λ z. known new (horns z) c.reserve.new.self.keys) c.in_err-append.ensures.items ∙ ap (known new rs) c.reserve.ensures.keys
     ∙ stays ss rs c.self.inside.holds.keys (waits_at c.self.inside.uses) c.self.invariant new c.make_plan.ensures.grows.0 ∙ c.self.view_is)
 
 pub invariant_of-self-2 : goal.invariant_of-self-2

@@ -6,7 +6,7 @@ use Rattle.gn_graph.specs.declared.fact.Fact.{Fact}
 use Rattle.gn_graph.specs.Clauses.{has, horns, waits_at}
 use Rattle.gn_graph.specs.Facts.{steps_in, step_of}
 use Rattle.gn_graph.specs.Numbers.{Known, IsTable, fact_of}
-use Rattle.gn_graph.proofs.Results.{map_copied}
+use Rattle.gn_basics.proofs.Results.{shown}
 use Rattle.gn_graph.proofs.Has.{has_at}
 use Rattle.gn_graph.proofs.Table.{all_found, found_at}
 use Rattle.gn_graph.proofs.Known.{found_once}
@@ -32,7 +32,7 @@ returns-in-Some-clause-fact c =
     let f : ℕ = c.in-Some.fact.now in
     let at : slice_get hk n ≡ Some f = sym c.in-Some.ensures.key in
     let there : has hk f ≡ true = ap (has hk) (sym (get_or_from_slice_get hk n f 0 at)) ∙ has_at hk n (slice_get_within hk n f at) in
-    map_copied step_of c.get_index-in-Some.result ∙ ap (option_map step_of) c.get_index-in-Some.ensures.key ∙ sym (slice_get-map step_of keys f)
+    shown step_of c.get_index-in-Some.result ∙ ap (option_map step_of) c.get_index-in-Some.ensures.key ∙ sym (slice_get-map step_of keys f)
     ∙ found_at ss rs hk u c.self.invariant f there ∙ sym (slice_get-map (fact_of ss) hk n ∙ ap (option_map (fact_of ss)) at)
     ∙ ap (λ (z : Known). slice_get z.found n) c.self.view_is
 
