@@ -92,7 +92,10 @@ fn labels_are_known(rt: HostRuntime) -> Result<(), Fail> {
 
 fn begins_empty(alloc: Global) -> bool {
     let outcome = Outcome::new(alloc);
-    outcome.items().is_empty() && outcome.prints().is_empty() && outcome.asked().is_empty()
+    outcome.items().is_empty()
+        && outcome.prints().is_empty()
+        && outcome.written().is_empty()
+        && outcome.asked().is_empty()
 }
 
 fn are_items(items: &[Item]) -> bool {

@@ -136,6 +136,23 @@ const SAID: &str = said! {
     "foreach(part, string_split(string_join(\"-\", [ \"x\", \"y\" ]), \"-\")) {\n  group(part) {\n    print(split_list([ part ], 1))\n  }\n}"
         => "[[\"x\"]]\n[[\"y\"]]\n//:x\n//:y\n";
     "string_join(\"\", [])\ntemplate(\"string_join\") {\n  print(target_name)\n}\nstring_join(\"n\") {\n}" => "n\n";
+    // Calls on paths and labels, which stand in the root directory, and files that are written.
+    "print(rebase_path(\"a/b/\", \"//c\"), rebase_path(\"//c\", \"//c\"), rebase_path(\"//c/\", \"//c\"), rebase_path(\"//\", \"//c\"))"
+        => "../a/b/ . ./ ../\n";
+    "print(rebase_path([ \"x\", \"y/\" ], \"a\", \"b\"), rebase_path(\"x\", \"a\"))" => "[\"../b/x\", \"../b/y/\"] ../x\n";
+    "print([ get_path_info(\"bar.txt\", \"dir\"), get_path_info(\"a/b.tar.gz\", \"name\"), get_path_info(\"a/b.tar.gz\", \"extension\"), get_path_info(\"a/b\", \"file\"), get_path_info(\"x/../y\", \"abspath\") ])"
+        => "[\".\", \"b.tar\", \"gz\", \"b\", \"//y\"]\n";
+    "print(get_path_info([ \"a\", \"//b/c\" ], \"abspath\"))" => "[\"//a\", \"//b/c\"]\n";
+    "print(get_label_info(\"//a:b\", \"name\"), get_label_info(\":c\", \"dir\"), get_label_info(\"//d\", \"label_no_toolchain\"))"
+        => "b // //d:d\n";
+    "print(label_matches(\"//a:b\", [ \"//a:*\" ]), label_matches(\":x\", [ \"//a/*\", \"y:x\" ]), label_matches(\"//a:b\", []))"
+        => "true false false\n";
+    "print(process_file_template([ \"a/b.cc\", \"c.h\" ], [ \"{{source_name_part}}.o\", \"{{source}}\" ]))"
+        => "[\"b.o\", \"//a/b.cc\", \"c.o\", \"//c.h\"]\n";
+    "print(process_file_template([ \"a/b.cc\" ], \"{{source_root_relative_dir}}/{{source_file_part}}\"))"
+        => "[\"a/b.cc\"]\n";
+    "template(\"t\") {\n  print(rebase_path(\"x\", \"//a\"))\n}\nt(\"n\") {\n}" => "../x\n";
+    "write_file(\"x\", \"a\")\nwrite_file(\"x\", [ \"a\", \"b\" ])\nwrite_file(\"y/\", [])" => "";
 };
 
 // Faults of tokens, operators and calls.
@@ -242,6 +259,43 @@ const FAULTS: &str = faults! {
     "string_replace(\"a\", \"b\", \"c\", -1)" => "1:1", "Wrong arguments to \"string_replace\".";
     "string_split(\"a\", \"\")" => "1:1", "Wrong arguments to \"string_split\".";
     "x = split_list([], 1048577)" => "1:5", "Value is too long.";
+    // Calls on paths, labels and files: types first, then what can't be asked, then paths, labels, patterns and substitutions,
+    // argument by argument.
+    "get_label_info(q)" => "1:1", "Wrong arguments to \"get_label_info\".";
+    "label_matches(q, q) {\n}" => "1:1", "Wrong arguments to \"label_matches\".";
+    "rebase_path()" => "1:1", "Wrong arguments to \"rebase_path\".";
+    "rebase_path(q, q, q, q)" => "1:1", "Wrong arguments to \"rebase_path\".";
+    "process_file_template(q, q, q)" => "1:1", "Wrong arguments to \"process_file_template\".";
+    "get_path_info(1, q)" => "1:18", "Undefined identifier \"q\".";
+    "get_path_info(\"a\", 1)" => "1:20", "Wrong type of value.";
+    "label_matches(\":b\", \"*\")" => "1:21", "Wrong type of value.";
+    "x = rebase_path(\"a\", \"b\", 1)" => "1:27", "Wrong type of value.";
+    "get_path_info(\"\", \"nope\")" => "1:1", "Wrong arguments to \"get_path_info\".";
+    "get_label_info(\":b\", \"nope\")" => "1:1", "Wrong arguments to \"get_label_info\".";
+    "get_path_info(\"../..\", \"file\")" => "1:15", "Path is above the source root.";
+    "get_path_info([ \"a\", \"\" ], \"file\")" => "1:15", "Invalid path.";
+    "get_label_info(\"x\", \"name\")" => "1:16", "Invalid label.";
+    "label_matches(\"//a:b\", [ \"//a*:b\" ])" => "1:24", "Invalid pattern.";
+    "process_file_template([ \"a\" ], \"{{nope}}\")" => "1:32", "Unknown substitution.";
+    "process_file_template([ \"../a\" ], \"{{nope}}\")" => "1:23", "Path is above the source root.";
+    "print(rebase_path(\"../x\"))" => "1:19", "Path is above the source root.";
+    "rebase_path(\"a\", \"../b\")" => "1:18", "Path is above the source root.";
+    "write_file(\"x\")" => "1:1", "Wrong arguments to \"write_file\".";
+    "write_file(1, 1)" => "1:12", "Wrong type of value.";
+    "write_file(\"../x\", 1)" => "1:20", "Wrong type of value.";
+    "write_file(\"x\", [ 1 ])" => "1:17", "Wrong type of value.";
+    "write_file(\"../x\", \"\")" => "1:12", "Path is above the source root.";
+    "write_file(\"//\", \"\")" => "1:12", "Invalid path.";
+    "write_file(\"/x\", \"\")" => "1:12", "Invalid path.";
+    "x = write_file(\"y\", \"\")" => "1:5", "Wrong type of value.";
+    "read_file(q)" => "1:1", "Wrong arguments to \"read_file\".";
+    "read_file(1, 1)" => "1:11", "Wrong type of value.";
+    "read_file(\"\", 1)" => "1:15", "Wrong type of value.";
+    "read_file(\"\", \"json\")" => "1:1", "\"json\" is not in this profile.";
+    "read_file(\"\", \"string\")" => "1:11", "Invalid path.";
+    "read_file(\"../x\", \"\")" => "1:11", "Path is above the source root.";
+    "read_file(\"/x\", \"string\")" => "1:11", "Invalid path.";
+    "x = read_file(\"//BUILD.gn\", \"\")" => "1:5", "Wrong type of value.";
 };
 
 // Faults of scopes and templates. A checked scope reports the name whose last assignment stands first, where nothing has

@@ -89,6 +89,29 @@ const TREES: &str = trees! {
     => 1 "ERROR at //BUILD.gn:1:8: Path is above the source root.\n";
     "//BUILD.gn": "import(\"/a.gni\")\n",
     => 1 "ERROR at //BUILD.gn:1:8: Invalid path.\n";
+    // Contents that are read, by a build file and by a file that is imported.
+    "//BUILD.gn": "print(read_file(\"d.txt\", \"string\"), read_file(\"//d.txt\", \"list lines\"), read_file(\"d.txt\", \"trim string\"), read_file(\"d.txt\", \"trim list lines\"))\n",
+    "//d.txt": "\n a b \r\nc\n\n",
+    => 0 "\n a b \r\nc\n\n [\"\", \"a b\", \"c\", \"\"] a b \r\nc [\"a b\", \"c\"]\n";
+    "//BUILD.gn": "read_file(\"//e.txt\", \"\")\nprint(read_file(\"//e.txt\", \"list lines\"), read_file(\"//e.txt\", \"string\") == \"\")\n",
+    "//e.txt": "",
+    => 0 "[] true\n";
+    "//BUILD.gn": "print(read_file(\"//e.txt\", \"list lines\"), read_file(\"//f.txt\", \"list lines\"))\n",
+    "//e.txt": " \n",
+    "//f.txt": "a\n \n ",
+    => 0 "[\"\"] [\"a\", \"\"]\n";
+    "//BUILD.gn": "import(\"//d/a.gni\")\nprint(x, read_file(\"//BUILD.gn\", \"list lines\") == [])\n",
+    "//d/a.gni": "x = read_file(\"x.txt\", \"string\")\n",
+    "//d/x.txt": "y",
+    => 0 "y false\n";
+    "//BUILD.gn": "read_file(\"//no.txt\", \"\")\n",
+    => 1 "ERROR at //BUILD.gn:1:11: No such file \"//no.txt\".\n";
+    "//BUILD.gn": "write_file(\"d.txt\", \"b\")\nprint(read_file(\"d.txt\", \"string\"))\nread_file(\"d.txt/\", \"string\")\n",
+    "//d.txt": "a",
+    => 1 "ERROR at //BUILD.gn:3:11: No such file \"//d.txt/\".\n";
+    "//BUILD.gn": "import(\"//a.gni\")\nprint(nope)\n",
+    "//a.gni": "\nread_file(\"no.txt\", \"string\")\n",
+    => 1 "ERROR at //a.gni:2:11: No such file \"//no.txt\".\n";
     // How deep an import may stand.
     "//BUILD.gn": "if (true) {\nif (true) {\nif (true) {\nif (true) {\nimport(\"//d.gni\")\n}\n}\n}\n}\n",
     "//d.gni": "",

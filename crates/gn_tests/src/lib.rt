@@ -22,6 +22,8 @@ mod sizes;
 #[cfg(test)]
 mod sources;
 #[cfg(test)]
+mod standing;
+#[cfg(test)]
 mod units;
 #[cfg(test)]
 mod values;

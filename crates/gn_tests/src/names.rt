@@ -1,10 +1,10 @@
 // Names of functions and of kinds of targets.
 
+use gn_functions::{Changing, Function, Named, Opening, Plain, TargetKind};
 use gn_items::ItemKind;
-use gn_meaning::{Changing, Function, Named, Opening, Plain, TargetKind};
 use std::test::Fail;
 
-static FUNCTIONS: [(&[u8], Named); 20] = [
+static FUNCTIONS: [(&[u8], Named); 22] = [
     (b"assert", Named::Function(Function::Plain(Plain::Assert))),
     (b"defined", Named::Function(Function::Defined)),
     (b"foreach", Named::Function(Function::Foreach)),
@@ -22,6 +22,10 @@ static FUNCTIONS: [(&[u8], Named); 20] = [
     ),
     (b"print", Named::Function(Function::Plain(Plain::Print))),
     (
+        b"read_file",
+        Named::Function(Function::Changing(Changing::ReadFile)),
+    ),
+    (
         b"set_defaults",
         Named::Function(Function::Opening(Opening::SetDefaults)),
     ),
@@ -37,10 +41,14 @@ static FUNCTIONS: [(&[u8], Named); 20] = [
         b"group",
         Named::Function(Function::Opening(Opening::Item(ItemKind::Group))),
     ),
+    (
+        b"write_file",
+        Named::Function(Function::Plain(Plain::WriteFile)),
+    ),
     (b"action", Named::Excluded),
     (b"executable", Named::Excluded),
     (b"getenv", Named::Excluded),
-    (b"write_file", Named::Excluded),
+    (b"path_exists", Named::Excluded),
     (b"groups", Named::Unknown),
     (b"Print", Named::Unknown),
     (b"templat", Named::Unknown),

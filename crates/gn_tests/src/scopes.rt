@@ -7,7 +7,7 @@ use gn_paths::{Path, Text};
 use gn_scopes::{ScopeError, Scopes};
 use gn_text::Names;
 use gn_tree::{AssignOp, Position};
-use gn_values::{MadeBy, Value};
+use gn_values::{MadeBy, Overrides, Value};
 use std::alloc::{AllocError, Global};
 use std::sync::Arc;
 use std::test::Fail;
@@ -70,20 +70,24 @@ fn scopes_report_what_nothing_reads(rt: HostRuntime) -> Result<(), Fail> {
     Ok(())
 }
 
-fn context(alloc: Global) -> Context {
-    Context {
+fn context(alloc: Global) -> Result<Context, AllocError> {
+    let build_directory = Path::root(alloc)?;
+    Ok(Context {
         stage: Stage::Loading,
-        kind: FileKind::BuildFile,
         toolchain: Text::new(alloc),
         fault_toolchain: Text::new(alloc),
         default_toolchain: Text::new(alloc),
-    }
+        build_directory,
+        source_root: Text::new(alloc),
+        overrides: Overrides::new(alloc),
+    })
 }
 
 fn environment(alloc: Global) -> Result<Env, AllocError> {
     Ok(Env::new(
         alloc,
-        Arc::new(alloc, context(alloc))?,
+        Arc::new(alloc, context(alloc)?)?,
+        FileKind::BuildFile,
         Text::from_bytes(alloc, b"//BUILD.gn")?,
         Path::root(alloc)?,
         Text::new(alloc),

@@ -6,26 +6,32 @@ use gn_faults::{Code, Fault};
 use gn_items::{Claim, Item, ItemKind, Key, Outcome, Question, When};
 use gn_paths::{Path, Place, Text, resolve};
 use gn_tree::Position;
-use gn_unit::{EvalStop, Unit, evaluate};
+use gn_unit::{Base, EvalStop, Unit, evaluate};
 use std::alloc::Global;
 use std::test::Fail;
 
-// What there is at each path.
+/// What there is at each path.
 #[derive(Clone, Copy)]
-enum File<'a> {
+pub(crate) enum File<'a> {
+    /// A file of these bytes.
     Bytes(&'a [u8]),
+    /// No file.
     Absent,
+    /// A file that is too big.
     TooBig,
+    /// Nothing is known yet.
     Unread,
     // Its bytes, for which there is no memory.
     Unkept,
 }
 
-// A library that tells nothing of which something is claimed.
+/// A library that tells nothing of which something is claimed.
 #[derive(Drop)]
-struct OneFile<'a> {
-    file: File<'a>,
-    stops: u64,
+pub(crate) struct OneFile<'a> {
+    /// What there is at each path.
+    pub(crate) file: File<'a>,
+    /// How often the library has stopped.
+    pub(crate) stops: u64,
 }
 
 impl Library for OneFile<'_> {
@@ -78,16 +84,17 @@ impl Definer for OneFile<'_> {
     }
 }
 
-// What an execution has ended with.
-type Done = Result<(Claim, Unit), (Claim, EvalStop)>;
+/// What an execution has ended with.
+pub(crate) type Done = Result<(Claim, Unit), (Claim, EvalStop)>;
 
 // The execution of a build file.
 fn load(alloc: Global, directory: &[u8], file: File<'_>) -> Result<Done, Fail> {
     let root = Path::root(alloc)?;
     let directory = resolve(alloc, &root, directory)?;
     let key = Key::Load(directory, Text::new(alloc));
+    let base = Base::plain(alloc)?;
     let mut library = OneFile { file, stops: 0 };
-    Ok(evaluate(alloc, Claim::issue(key, 0, 0), &mut library))
+    Ok(evaluate(alloc, Claim::issue(key, 0, 0), &base, &mut library))
 }
 
 // The execution of a file that is imported.
@@ -95,8 +102,9 @@ fn import(alloc: Global, path: &[u8], file: File<'_>) -> Result<Done, Fail> {
     let root = Path::root(alloc)?;
     let path = resolve(alloc, &root, path)?;
     let key = Key::Import(When::Usual, Text::new(alloc), path);
+    let base = Base::plain(alloc)?;
     let mut library = OneFile { file, stops: 0 };
-    Ok(evaluate(alloc, Claim::issue(key, 0, 0), &mut library))
+    Ok(evaluate(alloc, Claim::issue(key, 0, 0), &base, &mut library))
 }
 
 // What is expected of an execution.
