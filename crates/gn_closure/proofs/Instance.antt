@@ -3,17 +3,14 @@ use Rattle.std.proofs.Common.{◌≡◌, ℕ, List, [], ◌∷◌, ◌++◌, Opt
 use Rattle.std.specs.Str.{bytes_eq}
 use Rattle.std.proofs.lemmas.Slice.Eq.{bytes_eq-Decides}
 use Rattle.std.specs.List.{flat_map}
+use Rattle.std.proofs.lemmas.Bool.{and_parts}
 use Rattle.gn_closure.specs.Closure.{Horn, In, Holds as Derived, by_base, by_rule}
 use Rattle.gn_labels.specs.declared.label.Label.{Label}
 use Rattle.gn_closure.specs.Reach.{source_root, Unit_key, Setup, Load, Target, Toolchain, Done, Units, Is_reached, Is_wanted, Is_generated, label, needed}
 use Rattle.gn_closure.specs.Ground.{Step, Holding, Asked, Used, Defined, Set_up, Ground, start, roots, owns, defines, asks, finds, wants_it, uses, has_tool, has_pool, sets_up, used_home, load_it, home_it, set_it, other_it, Follows, by_ground}
 use Rattle.gn_closure.specs.Computed.{when, rule_of, is_wanted, is_reached, is_generated, default_rules, other_rules, wanted_rules, own_rules, ask_rules, find_rules, one_want, want_rules, home_rules, use_rules, target_rules, one_pool, own_tool, one_tool, tool_rules, root_rules, unit_rules, opens_rules, rules_over, known_system}
 use Rattle.gn_closure.proofs.Opened.{in_append, in_left, in_right, in_flat, flat_in}
-use Rattle.gn_closure.proofs.SameStep.{text_own}
-
-and_true : (b c : Bool) → (b && c) ≡ true → (b ≡ true) × (c ≡ true)
-and_true true c h = (refl, h)
-and_true false c h = cc
+use Rattle.gn_basics.proofs.Texts.{bytes_eq-itself}
 
 in_when : {A : Type 0} (b : Bool) (xs : List A) (x : A) → In (when b xs) x → (b ≡ true) × In xs x
 in_when true xs x i = (refl, i)
@@ -179,7 +176,7 @@ module _ (home : List ℕ → List ℕ) (T : List ℕ) (a : Units) where
     tools_of h j =
         let k = in_flat (one_tool home T dir tc) u.toolchains h j in
         let w = in_when (bytes_eq tc T && bytes_eq dir (home k.0.name)) (own_tool home T k.0) h k.2 in
-        let e = and_true (bytes_eq tc T) (bytes_eq dir (home k.0.name)) w.0 in
+        let e = and_parts (bytes_eq tc T) (bytes_eq dir (home k.0.name)) w.0 in
         own_tool_of k.0 k.1 ((bytes_eq-Decides tc T).0 e.0) ((bytes_eq-Decides dir (home k.0.name)).0 e.1) h w.1
 
     load_ground : (h : Horn Step) → In (unit_rules home T (Some (Some u)) (Load dir tc)) h → IsGround (Load dir tc) h
@@ -291,14 +288,14 @@ module _ (home : List ℕ → List ℕ) (T : List ℕ) (a : Units) where
   default_in : (dir : List ℕ) → In (wanted_rules home T dir T) (rule_of (Set_up [] ∷ is_wanted dir T ∷ []) (is_reached (Load dir T)))
   default_in dir =
       in_left (when (bytes_eq T T) (default_rules T dir)) (when (not (bytes_eq T T)) (other_rules home T dir T)) (rule_of (Set_up [] ∷ is_wanted dir T ∷ []) (is_reached (Load dir T)))
-      (when_in (bytes_eq T T) (default_rules T dir) (rule_of (Set_up [] ∷ is_wanted dir T ∷ []) (is_reached (Load dir T))) (text_own T) (inl refl))
+      (when_in (bytes_eq T T) (default_rules T dir) (rule_of (Set_up [] ∷ is_wanted dir T ∷ []) (is_reached (Load dir T))) (bytes_eq-itself T) (inl refl))
 
   start_derived : D (is_reached (Setup []))
   start_derived = by_base (rule_of [] (is_reached (Setup []))) (is_reached (Setup [])) refl (inl refl) (none_needed D)
 
   module _ (d0 : Done) (a0 : a (Setup []) ≡ Some (Some d0)) where
     setup_in : (h : Horn Step) → In (root_rules home T source_root ++ root_rules home T (home T)) h → In (unit_rules home T (Some (Some d0)) (Setup [])) h
-    setup_in h i = inr (when_in (bytes_eq [] []) (root_rules home T source_root ++ root_rules home T (home T)) h (text_own []) i)
+    setup_in h i = inr (when_in (bytes_eq [] []) (root_rules home T source_root ++ root_rules home T (home T)) h (bytes_eq-itself []) i)
 
     root_in : (h : Horn Step) → In (root_rules home T source_root) h → In (unit_rules home T (Some (Some d0)) (Setup [])) h
     root_in h i = setup_in h (in_left (root_rules home T source_root) (root_rules home T (home T)) h i)
@@ -354,7 +351,7 @@ module _ (home : List ℕ → List ℕ) (T : List ℕ) (a : Units) where
       load_by d h i n = given_by (Load dir tc) (Some (Some u)) au d h i n
 
     of_pool : (u : Done) (c : Toolchain) → a (Load (home c.name) T) ≡ Some (Some u) → In u.toolchains c → (l : Label) → In c.pools l → (h : Horn Step) → In (one_pool home T c.name l) h → In (unit_rules home T (Some (Some u)) (Load (home c.name) T)) h
-    of_pool u c au i l j h k = of_tool u (home c.name) T au c i (text_own T) (text_own (home c.name)) h (inr (flat_in (one_pool home T c.name) c.pools l h j k))
+    of_pool u c au i l j h k = of_tool u (home c.name) T au c i (bytes_eq-itself T) (bytes_eq-itself (home c.name)) h (inr (flat_in (one_pool home T c.name) c.pools l h j k))
 
     renamed : (m : Label) (t : Target) → t.name ≡ m.name → D (is_generated m) → D (is_generated (label m.dir t.name m.toolchain))
     renamed m t n d = subst (λ z. D (is_generated (label m.dir z m.toolchain))) (sym n) d
@@ -371,7 +368,7 @@ module _ (home : List ℕ → List ℕ) (T : List ℕ) (a : Units) where
     )
     back_case ss s (defines u dir t au i) n = (
       load_by u dir T au (n _ (inr (inl refl))).0 (rule_of (Set_up [] ∷ []) (is_generated (label dir t.name T)))
-          (of_target u dir T au t i (rule_of (Set_up [] ∷ []) (is_generated (label dir t.name T))) (of_own u dir T au t (text_own T)))
+          (of_target u dir T au t i (rule_of (Set_up [] ∷ []) (is_generated (label dir t.name T))) (of_own u dir T au t (bytes_eq-itself T)))
           (one_needed D (Set_up []) (n _ (inl refl)).0),
       tt,
     )
@@ -410,7 +407,7 @@ module _ (home : List ℕ → List ℕ) (T : List ℕ) (a : Units) where
     )
     back_case ss s (has_tool u c au i) n = (
       load_by u (home c.name) T au (n _ (inl refl)).0 (rule_of [] (Defined c.name))
-          (of_tool u (home c.name) T au c i (text_own T) (text_own (home c.name)) (rule_of [] (Defined c.name)) (inl refl))
+          (of_tool u (home c.name) T au c i (bytes_eq-itself T) (bytes_eq-itself (home c.name)) (rule_of [] (Defined c.name)) (inl refl))
           (none_needed D),
       tt,
     )
