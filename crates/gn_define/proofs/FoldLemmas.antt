@@ -13,7 +13,7 @@ use Rattle.gn_rows.specs.declared.row.Rule.{Rule}
 use Rattle.gn_rows.specs.declared.row.Rule.TheVariants.{Required, Excluded, AtMostOne}
 use Rattle.gn_rows.specs.declared.variable.Variable.{Variable}
 use Rattle.gn_rows.specs.declared.variable.Variable.TheVariants.{Sources}
-use Rattle.gn_rows.specs.Names.{name_of}
+use Rattle.gn_rows.specs.Names.{variable_name}
 use Rattle.gn_rows.specs.Tables.{demands_of}
 use Rattle.gn_define.specs.declared.fault.ItemFault.{ItemFault}
 use Rattle.gn_define.specs.declared.place.Where.{Where}
@@ -29,7 +29,7 @@ pub goes_on : (w : Where) (values : List ℕ → Option Val) (made : List (Varia
     → filled w values made (first ++ others) ≡ then_do (λ more. filled w values more others) (filled w values made first)
 goes_on w values made [] others = refl
 goes_on w values made (row ∷ rows) others =
-    by (λ more. goes_on w values more rows others) (with_field w row (values (name_of row.variable)) made)
+    by (λ more. goes_on w values more rows others) (with_field w row (values (variable_name row.variable)) made)
   where
     by : ((more : List (Variable × Held)) → filled w values more (rows ++ others) ≡ then_do (λ ended. filled w values ended others) (filled w values more rows)) → (r : Result (List (Variable × Held)) ItemFault) → then_do (λ more. filled w values more (rows ++ others)) r ≡ then_do (λ more. filled w values more others) (then_do (λ more. filled w values more rows) r)
     by later (Ok more) = later more
@@ -45,7 +45,7 @@ further : (w : Where) (values : List ℕ → Option Val) (made : List (Variable 
 further w values made [] fields h =
     let is : made ≡ fields = cc in
     ([], sym is ∙ sym (append-nil made), tt)
-further w values made (row ∷ rows) fields h = by (λ more g. further w values more rows fields g) (values (name_of row.variable)) refl h
+further w values made (row ∷ rows) fields h = by (λ more g. further w values more rows fields g) (values (variable_name row.variable)) refl h
   where
     Later : Type 0
     Later = (more : List (Variable × Held)) → filled w values more rows ≡ Ok fields → Further w values more rows fields
@@ -59,14 +59,14 @@ further w values made (row ∷ rows) fields h = by (λ more g. further w values 
     Here : Option Val → Type 0
     Here p = (more : List (Variable × Held)) × (fields ≡ made ++ more) × AreFieldsOf w values made more (here p)
 
-    checked_as : Later → (v : Val) → values (name_of row.variable) ≡ Some v → (r : Result Held Code) → checked w sources row.row_type v ≡ r
+    checked_as : Later → (v : Val) → values (variable_name row.variable) ≡ Some v → (r : Result Held Code) → checked w sources row.row_type v ≡ r
         → then_do (λ more. filled w values more rows) (with_checked row.variable r made) ≡ Ok fields → Here (Some v)
     checked_as later v e (Ok field) f g =
         let later_is = later (made ++ (row.variable, field) ∷ []) g in
         ((row.variable, field) ∷ later_is.0, later_is.1 ∙ append_assoc made ((row.variable, field) ∷ []) later_is.0, (v, e, refl, f, later_is.2))
     checked_as later v e (Err code) f g = absurd cc
 
-    by : Later → (p : Option Val) → values (name_of row.variable) ≡ p → then_do (λ more. filled w values more rows) (with_field w row p made) ≡ Ok fields
+    by : Later → (p : Option Val) → values (variable_name row.variable) ≡ p → then_do (λ more. filled w values more rows) (with_field w row p made) ≡ Ok fields
         → Further w values made (row ∷ rows) fields
     by later None e g = subst Here (sym e) (later made g)
     by later (Some v) e g = subst Here (sym e) (checked_as later v e (checked w sources row.row_type v) refl g)

@@ -5,13 +5,13 @@ use Rattle.std.proofs.lemmas.List.{append-nil, append_assoc}
 use Rattle.gn_faults.specs.declared.code.Code.{Code}
 use Rattle.gn_faults.specs.declared.code.Code.TheVariants.{WrongType}
 use Rattle.gn_rows.specs.declared.row.Row.{Row}
-use Rattle.gn_rows.specs.declared.row.Content.TheVariants.{Text}
+use Rattle.gn_rows.specs.declared.row.StringKind.TheVariants.{Text}
 use Rattle.gn_rows.specs.declared.row.RowType.TheVariants.{Many}
 use Rattle.gn_rows.specs.declared.kinds.ItemKind.TheVariants.{Group}
 use Rattle.gn_rows.specs.Tables.{built_rows_of}
 use Rattle.gn_rows.specs.declared.variable.Variable.{Variable}
 use Rattle.gn_rows.specs.declared.variable.Variable.TheVariants.{Deps}
-use Rattle.gn_rows.specs.Names.{name_of}
+use Rattle.gn_rows.specs.Names.{variable_name}
 use Rattle.gn_values.specs.Val.{Val, vbool, vint, vstr, vlist, vscope, list_of}
 use Rattle.gn_define.specs.declared.fault.ItemFault.{ItemFault}
 use Rattle.gn_define.specs.declared.fault.ItemFault.TheVariants as faults
@@ -31,9 +31,9 @@ texts_are w made (v ∷ vs) = texts_are w (made ++ bytes_of v ∷ []) vs ∙ ap 
 deps_row : Row
 deps_row = record { variable = Deps; row_type = Many Text }
 
-pub built_group_is : (w : Where) (values : List ℕ → Option Val) → filled w values [] (built_rows_of Group) ≡ built_group (values (name_of Deps))
+pub built_group_is : (w : Where) (values : List ℕ → Option Val) → filled w values [] (built_rows_of Group) ≡ built_group (values (variable_name Deps))
 unfolding checked deps_row
-built_group_is w values = by (values (name_of Deps))
+built_group_is w values = by (values (variable_name Deps))
   where
     judged : Result Held Code → Result (List (Variable × Held)) ItemFault
     judged r = then_do (λ more. filled w values more []) (with_checked Deps r [])

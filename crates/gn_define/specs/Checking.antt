@@ -8,8 +8,8 @@ use Rattle.gn_rows.specs.declared.kinds.ItemKind.{ItemKind}
 use Rattle.gn_rows.specs.declared.kinds.ItemKind.TheVariants.{Action, ActionForeach}
 use Rattle.gn_rows.specs.declared.row.RowType.{RowType}
 use Rattle.gn_rows.specs.declared.row.RowType.TheVariants.{Boolean, Count, One, Many, OneOrMany, Scope, Unused}
-use Rattle.gn_rows.specs.declared.row.Content.{Content}
-use Rattle.gn_rows.specs.declared.row.Content.TheVariants as contents
+use Rattle.gn_rows.specs.declared.row.StringKind.{StringKind}
+use Rattle.gn_rows.specs.declared.row.StringKind.TheVariants as contents
 use Rattle.gn_substs.specs.declared.positions.Position.TheVariants.{ActionArgs, ForeachArgs, ToolText}
 use Rattle.gn_define.specs.declared.forms.TextForm.{TextForm}
 use Rattle.gn_define.specs.declared.forms.TextForm.TheVariants as forms
@@ -95,7 +95,7 @@ arguments_of w ActionForeach vs = substs_in w (At ForeachArgs) [] vs
 arguments_of w _ vs = texts_in w forms.Plain vs
 
 -- what strings give, for these sources of the item
-abbrev pub strings_in : Where → List (List ℕ) → Content → List Val → Result Held Code
+abbrev pub strings_in : Where → List (List ℕ) → StringKind → List Val → Result Held Code
 strings_in w sources contents.Text vs = texts_in w forms.Plain vs
 strings_in w sources contents.Path vs = paths_in w vs
 strings_in w sources contents.Script vs = script_in w vs

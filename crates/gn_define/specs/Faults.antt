@@ -9,7 +9,7 @@ use Rattle.gn_labels.specs.declared.error.PatternError.{PatternError}
 use Rattle.gn_labels.specs.declared.error.PatternError.TheVariants as pattern
 use Rattle.gn_rows.specs.declared.kinds.ItemKind.{ItemKind}
 use Rattle.gn_rows.specs.declared.variable.Variable.{Variable}
-use Rattle.gn_rows.specs.Names.{name_of, kind_name}
+use Rattle.gn_rows.specs.Names.{variable_name, kind_name}
 use Rattle.gn_define.specs.declared.fault.ItemFault.{ItemFault}
 use Rattle.gn_define.specs.declared.fault.ItemFault.TheVariants as faults
 use Rattle.gn_define.specs.declared.fault.DefineError.{DefineError}
@@ -25,9 +25,9 @@ code_of (faults.Variable variable code) = code
 
 -- the text that a fault of a variable shows: faults of paths, labels, patterns and substitutions show none
 abbrev pub variable_detail : ItemKind → Variable → Code → Option (List ℕ)
-variable_detail kind variable codes.WrongType = Some (name_of variable)
-variable_detail kind variable codes.Missing = Some (name_of variable)
-variable_detail kind variable codes.Excluded = Some (name_of variable)
+variable_detail kind variable codes.WrongType = Some (variable_name variable)
+variable_detail kind variable codes.Missing = Some (variable_name variable)
+variable_detail kind variable codes.Excluded = Some (variable_name variable)
 variable_detail kind variable codes.BadArguments = Some (kind_name kind)
 variable_detail kind variable _ = None
 

@@ -9,7 +9,7 @@ use Rattle.gn_values.specs.Val.{Val}
 use Rattle.gn_rows.specs.declared.row.Row.{Row}
 use Rattle.gn_rows.specs.declared.variable.Variable.{Variable}
 use Rattle.gn_rows.specs.declared.variable.Variable.TheVariants.{Sources}
-use Rattle.gn_rows.specs.Names.{name_of}
+use Rattle.gn_rows.specs.Names.{variable_name}
 use Rattle.gn_define.specs.declared.fault.ItemFault.{ItemFault}
 use Rattle.gn_define.specs.declared.fault.ItemFault.TheVariants as faults
 use Rattle.gn_define.specs.declared.fields.Entry.{Entry}
@@ -28,7 +28,7 @@ entries_of es = map entry_of es
 -- what a variable holds; none where the block doesn't set it
 abbrev pub field_at : List (Variable × Held) → Variable → Option Held
 field_at [] variable = None
-field_at (e ∷ es) variable = if bytes_eq (name_of e.0) (name_of variable) then Some e.1 else field_at es variable
+field_at (e ∷ es) variable = if bytes_eq (variable_name e.0) (variable_name variable) then Some e.1 else field_at es variable
 
 -- what a variable holds in each form; nothing where it isn't set, or holds something of another form
 abbrev pub boolean_of : Option Held → Option Bool
@@ -78,4 +78,4 @@ with_field w row (Some v) made = with_checked row.variable (checked w (paths_of 
 abbrev pub filled : Where → (List ℕ → Option Val) → List (Variable × Held) → List Row → Result (List (Variable × Held)) ItemFault
 filled w values made [] = Ok made
 filled w values made (row ∷ rows) =
-    then_do (λ more. filled w values more rows) (with_field w row (values (name_of row.variable)) made)
+    then_do (λ more. filled w values more rows) (with_field w row (values (variable_name row.variable)) made)

@@ -10,7 +10,7 @@ use Rattle.gn_rows.specs.declared.row.Rule.{Rule}
 use Rattle.gn_rows.specs.declared.row.Rule.TheVariants.{Required, Excluded, AtMostOne}
 use Rattle.gn_rows.specs.declared.variable.Variable.{Variable}
 use Rattle.gn_rows.specs.declared.variable.Variable.TheVariants.{Deps, Sources}
-use Rattle.gn_rows.specs.Names.{name_of}
+use Rattle.gn_rows.specs.Names.{variable_name}
 use Rattle.gn_substs.specs.declared.subst.Subst.{Subst}
 use Rattle.gn_values.specs.Val.{Val, vlist, list_of}
 use Rattle.gn_define.specs.declared.fault.ItemFault.{ItemFault}
@@ -26,7 +26,7 @@ use Rattle.gn_define.specs.Reading.{bytes_of, is_plain}
 
 -- whether a block sets the variable of a row
 abbrev pub is_set : (List ℕ → Option Val) → Row → Bool
-is_set values row = is_some (values (name_of row.variable))
+is_set values row = is_some (values (variable_name row.variable))
 
 -- fields behind those that are made are of these rows, one of each: what the block's value of its variable is read as, for the
 -- sources before it
@@ -35,7 +35,7 @@ AreFieldsOf w values made [] [] = Unit {0}
 AreFieldsOf w values made [] (row ∷ rows) = ⊥
 AreFieldsOf w values made (e ∷ es) [] = ⊥
 AreFieldsOf w values made (e ∷ es) (row ∷ rows) =
-    (v : Val) × (values (name_of row.variable) ≡ Some v) × (e.0 ≡ row.variable)
+    (v : Val) × (values (variable_name row.variable) ≡ Some v) × (e.0 ≡ row.variable)
     × (checked w (paths_of (field_at made Sources)) row.row_type v ≡ Ok e.1) × AreFieldsOf w values (made ++ e ∷ []) es rows
 
 -- the files for which a text stands: one for each source where it may have substitutions, and else one

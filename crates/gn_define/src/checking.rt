@@ -16,7 +16,7 @@ use crate::strings::{
 };
 use gn_faults::Code;
 use gn_paths::Path;
-use gn_rows::{Content, ItemKind, RowType};
+use gn_rows::{ItemKind, RowType, StringKind};
 use gn_substs::Position;
 use gn_values::Value;
 use std::alloc::Global;
@@ -111,33 +111,33 @@ fn strings_in(
     alloc: Global,
     place: &Where,
     sources: &[Path],
-    content: Content,
+    content: StringKind,
     values: &[Value],
 ) -> Result<Field, ReadError>
     ensures ok { IfOk result (λ f. strings_in place.now sources.now content (map val_of values.now) ≡ Ok (held_of f)) }
     ensures wrong { IfErr result (λ e. IsReadFault e (strings_in place.now sources.now content (map val_of values.now))) }
 {
     match content {
-        Content::Text => texts_in(alloc, place, TextForm::Plain, values),
-        Content::Path => paths_in(alloc, place, values),
-        Content::Script => script_in(alloc, place, values),
-        Content::Library => texts_in(alloc, place, TextForm::Library, values),
-        Content::Label => labels_in(alloc, place, values),
-        Content::Pattern => patterns_in(alloc, place, values),
-        Content::Argument => arguments_in(alloc, place, values),
-        Content::Output => {
+        StringKind::Text => texts_in(alloc, place, TextForm::Plain, values),
+        StringKind::Path => paths_in(alloc, place, values),
+        StringKind::Script => script_in(alloc, place, values),
+        StringKind::Library => texts_in(alloc, place, TextForm::Library, values),
+        StringKind::Label => labels_in(alloc, place, values),
+        StringKind::Pattern => patterns_in(alloc, place, values),
+        StringKind::Argument => arguments_in(alloc, place, values),
+        StringKind::Output => {
             let form = SubstForm::File(FileRole::Output);
             substs_in(alloc, place, form, sources, values)
         }
-        Content::Depfile => {
+        StringKind::Depfile => {
             let form = SubstForm::File(FileRole::Depfile);
             substs_in(alloc, place, form, sources, values)
         }
-        Content::Command => command_in(alloc, place, values),
-        Content::Subst(position) => {
+        StringKind::Command => command_in(alloc, place, values),
+        StringKind::Subst(position) => {
             substs_in(alloc, place, SubstForm::At(position), &[], values)
         }
-        Content::DepsFormat => texts_in(alloc, place, TextForm::DepsFormat, values),
+        StringKind::DepsFormat => texts_in(alloc, place, TextForm::DepsFormat, values),
     }
 }
 

@@ -2,7 +2,7 @@
 
 ghost use Rattle.std.specs.Prelude.{◌≡◌, [], Ok, IfOk, IfErr, OnOk, option_map};
 ghost use Rattle.gn_values.specs.View.{val_of};
-ghost use Rattle.gn_rows.specs.Names.{name_of};
+ghost use Rattle.gn_rows.specs.Names.{variable_name};
 ghost use Rattle.gn_define.specs.Faults.{IsItemFault, IsFieldFault, of_variable};
 ghost use Rattle.gn_define.specs.Fields.{entries_of, with_field, filled};
 
@@ -56,8 +56,8 @@ fn fill_row<B: Block>(
     block: &B,
     entries: &mut Vec<Entry>,
 ) -> Result<(), DefineError>
-    ensures ok { OnOk result (with_field place.now row (B.values block.now (name_of row.variable)) (entries_of entries.old.items) ≡ Ok (entries_of entries.new.items)) }
-    ensures wrong { IfErr result (λ e. IsItemFault e (with_field place.now row (B.values block.now (name_of row.variable)) (entries_of entries.old.items))) }
+    ensures ok { OnOk result (with_field place.now row (B.values block.now (variable_name row.variable)) (entries_of entries.old.items) ≡ Ok (entries_of entries.new.items)) }
+    ensures wrong { IfErr result (λ e. IsItemFault e (with_field place.now row (B.values block.now (variable_name row.variable)) (entries_of entries.old.items))) }
 {
     let value = block.value(row.variable.name());
     match push_field(alloc, place, row, value, entries) {

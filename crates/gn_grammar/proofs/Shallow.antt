@@ -1,8 +1,9 @@
 -- The tree of a file is no deeper than its bytes allow: each node that makes a tree deeper has a token of its own, and each token a byte.
 use Rattle.std.proofs.Common.{◌≡◌, ℕ, zero, suc, ◌+◌, ◌-◌, ◌≤◌, List, [], inl, inr, Option, Some, None, Result, Ok, Err, length, ap, arith}
+use Rattle.gn_value_model.specs.Limits.{max_bytes}
 use Rattle.gn_tree.specs.declared.position.Position.{Position}
 use Rattle.gn_tree.specs.Tree.{ExprTree, name_expr, integer_expr, string_expr, boolean_expr, call_expr, item_expr, entry_expr, scope_expr, parentheses_expr, list_expr, not_expr, binary_expr, ExprTrees, no_exprs, expr_then, CallTree, call_tree, BodyTree, no_body, some_body, TargetTree, name_target, item_target, entry_target, StatementTree, assign_statement, call_statement, condition_statement, ConditionTree, condition_tree, OtherwiseTree, no_otherwise, else_block, else_if, BlockTree, no_statements, statement_then}
-use Rattle.gn_tree.specs.Depth.{expr_depth, exprs_depth, call_depth, body_depth, target_depth, statement_depth, condition_depth, otherwise_depth, block_depth, max_depth, IsShallow}
+use Rattle.gn_tree.specs.Depth.{expr_depth, exprs_depth, call_depth, body_depth, target_depth, statement_depth, condition_depth, otherwise_depth, block_depth, max_tree_depth, IsShallow}
 use Rattle.gn_tokens.specs.declared.token.Token.{Token}
 use Rattle.gn_tokens.specs.declared.token.TokenError.{TokenError}
 use Rattle.gn_tokens.specs.declared.token.TokenKind.{TokenKind}
@@ -140,9 +141,9 @@ unfolding stream_of
 few_lexemes bytes = omega (arith, few_within (length bytes - 0 + 1) bytes 0)
 
 -- A tree of at most so many bytes is shallow.
-pub is_shallow : (bytes : List ℕ) (tree : BlockTree) → length bytes ≤ 16777216 → IsTree bytes tree → IsShallow tree
+pub is_shallow : (bytes : List ℕ) (tree : BlockTree) → length bytes ≤ max_bytes → IsTree bytes tree → IsShallow tree
 is_shallow bytes tree small h = omega (arith, small, few_lexemes bytes, block_within tree (lexemes bytes) [] h.spells)
 
 -- An expression of at most so many bytes is shallow.
-pub is_shallow_expr : (bytes : List ℕ) (tree : ExprTree) → length bytes ≤ 16777216 → IsExpr bytes tree → expr_depth tree ≤ max_depth
+pub is_shallow_expr : (bytes : List ℕ) (tree : ExprTree) → length bytes ≤ max_bytes → IsExpr bytes tree → expr_depth tree ≤ max_tree_depth
 is_shallow_expr bytes tree small h = omega (arith, small, few_lexemes bytes, expr_within 1 tree (lexemes bytes) [] h.spells)

@@ -1,8 +1,9 @@
 //! Laws of the grammar itself, whatever the parser's code is, each as a call that does nothing and whose contract is the law.
 
 ghost use Rattle.std.specs.Prelude.{◌≡◌, ◌≤◌, ℕ, List, [], length, drop, slice_range};
+ghost use Rattle.gn_value_model.specs.Limits.{max_bytes};
 ghost use Rattle.gn_tree.specs.Tree.{ExprTree, BlockTree};
-ghost use Rattle.gn_tree.specs.Depth.{max_depth, expr_depth, IsShallow};
+ghost use Rattle.gn_tree.specs.Depth.{max_tree_depth, expr_depth, IsShallow};
 ghost use Rattle.gn_tokens.specs.Text.{IsString, string_items};
 ghost use Rattle.gn_grammar.specs.Lexemes.{Lexeme};
 ghost use Rattle.gn_grammar.specs.Grammar.{Spells, SpellsStatements};
@@ -36,8 +37,8 @@ pub fn nestings_are_of_the_tree()
 
 /// The tree of at most 16,777,216 bytes is no deeper than 268,435,456 nodes: it takes a token to make a tree deeper, and a byte to make a token.
 pub fn trees_are_shallow()
-    ensures file { (bytes : List ℕ) (tree : BlockTree) → length bytes ≤ 16777216 → IsTree bytes tree → IsShallow tree }
-    ensures expression { (bytes : List ℕ) (tree : ExprTree) → length bytes ≤ 16777216 → IsExpr bytes tree → expr_depth tree ≤ max_depth }
+    ensures file { (bytes : List ℕ) (tree : BlockTree) → length bytes ≤ max_bytes → IsTree bytes tree → IsShallow tree }
+    ensures expression { (bytes : List ℕ) (tree : ExprTree) → length bytes ≤ max_bytes → IsExpr bytes tree → expr_depth tree ≤ max_tree_depth }
 {}
 
 /// Where bytes of a file are a string literal, each of its items stands at the position that its piece has: as many columns behind the opening quote as bytes lie between.

@@ -191,8 +191,8 @@ few_new rs h new k d s =
     omega (arith, l, length-map rs (λ r. r.gives))
 
 -- all rules from a place on were looked at
-pub behind : (rs : List (Horn ℕ)) (h : ℕ → Bool) (n m : ℕ) (old new : List ℕ) → length rs ≤ m → FiredAll rs h (λ i. (n ≤ i) × (i < m)) old new → FiredAll rs h (λ i. n ≤ i) old new
-behind rs h n m old new l d = record {
+pub fired_behind : (rs : List (Horn ℕ)) (h : ℕ → Bool) (n m : ℕ) (old new : List ℕ) → length rs ≤ m → FiredAll rs h (λ i. (n ≤ i) × (i < m)) old new → FiredAll rs h (λ i. n ≤ i) old new
+fired_behind rs h n m old new l d = record {
   rest = d.rest;
   grows = d.grows;
   sound = d.sound;

@@ -8,7 +8,7 @@ use Rattle.gn_runs.specs.Runs.{Question, content_of, import_of, is_absent, Answe
 use Rattle.gn_runs.specs.Laws.{Below, IsSettled, IsAsked}
 use Rattle.gn_runs.proofs.TreeLaws.{import_path, tree_stays_settled, tree_asks_known}
 use Rattle.gn_imports.specs.Rounds.{Project, final}
-use Rattle.gn_imports.specs.Asked.{asked_by, behind, asked_through, all_asked}
+use Rattle.gn_imports.specs.Asked.{asked_by, asked_behind, asked_through, all_asked}
 use Rattle.gn_imports.specs.Loading.{IsOneOf, IsWrong, IsProject, set_at}
 use Rattle.gn_imports.proofs.Counts.{Within, known_of, known_le, known_same}
 use Rattle.gn_imports.proofs.Sets.{set_cases, set_here}
@@ -37,7 +37,7 @@ asked_right (x ∷ xs) ys q h = inr (asked_right xs ys q h)
 
 module _ (next : List ℕ → List Question) where
   abbrev level : List Question → List Question
-  level questions = flat_map (λ q. q ∷ behind q next) questions
+  level questions = flat_map (λ q. q ∷ asked_behind q next) questions
 
   -- one that is asked for by an import among these questions
   abbrev AskedBehind : List Question → Question → Type 0
@@ -61,14 +61,14 @@ module _ (next : List ℕ → List Question) where
   level_here : (qs : List Question) (q : Question) → IsAsked qs q → IsAsked (level qs) q
   level_here [] q h = absurd h
   level_here (x ∷ qs) q (inl e) = inl e
-  level_here (x ∷ qs) q (inr h) = inr (asked_right (behind x next) (level qs) q (level_here qs q h))
+  level_here (x ∷ qs) q (inr h) = inr (asked_right (asked_behind x next) (level qs) q (level_here qs q h))
 
   level_behind : (qs : List Question) (path : List ℕ) (q : Question) → IsAsked qs (import_of path) → IsAsked (next path) q → IsAsked (level qs) q
   level_behind [] path q i h = absurd i
   level_behind (content_of p ∷ qs) path q (inl e) h = cc
   level_behind (import_of p ∷ qs) path q (inl e) h =
       inr (asked_left (next p) (level qs) q (subst (λ r. IsAsked (next r) q) (import_path path p e) h))
-  level_behind (x ∷ qs) path q (inr i) h = inr (asked_right (behind x next) (level qs) q (level_behind qs path q i h))
+  level_behind (x ∷ qs) path q (inr i) h = inr (asked_right (asked_behind x next) (level qs) q (level_behind qs path q i h))
 
 -- So many imports one in another
 

@@ -12,14 +12,14 @@ abbrev pub asked_by : Project → List ℕ → List Question
 asked_by project path = (project.execute path (final project)).asked
 
 -- a question, and what is asked behind it
-abbrev pub behind : Question → (List ℕ → List Question) → List Question
-behind (content_of path) next = []
-behind (import_of path) next = next path
+abbrev pub asked_behind : Question → (List ℕ → List Question) → List Question
+asked_behind (content_of path) next = []
+asked_behind (import_of path) next = next path
 
 -- these questions, and what is asked through their imports, one in another up to so many
 abbrev pub asked_through : Project → ℕ → List Question → List Question
 asked_through project zero questions = questions
-asked_through project (suc n) questions = flat_map (λ q. q ∷ behind q (λ path. asked_through project n (asked_by project path))) questions
+asked_through project (suc n) questions = flat_map (λ q. q ∷ asked_behind q (λ path. asked_through project n (asked_by project path))) questions
 
 -- the same without a bound: no import needs more others than there are files
 unfoldable pub all_asked : Project → List Question → List Question

@@ -3,7 +3,7 @@ use Rattle.std.proofs.Common.{◌≡◌, ℕ, Bool, true, false, cond, List, [],
 use Rattle.std.specs.Map.Calls.{RetainsPairs}
 use Rattle.gn_environment.specs.Layers.{VariableState}
 use Rattle.gn_environment.specs.Chains.{is_one_of, read_variable, read_unless}
-use Rattle.gn_layers.specs.Named.{name_of}
+use Rattle.gn_layers.specs.Named.{numbered_name}
 use Rattle.gn_layers.specs.View.{variable_state, variables_in}
 use Rattle.gn_layers.specs.declared.variable.Variable.{Variable}
 
@@ -21,7 +21,7 @@ abbrev pub read : Variable → Variable
 read v = record v { unread = None }
 
 abbrev pub read_but_named : List (List ℕ) → List (List ℕ) → List ℕ → Variable → Variable
-read_but_named names except number v = cond (is_one_of (name_of names number) except) v (read v)
+read_but_named names except number v = cond (is_one_of (numbered_name names number) except) v (read v)
 
 pub all_seen : (es : List (List ℕ × Variable)) → variables_in (map (λ (e : List ℕ × Variable). (e.0, read e.1)) es) ≡ map (λ (v : List ℕ × VariableState). (v.0, read_variable v.1)) (variables_in es)
 all_seen [] = refl
@@ -31,7 +31,7 @@ one_seen : (v : Variable) (b : Bool) → variable_state (cond b v (read v)) ≡ 
 one_seen v true = refl
 one_seen v false = refl
 
-pub but_seen : (names except : List (List ℕ)) (es : List (List ℕ × Variable)) → variables_in (map (λ (e : List ℕ × Variable). (e.0, read_but_named names except e.0 e.1)) es) ≡ map (λ (v : List ℕ × VariableState). (v.0, read_unless (is_one_of (name_of names v.0) except) v.1)) (variables_in es)
+pub but_seen : (names except : List (List ℕ)) (es : List (List ℕ × Variable)) → variables_in (map (λ (e : List ℕ × Variable). (e.0, read_but_named names except e.0 e.1)) es) ≡ map (λ (v : List ℕ × VariableState). (v.0, read_unless (is_one_of (numbered_name names v.0) except) v.1)) (variables_in es)
 but_seen names except [] = refl
 but_seen names except (e ∷ es) =
-    λ i. (e.0, one_seen e.1 (is_one_of (name_of names e.0) except) i) ∷ but_seen names except es i
+    λ i. (e.0, one_seen e.1 (is_one_of (numbered_name names e.0) except) i) ∷ but_seen names except es i

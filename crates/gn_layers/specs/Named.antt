@@ -15,14 +15,14 @@ abbrev pub key : ℕ → List ℕ
 key n = n ∷ []
 
 -- the name that a key is the number of
-abbrev pub name_of : List (List ℕ) → List ℕ → List ℕ
-name_of names [] = []
-name_of names (n ∷ ns) = unwrap_or (slice_get names n) []
+abbrev pub numbered_name : List (List ℕ) → List ℕ → List ℕ
+numbered_name names [] = []
+numbered_name names (n ∷ ns) = unwrap_or (slice_get names n) []
 
 -- a table by numbers, by the names that these are the numbers of, in the order of their bytes
 abbrev pub named : {A : Type 0} → List (List ℕ) → Table A → Table A
 named names [] = []
-named names (e ∷ es) = with_name (name_of names e.0) e.1 (named names es)
+named names (e ∷ es) = with_name (numbered_name names e.0) e.1 (named names es)
 
 abbrev pub named_layer : List (List ℕ) → LayerState → LayerState
 named_layer names layer = record layer { variables = named names layer.variables }
@@ -50,7 +50,7 @@ pub record IsNumberedChain (names : List (List ℕ)) (chain : ChainState) : Type
 
 -- the entries of a table by numbers, each with the name of its number
 abbrev pub texted : {A : Type 0} → List (List ℕ) → Table A → Table A
-texted names table = map (λ e. (name_of names e.0, e.1)) table
+texted names table = map (λ e. (numbered_name names e.0, e.1)) table
 
 -- a layer by numbers, each with its name
 abbrev pub texted_layer : List (List ℕ) → LayerState → LayerState
@@ -62,4 +62,4 @@ IsLonger names longer = (more : List (List ℕ)) × (longer ≡ names ++ more)
 
 -- a layer by numbers after a read of all its names but these
 abbrev pub all_read_but_named : List (List ℕ) → List (List ℕ) → LayerState → LayerState
-all_read_but_named names except layer = record layer { variables = map (λ (v : List ℕ × VariableState). (v.0, read_unless (is_one_of (name_of names v.0) except) v.1)) layer.variables }
+all_read_but_named names except layer = record layer { variables = map (λ (v : List ℕ × VariableState). (v.0, read_unless (is_one_of (numbered_name names v.0) except) v.1)) layer.variables }

@@ -2,7 +2,7 @@
 
 ghost use Rattle.std.specs.Prelude.{◌≡◌, IfOk};
 
-use crate::key::Key;
+use crate::key::NameKey;
 use gn_paths::Text;
 use gn_values::{Bindings, DefinitionName};
 use std::alloc::{AllocError, Global};
@@ -32,8 +32,8 @@ impl Copied for Text {
     }
 }
 
-impl Copied for Key {
-    fn copied(&self, _alloc: Global) -> Result<Key, AllocError> {
-        Ok(Key::new(self.number()))
+impl Copied for NameKey {
+    fn copied(&self, _alloc: Global) -> Result<NameKey, AllocError> {
+        Ok(NameKey::new(self.number()))
     }
 }

@@ -13,11 +13,11 @@ use std::marker::Model;
 /// The number of a name. Contracts see it as the list of the number alone, so that the words on layers serve names and
 /// their numbers alike.
 #[derive(Drop)]
-pub struct Key {
+pub struct NameKey {
     number: Name,
 }
 
-impl Model for Key {
+impl Model for NameKey {
     ghost use Rattle.std.specs.Prelude.{List, ℕ};
     ghost use Rattle.std.specs.Coded.{coded_list, coded_ℕ};
     ghost use Rattle.gn_layers.specs.Named.{key};
@@ -29,12 +29,12 @@ impl Model for Key {
     ghost view = { λ a. key a.number };
 }
 
-impl Key {
+impl NameKey {
     /// The key that is this number.
-    pub fn new(number: Name) -> Key
+    pub fn new(number: Name) -> NameKey
         ensures { result ≡ key number }
     {
-        Key { number }
+        NameKey { number }
     }
 
     /// The number.
@@ -45,31 +45,31 @@ impl Key {
     }
 }
 
-impl PartialEq for Key {
+impl PartialEq for NameKey {
     ghost eq = { pointwise nat_eq };
 
     ghost laws = { partial_equiv_from_equiv nat_list_eq_equiv };
 
-    fn eq(&self, other: &Key) -> bool {
+    fn eq(&self, other: &NameKey) -> bool {
         self.number == other.number
     }
 }
 
-impl Eq for Key {
+impl Eq for NameKey {
     ghost laws = { nat_list_eq_equiv };
 }
 
-impl PartialOrd for Key {
+impl PartialOrd for NameKey {
     ghost partial_cmp = { λ x y. Some (slice_cmp nat_cmp x y) };
 
     ghost laws = { texts_po };
 
-    fn partial_cmp(&self, other: &Key) -> Option<Ordering> {
+    fn partial_cmp(&self, other: &NameKey) -> Option<Ordering> {
         Some(self.cmp(other))
     }
 }
 
-impl Ord for Key {
+impl Ord for NameKey {
     ghost cmp = { slice_cmp nat_cmp };
 
     ghost total = { nat_list_cmp_total };
@@ -78,7 +78,7 @@ impl Ord for Key {
 
     ghost matches_eq = { texts_ties };
 
-    fn cmp(&self, other: &Key) -> Ordering {
+    fn cmp(&self, other: &NameKey) -> Ordering {
         self.number.cmp(&other.number)
     }
 }

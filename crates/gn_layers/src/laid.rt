@@ -15,10 +15,10 @@ ghost use Rattle.gn_layers.specs.Named.{texted};
 ghost use Rattle.gn_layers.specs.View.{pair_value, value_pairs};
 
 use crate::copied::Copied;
-use crate::key::Key;
+use crate::key::NameKey;
 use crate::layer::Layer;
 use crate::layer_merge::keep_public;
-use crate::unread::name_of;
+use crate::unread::numbered_name;
 use crate::variable::Variable;
 use gn_paths::Text;
 use gn_text::Names;
@@ -156,7 +156,7 @@ impl Layer {
 fn copies_by_name(
     alloc: Global,
     names: &Names,
-    variables: &BTreeMap<Key, Variable>,
+    variables: &BTreeMap<NameKey, Variable>,
 ) -> Result<Bindings, AllocError>
     ensures { IfOk result (λ bindings. bindings
         ≡ with_names (texted names.now (map pair_value variables.now.entries)) []) }
@@ -170,14 +170,19 @@ fn copies_by_name(
 fn values_by_name(
     alloc: Global,
     names: &Names,
-    variables: BTreeMap<Key, Variable>,
+    variables: BTreeMap<NameKey, Variable>,
 ) -> Result<BTreeMap<Text, Value>, AllocError>
     ensures { IfOk result (λ values. value_pairs values.entries
         ≡ with_names (texted names.now (map pair_value variables.entries)) []) }
 {
     let mut values = BTreeMap::new(alloc);
     for (number, variable) in variables {
-        put_value(&mut values, alloc, name_of(names, &number), variable.value)?;
+        put_value(
+            &mut values,
+            alloc,
+            numbered_name(names, &number),
+            variable.value,
+        )?;
     }
     Ok(values)
 }
@@ -202,14 +207,14 @@ fn lay_variables(
     lower: &mut BTreeMap<Text, Value>,
     alloc: Global,
     names: &Names,
-    upper: &BTreeMap<Key, Variable>,
+    upper: &BTreeMap<NameKey, Variable>,
 ) -> Result<(), AllocError>
     ensures { OnOk result
         (value_pairs lower.new.entries
         ≡ with_names (texted names.now (map pair_value upper.now.entries)) (value_pairs lower.old.entries)) }
 {
     for (number, variable) in upper {
-        lay_value(lower, alloc, name_of(names, number), &variable.value)?;
+        lay_value(lower, alloc, numbered_name(names, number), &variable.value)?;
     }
     Ok(())
 }

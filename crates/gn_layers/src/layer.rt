@@ -13,7 +13,7 @@ ghost use Rattle.gn_environment.specs.Unread.{reported, first_unread_of, earlier
 ghost use Rattle.gn_layers.specs.View.{variable_state, variables_in};
 
 use crate::error::{AssignError, ElementAssignError};
-use crate::key::Key;
+use crate::key::NameKey;
 use crate::variable::Variable;
 use gn_paths::Text;
 use gn_tree::{AssignOp, Position};
@@ -26,7 +26,7 @@ use std::marker::Model;
 /// definitions, and the defaults of each kind of call. Where it is checked, its end reports a name that nothing reads.
 #[derive(Drop)]
 pub struct Layer {
-    pub(crate) variables: BTreeMap<Key, Variable>,
+    pub(crate) variables: BTreeMap<NameKey, Variable>,
     pub(crate) templates: BTreeMap<Text, DefinitionName>,
     pub(crate) defaults: BTreeMap<Text, Bindings>,
     pub(crate) checked: bool,
@@ -71,14 +71,14 @@ impl Layer {
     }
 
     /// What a name stands for. None comes exactly where the layer has nothing at it.
-    pub fn get(&self, name: &Key) -> Option<&Variable>
+    pub fn get(&self, name: &NameKey) -> Option<&Variable>
         ensures { option_map (λ v. variable_state v.now) result ≡ variable_in name.now self.now }
     {
         self.variables.get(name)
     }
 
     /// The value of a name, also of one that is declared. None comes exactly where the layer has nothing at it.
-    pub fn value(&self, name: &Key) -> Option<&Value>
+    pub fn value(&self, name: &NameKey) -> Option<&Value>
         ensures { option_map (λ v. val_of v.now) result
             ≡ option_map (λ v. v.value) (variable_in name.now self.now) }
     {
@@ -87,7 +87,7 @@ impl Layer {
     }
 
     /// What a read finds at a name. None comes exactly where the layer has nothing at it, or declares it.
-    pub fn shown(&self, name: &Key) -> Option<&Value>
+    pub fn shown(&self, name: &NameKey) -> Option<&Value>
         ensures { option_map (λ v. val_of v.now) result
             ≡ shown_or (variable_in name.now self.now) None }
     {
@@ -96,7 +96,7 @@ impl Layer {
     }
 
     /// Where a name was declared. None comes exactly where the layer has nothing at it, or doesn't declare it.
-    pub fn declared(&self, name: &Key) -> Option<Position>
+    pub fn declared(&self, name: &NameKey) -> Option<Position>
         ensures { result ≡ place_of (variable_in name.now self.now) }
     {
         let variable = self.get(name)?;
@@ -104,7 +104,7 @@ impl Layer {
     }
 
     /// A read of a name that the layer may have, and whether it has it. It takes no memory.
-    pub fn mark(&mut self, name: &Key) -> bool
+    pub fn mark(&mut self, name: &NameKey) -> bool
         ensures found { result ≡ is_some (variable_in name.now self.old) }
         ensures read { self.new ≡ read_in name.now self.old }
         ensures stays { result ≡ is_some (variable_in name.now self.new) }
@@ -117,7 +117,7 @@ impl Layer {
     }
 
     /// Sets what a name stands for. After want of memory the layer is as before.
-    pub fn put(&mut self, name: Key, variable: Variable) -> Result<(), AllocError>
+    pub fn put(&mut self, name: NameKey, variable: Variable) -> Result<(), AllocError>
         ensures ok { OnOk result
             (self.new ≡ set_in name (Some (variable_state variable)) self.old) }
         ensures err { OnErr result (self.new ≡ self.old) }
@@ -127,7 +127,7 @@ impl Layer {
     }
 
     /// Takes a name away, and answers what it stood for. It takes no memory.
-    pub fn take(&mut self, name: &Key) -> Option<Variable>
+    pub fn take(&mut self, name: &NameKey) -> Option<Variable>
         ensures value { option_map variable_state result ≡ variable_in name.now self.old }
         ensures new { self.new ≡ set_in name.now None self.old }
     {
@@ -135,7 +135,7 @@ impl Layer {
     }
 
     /// Whether the layer has a name.
-    pub fn has(&self, name: &Key) -> bool
+    pub fn has(&self, name: &NameKey) -> bool
         ensures { result ≡ is_some (variable_in name.now self.now) }
     {
         self.variables.contains_key(name)
@@ -150,7 +150,7 @@ impl Layer {
 
     /// Declares a name, if the layer has it and declares names, at the position of the call that gave it, unless it was
     /// declared before. It takes no memory.
-    pub fn declare(&mut self, name: &Key, position: Position)
+    pub fn declare(&mut self, name: &NameKey, position: Position)
         ensures { self.new ≡ declared_in name.now position self.old }
     {
         if !self.declares {
@@ -166,7 +166,7 @@ impl Layer {
     /// the value is dropped.
     pub fn put_assigned(
         &mut self,
-        name: &Key,
+        name: &NameKey,
         value: Value,
         position: Position,
     ) -> Result<(), AllocError>
@@ -180,13 +180,13 @@ impl Layer {
             unread: Some(position),
             declared: self.first_declared(position),
         };
-        self.put(Key::new(name.number()), variable)
+        self.put(NameKey::new(name.number()), variable)
     }
 
     /// `name = value`. After a refusal the layer is as before, and the value is dropped.
     pub fn overwrite(
         &mut self,
-        name: &Key,
+        name: &NameKey,
         value: Value,
         position: Position,
     ) -> Result<(), AssignError>
@@ -208,7 +208,7 @@ impl Layer {
     pub fn combine(
         &mut self,
         alloc: Global,
-        name: &Key,
+        name: &NameKey,
         op: AssignOp,
         value: Value,
         position: Position,
@@ -232,7 +232,7 @@ impl Layer {
     pub fn assign_element(
         &mut self,
         alloc: Global,
-        name: &Key,
+        name: &NameKey,
         at: &Value,
         op: AssignOp,
         value: Value,

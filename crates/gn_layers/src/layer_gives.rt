@@ -7,7 +7,7 @@ ghost use Rattle.std.specs.Cmp.Lexicographic.{slice_cmp};
 ghost use Rattle.gn_layers.specs.Undoing.{all_put_back};
 ghost use Rattle.gn_environment.specs.Giving.{variables_given, all_given};
 
-use crate::key::Key;
+use crate::key::NameKey;
 use crate::layer::Layer;
 use crate::undo::{put_all_back, set_name};
 use crate::variable::Variable;
@@ -18,7 +18,11 @@ use std::collections::BTreeMap;
 impl Layer {
     /// Gives these names their values, in order; they count as read. After want of memory the layer is as before, and
     /// the values are dropped.
-    pub fn give_all(&mut self, alloc: Global, values: Vec<(Key, Value)>) -> Result<(), AllocError>
+    pub fn give_all(
+        &mut self,
+        alloc: Global,
+        values: Vec<(NameKey, Value)>,
+    ) -> Result<(), AllocError>
         ensures ok { OnOk result (self.new ≡ all_given (value_pairs values.items) self.old) }
         ensures err { OnErr result (self.new ≡ self.old) }
     {
@@ -36,9 +40,9 @@ impl Layer {
 /// Gives names their values, and puts what they stood for before behind `before`.
 pub(crate) fn give_each(
     alloc: Global,
-    variables: &mut BTreeMap<Key, Variable>,
-    before: &mut Vec<(Key, Option<Variable>)>,
-    values: Vec<(Key, Value)>,
+    variables: &mut BTreeMap<NameKey, Variable>,
+    before: &mut Vec<(NameKey, Option<Variable>)>,
+    values: Vec<(NameKey, Value)>,
 ) -> Result<(), AllocError>
     ensures ok { OnOk result (variables_in variables.new.entries
         ≡ variables_given (value_pairs values.items) (variables_in variables.old.entries)) }

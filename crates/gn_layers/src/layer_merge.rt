@@ -10,7 +10,7 @@ ghost use Rattle.gn_environment.specs.Giving.{variables_given, all_given};
 ghost use Rattle.gn_environment.specs.Imports.{is_public, public_part, other_defaults, first_name, with_imported_calls};
 
 use crate::copied::Copied;
-use crate::key::Key;
+use crate::key::NameKey;
 use crate::layer::Layer;
 use crate::layer_gives::give_each;
 use crate::undo::{put_all_back, set_name};
@@ -23,7 +23,7 @@ use std::collections::BTreeMap;
 // What names of a layer had before they were set.
 #[derive(Drop)]
 struct Undo {
-    variables: Vec<(Key, Option<Variable>)>,
+    variables: Vec<(NameKey, Option<Variable>)>,
     templates: Vec<(Text, Option<DefinitionName>)>,
     defaults: Vec<(Text, Option<Bindings>)>,
 }
@@ -34,7 +34,7 @@ impl Layer {
     pub fn merge(
         &mut self,
         alloc: Global,
-        values: Vec<(Key, Value)>,
+        values: Vec<(NameKey, Value)>,
         scope: &KeptScope,
     ) -> Result<(), AllocError>
         ensures ok { OnOk result
@@ -92,11 +92,11 @@ impl Layer {
 // before into `undo`.
 fn set_all(
     alloc: Global,
-    variables: &mut BTreeMap<Key, Variable>,
+    variables: &mut BTreeMap<NameKey, Variable>,
     templates: &mut BTreeMap<Text, DefinitionName>,
     defaults: &mut BTreeMap<Text, Bindings>,
     undo: &mut Undo,
-    values: Vec<(Key, Value)>,
+    values: Vec<(NameKey, Value)>,
     scope: &KeptScope,
 ) -> Result<(), AllocError>
     ensures variables { OnOk result (variables_in variables.new.entries

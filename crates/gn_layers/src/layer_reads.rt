@@ -6,7 +6,7 @@ ghost use Rattle.gn_layers.specs.Named.{all_read_but_named};
 
 use crate::layer::Layer;
 use crate::name_set::NameSet;
-use crate::unread::name_of;
+use crate::unread::numbered_name;
 use gn_text::Names;
 
 impl Layer {
@@ -25,7 +25,7 @@ impl Layer {
         ensures { self.new ≡ all_read_but_named names.now except.now self.old }
     {
         self.variables.retain(|number, variable| {
-            if !except.has(name_of(names, number)) {
+            if !except.has(numbered_name(names, number)) {
                 variable.unread = None;
             }
             true

@@ -16,7 +16,7 @@ mod unread;
 mod variable;
 
 pub use error::{AssignError, ElementAssignError};
-pub use key::Key;
+pub use key::NameKey;
 pub use laid::{Hides, Laid};
 pub use layer::Layer;
 pub use name_set::NameSet;

@@ -2,11 +2,11 @@
 
 ghost use Rattle.std.specs.Prelude.{◌≡◌, option_map};
 ghost use Rattle.std.specs.Ordering.{nat_cmp, ordering_then};
-ghost use Rattle.gn_layers.specs.Named.{key, name_of, texted, texted_layer};
+ghost use Rattle.gn_layers.specs.Named.{key, numbered_name, texted, texted_layer};
 ghost use Rattle.gn_environment.specs.Unread.{reported, first_unread_of, earlier, unread_at, stands_before};
 ghost use Rattle.gn_layers.specs.View.{variables_in};
 
-use crate::key::Key;
+use crate::key::NameKey;
 use crate::layer::Layer;
 use crate::variable::Variable;
 use gn_text::{Name, Names};
@@ -42,7 +42,7 @@ impl Layer {
 }
 
 // The number of the unread name whose last assignment stands first.
-fn first_unread(variables: &BTreeMap<Key, Variable>) -> Option<(Name, Position)>
+fn first_unread(variables: &BTreeMap<NameKey, Variable>) -> Option<(Name, Position)>
     ensures { option_map (λ p. (key p.0, p.1)) result
         ≡ first_unread_of (variables_in variables.now.entries) }
 {
@@ -56,21 +56,21 @@ fn first_unread(variables: &BTreeMap<Key, Variable>) -> Option<(Name, Position)>
 // The unread name whose last assignment stands first, and where that stands; `names` are those that the numbers stand for.
 fn first_unread_name<'a>(
     names: &'a Names,
-    variables: &BTreeMap<Key, Variable>,
+    variables: &BTreeMap<NameKey, Variable>,
 ) -> Option<(&'a [u8], Position)>
     ensures { option_map (λ p. (p.0.now, p.1)) result
         ≡ first_unread_of (texted names.now (variables_in variables.now.entries)) }
 {
     let mut first = None;
     for (number, variable) in variables {
-        first = earlier_name(first, name_of(names, number), variable.unread);
+        first = earlier_name(first, numbered_name(names, number), variable.unread);
     }
     first
 }
 
 /// The name that has this number; the empty one where none has it. It takes no memory.
-pub(crate) fn name_of<'a>(names: &'a Names, number: &Key) -> &'a [u8]
-    ensures { result.now ≡ name_of names.now number.now }
+pub(crate) fn numbered_name<'a>(names: &'a Names, number: &NameKey) -> &'a [u8]
+    ensures { result.now ≡ numbered_name names.now number.now }
 {
     match names.name(number.number()) {
         Some(name) => name,

@@ -5,9 +5,9 @@ use Rattle.gn_ninja_text.specs.Escapes.{value_read, without_first_spaces}
 use Rattle.gn_ninja_text.specs.Values.{ValuePart, Byte, ReadingAt, Bytes, Dollar, Name, with_byte, parts_from, value_parts_read}
 
 -- where a reading is once a mark has or hasn't just been read
-abbrev behind : Bool → ReadingAt
-behind false = Bytes
-behind true = Dollar
+abbrev reading_behind : Bool → ReadingAt
+reading_behind false = Bytes
+reading_behind true = Dollar
 
 -- a byte before what is read
 said_first : (b : ℕ) (said : Option (List ℕ)) (read : Option (List ValuePart)) (value : List ℕ) → ((v : List ℕ) → said ≡ Some v → read ≡ Some (map Byte v)) → option_map (λ more. b ∷ more) said ≡ Some value → with_byte b read ≡ Some (map Byte value)
@@ -16,7 +16,7 @@ said_first b (Some v) read value again h =
     let e : b ∷ v ≡ value = cc in
     ap (with_byte b) (again v refl) ∙ ap (λ v. Some (map Byte v)) e
 
-same_from : (marked : Bool) (text value : List ℕ) → unmarked 36 (36 ∷ 32 ∷ []) marked text ≡ Some value → parts_from (behind marked) text ≡ Some (map Byte value)
+same_from : (marked : Bool) (text value : List ℕ) → unmarked 36 (36 ∷ 32 ∷ []) marked text ≡ Some value → parts_from (reading_behind marked) text ≡ Some (map Byte value)
 same_from false [] value h = let e : [] ≡ value = cc in ap (λ v. Some (map Byte v)) e
 same_from true [] value h = absurd cc
 same_from false (b ∷ more) value h = by (b == 36) h (same_from true more value) (same_from false more)

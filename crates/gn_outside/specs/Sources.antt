@@ -62,12 +62,12 @@ abbrev pub plain_reads : List (List ℕ) → List SourceRead
 plain_reads paths = map (λ path. record { path = path; failed = false }) paths
 
 -- one source afterwards: the same tree; these reads joined its own, none behind one that has failed; its count rose exactly where one has
-pub record GoesOnBy (before after : SourceState) (reads : List SourceRead) : Type 0 where
+pub record ReadsOnBy (before after : SourceState) (reads : List SourceRead) : Type 0 where
   pub tree : after.tree ≡ before.tree
   pub joined : Extends before.reads after.reads reads
   pub stops : StopsAtFailure reads
   pub faults : CountsFailures before.faults after.faults (list_any (λ (read : SourceRead). read.failed) reads)
 
 -- one source afterwards, whatever it has read in between
-abbrev pub GoesOn : SourceState → SourceState → Type 0
-GoesOn before after = (reads : List SourceRead) × GoesOnBy before after reads
+abbrev pub ReadsOn : SourceState → SourceState → Type 0
+ReadsOn before after = (reads : List SourceRead) × ReadsOnBy before after reads

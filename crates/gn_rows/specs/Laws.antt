@@ -5,11 +5,11 @@ use Rattle.std.specs.Str.{bytes_eq}
 use Rattle.gn_rows.specs.declared.row.Row.{Row}
 use Rattle.gn_rows.specs.declared.row.Demand.{Demand}
 use Rattle.gn_rows.specs.declared.variable.Variable.{Variable}
-use Rattle.gn_rows.specs.Names.{name_of}
+use Rattle.gn_rows.specs.Names.{variable_name}
 
 -- whether a variable has a row
 abbrev pub has_row : List Row → Variable → Bool
-has_row rows variable = list_any (λ row. bytes_eq (name_of row.variable) (name_of variable)) rows
+has_row rows variable = list_any (λ row. bytes_eq (variable_name row.variable) (variable_name variable)) rows
 
 -- whether no name stands twice
 abbrev pub names_differ : List Row → Bool

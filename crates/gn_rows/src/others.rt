@@ -1,7 +1,7 @@
 // The variables of configurations, pools, toolchains and tools, and what these demand.
 
-use crate::row::Content::{Command, DepsFormat, Label, Library, Path, Pattern, Subst, Text};
 use crate::row::RowType::{Boolean, Count, Many, One, OneOrMany, Scope, Unused};
+use crate::row::StringKind::{Command, DepsFormat, Label, Library, Path, Pattern, Subst, Text};
 use crate::row::{Demand, Row, Rule, demand, row};
 use crate::variable::Variable;
 use gn_substs::Position::{

@@ -5,7 +5,7 @@ use gn_substs::Position;
 
 /// What a string of a value is read as.
 #[derive(Clone, Copy)]
-pub enum Content {
+pub enum StringKind {
     /// The string itself.
     Text,
     /// A path, from the directory of the file.
@@ -40,11 +40,11 @@ pub enum RowType {
     /// An integer from 0.
     Count,
     /// A string.
-    One(Content),
+    One(StringKind),
     /// A list of strings.
-    Many(Content),
+    Many(StringKind),
     /// A string or a list of strings.
-    OneOrMany(Content),
+    OneOrMany(StringKind),
     /// A scope.
     Scope,
     /// Any value: the variable is read and not used.

@@ -1,7 +1,9 @@
 // The variables of targets, in the order in which they are looked at, and what the kinds of targets demand.
 
-use crate::row::Content::{Argument, Depfile, Label, Library, Output, Path, Pattern, Script, Text};
 use crate::row::RowType::{Boolean, Many, One, OneOrMany, Unused};
+use crate::row::StringKind::{
+    Argument, Depfile, Label, Library, Output, Path, Pattern, Script, Text,
+};
 use crate::row::{Demand, Row, Rule, demand, row};
 use crate::variable::Variable;
 

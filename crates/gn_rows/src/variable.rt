@@ -1,7 +1,7 @@
 // The variables of items, and their names.
 
 ghost use Rattle.std.specs.Prelude.{◌≡◌};
-ghost use Rattle.gn_rows.specs.Names.{name_of};
+ghost use Rattle.gn_rows.specs.Names.{variable_name};
 
 /// A variable that the block of an item can set.
 #[derive(Clone, Copy, Debug, PartialEq, Eq)]
@@ -127,7 +127,7 @@ pub enum Variable {
 impl Variable {
     /// The name of the variable, as a build file writes it.
     pub fn name(self) -> &'static [u8]
-        ensures { result.now ≡ name_of self }
+        ensures { result.now ≡ variable_name self }
     {
         match self {
             Variable::Testonly => b"testonly",

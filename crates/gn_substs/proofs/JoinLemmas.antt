@@ -9,10 +9,10 @@ use Rattle.std.proofs.lemmas.Slice.Eq.{bytes_eq-Decides}
 use Rattle.std.proofs.lemmas.Bool.{and_parts}
 use Rattle.gn_substs.specs.declared.names.Substitution.{Substitution}
 use Rattle.gn_substs.specs.declared.positions.Position.{Position}
-use Rattle.gn_substs.specs.declared.pieces.Piece.{Piece}
+use Rattle.gn_substs.specs.declared.pieces.SubstPiece.{SubstPiece}
 use Rattle.gn_substs.specs.declared.subst.Subst.{Subst}
-use Rattle.gn_substs.specs.declared.subst.Found.{Found}
-use Rattle.gn_substs.specs.Names.{name_of}
+use Rattle.gn_substs.specs.declared.subst.BracedName.{BracedName}
+use Rattle.gn_substs.specs.Names.{substitution_name}
 use Rattle.gn_substs.specs.Positions.{first_named, names_at, substitution_at}
 use Rattle.gn_substs.specs.Pieces.{first_is, pair_at, name_from, piece_of}
 use Rattle.gn_substs.specs.Reading.{LeadsTo, subst_read}
@@ -43,17 +43,17 @@ pair_there b (x ∷ more) lt = by ((x == b) && first_is b more) refl lt (pair_th
         drop_more (pair_at b more) x more ∙ again (omega (arith, lt))
         ∙ ap (λ z. b ∷ b ∷ z) (sym (ap (λ m. drop m (x ∷ more)) n ∙ drop_more (pair_at b more + 2) x more))
 
-name_is : (ns : List Substitution) (name : List ℕ) (s : Substitution) → first_named ns name ≡ Some s → name_of s ≡ name
+name_is : (ns : List Substitution) (name : List ℕ) (s : Substitution) → first_named ns name ≡ Some s → substitution_name s ≡ name
 name_is [] name s h = absurd cc
-name_is (n ∷ ns) name s h = name_by n ns name s (bytes_eq (name_of n) name) refl h (name_is ns name s)
+name_is (n ∷ ns) name s h = name_by n ns name s (bytes_eq (substitution_name n) name) refl h (name_is ns name s)
   where
-    name_by : (n : Substitution) (ns : List Substitution) (name : List ℕ) (s : Substitution) (b : Bool) → bytes_eq (name_of n) name ≡ b →
-        cond b (Some n) (first_named ns name) ≡ Some s → (first_named ns name ≡ Some s → name_of s ≡ name) → name_of s ≡ name
-    name_by n ns name s true e h again = let same : n ≡ s = cc in ap name_of (sym same) ∙ (bytes_eq-Decides (name_of n) name).0 e
+    name_by : (n : Substitution) (ns : List Substitution) (name : List ℕ) (s : Substitution) (b : Bool) → bytes_eq (substitution_name n) name ≡ b →
+        cond b (Some n) (first_named ns name) ≡ Some s → (first_named ns name ≡ Some s → substitution_name s ≡ name) → substitution_name s ≡ name
+    name_by n ns name s true e h again = let same : n ≡ s = cc in ap substitution_name (sym same) ∙ (bytes_eq-Decides (substitution_name n) name).0 e
     name_by n ns name s false e h again = again h
 
 -- A piece with its substitution between braces, and what is left behind it, are the text.
-piece_whole : (position : Position) (text : List ℕ) (found : Found) → name_from position text (pair_at 123 text) ≡ Some found →
+piece_whole : (position : Position) (text : List ℕ) (found : BracedName) → name_from position text (pair_at 123 text) ≡ Some found →
     piece_with braced (piece_of text found) ++ drop found.end text ≡ text
 piece_whole position text found h =
     let start = pair_at 123 text in
@@ -61,18 +61,18 @@ piece_whole position text found h =
     let close = pair_at 125 inside in
     let f = is_found position text start found h in
     let lt = (found_room position text start found h).0 in
-    let name : name_of found.substitution ≡ take close inside = name_is (names_at position) (take close inside) found.substitution f.named in
+    let name : substitution_name found.substitution ≡ take close inside = name_is (names_at position) (take close inside) found.substitution f.named in
     let end : drop found.end text ≡ drop (close + 2) inside =
     let e : found.end ≡ (start + 2) + (close + 2) = omega (arith, f.ends) in ap (λ n. drop n text) e ∙ sym (drop-drop (close + 2) (start + 2) text) in
-    let behind : name_of found.substitution ++ 125 ∷ 125 ∷ drop found.end text ≡ inside =
+    let behind : substitution_name found.substitution ++ 125 ∷ 125 ∷ drop found.end text ≡ inside =
     ap (λ n. n ++ 125 ∷ 125 ∷ drop found.end text) name ∙ ap (λ z. take close inside ++ 125 ∷ 125 ∷ z) end
     ∙ ap (λ z. take close inside ++ z) (sym (pair_there 125 inside f.within)) ∙ take-append-drop close inside in
     append_assoc (take found.start text) (braced found.substitution) (drop found.end text)
-    ∙ ap (λ z. take found.start text ++ 123 ∷ 123 ∷ z) (append_assoc (name_of found.substitution) (125 ∷ 125 ∷ []) (drop found.end text) ∙ behind)
+    ∙ ap (λ z. take found.start text ++ 123 ∷ 123 ∷ z) (append_assoc (substitution_name found.substitution) (125 ∷ 125 ∷ []) (drop found.end text) ∙ behind)
     ∙ ap (λ n. take n text ++ 123 ∷ 123 ∷ inside) f.starts
     ∙ ap (λ z. take start text ++ z) (sym (pair_there 123 text lt)) ∙ take-append-drop start text
 
-joined : (position : Position) (text : List ℕ) (ps : List Piece) (last : List ℕ) → LeadsTo position text ps last → with_texts braced ps last ≡ text
+joined : (position : Position) (text : List ℕ) (ps : List SubstPiece) (last : List ℕ) → LeadsTo position text ps last → with_texts braced ps last ≡ text
 joined position text [] last h = sym h
 joined position text (p ∷ ps) last h =
     ap (λ z. z ++ last) (flat_map-cons (piece_with braced) p ps) ∙ append_assoc (piece_with braced p) (flat_map (piece_with braced) ps) last
@@ -101,7 +101,7 @@ none_before b (x ∷ more) = by ((x == b) && first_is b more) refl (none_before 
         omega (arith, one, again)
         )
 
-pieces_at : (position : Position) (text : List ℕ) (ps : List Piece) (last : List ℕ) → LeadsTo position text ps last → ArePiecesAt position ps
+pieces_at : (position : Position) (text : List ℕ) (ps : List SubstPiece) (last : List ℕ) → LeadsTo position text ps last → ArePiecesAt position ps
 pieces_at position text [] last h = tt
 pieces_at position text (p ∷ ps) last h =
     let f = is_found position text (pair_at 123 text) h.0 h.1 in

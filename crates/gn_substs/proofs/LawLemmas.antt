@@ -7,7 +7,7 @@ use Rattle.gn_substs.specs.declared.names.Substitution.{Substitution}
 use Rattle.gn_substs.specs.declared.names.Substitution.TheVariants.{Source, SourceFilePart, SourceNamePart, SourceDir, SourceRootRelativeDir, SourceGenDir, SourceOutDir, SourceTargetRelative, ResponseFileName, TargetOutputName, OutputDir, OutputExtension, RootOutDir, RootGenDir, TargetOutDir, TargetGenDir, LabelName, Inputs, Output, InputsNewline, LabelNoToolchain, Asmflags, Cflags, CflagsC, CflagsCc, Defines, IncludeDirs, Label, Ldflags, Libs, Solibs}
 use Rattle.gn_substs.specs.declared.positions.Position.{Position}
 use Rattle.gn_substs.specs.declared.positions.Position.TheVariants.{NoNames, ForeachOutputs, ForeachDepfile, ForeachArgs, CopyOutputs, FileTemplate, ActionArgs, ToolOutputs, ToolLinkOutput, ToolDependOutput, ToolDefaultOutputDir, ToolText}
-use Rattle.gn_substs.specs.Names.{name_of}
+use Rattle.gn_substs.specs.Names.{substitution_name}
 use Rattle.gn_substs.specs.Positions.{names_at, first_named, all_differ, StandsAt}
 use Rattle.gn_substs.specs.Expansions.{place_in, or_nothing, text_in}
 
@@ -29,7 +29,7 @@ abbrev every : List Substitution
 every =
     Source ∷ SourceFilePart ∷ SourceNamePart ∷ SourceDir ∷ SourceRootRelativeDir ∷ SourceGenDir ∷ SourceOutDir ∷ SourceTargetRelative ∷ ResponseFileName ∷ TargetOutputName ∷ OutputDir ∷ OutputExtension ∷ RootOutDir ∷ RootGenDir ∷ TargetOutDir ∷ TargetGenDir ∷ LabelName ∷ Inputs ∷ Output ∷ InputsNewline ∷ LabelNoToolchain ∷ Asmflags ∷ Cflags ∷ CflagsC ∷ CflagsCc ∷ Defines ∷ IncludeDirs ∷ Label ∷ Ldflags ∷ Libs ∷ Solibs ∷ []
 
-back : (s : Substitution) → first_named every (name_of s) ≡ Some s
+back : (s : Substitution) → first_named every (substitution_name s) ≡ Some s
 back Source = refl
 back SourceFilePart = refl
 back SourceNamePart = refl
@@ -62,18 +62,18 @@ back Ldflags = refl
 back Libs = refl
 back Solibs = refl
 
-pub names_differ : (a b : Substitution) → name_of a ≡ name_of b → a ≡ b
+pub names_differ : (a b : Substitution) → substitution_name a ≡ substitution_name b → a ≡ b
 names_differ a b e = let same : Some a ≡ Some b = sym (back a) ∙ ap (first_named every) e ∙ back b in cc
 
 -- the first of these that has a substitution's name stands at its place
-placed_by : (n : Substitution) (ns : List Substitution) (s : Substitution) (b : Bool) → slice_get ns (place_in ns s) ≡ first_named ns (name_of s) →
-    slice_get (n ∷ ns) (if b then 0 else 1 + place_in ns s) ≡ (if b then Some n else first_named ns (name_of s))
+placed_by : (n : Substitution) (ns : List Substitution) (s : Substitution) (b : Bool) → slice_get ns (place_in ns s) ≡ first_named ns (substitution_name s) →
+    slice_get (n ∷ ns) (if b then 0 else 1 + place_in ns s) ≡ (if b then Some n else first_named ns (substitution_name s))
 placed_by n ns s true h = refl
 placed_by n ns s false h = let e : 1 + place_in ns s ≡ suc (place_in ns s) = omega arith in rw e h
 
-placed : (ns : List Substitution) (s : Substitution) → slice_get ns (place_in ns s) ≡ first_named ns (name_of s)
+placed : (ns : List Substitution) (s : Substitution) → slice_get ns (place_in ns s) ≡ first_named ns (substitution_name s)
 placed [] s = refl
-placed (n ∷ ns) s = placed_by n ns s (bytes_eq (name_of n) (name_of s)) (placed ns s)
+placed (n ∷ ns) s = placed_by n ns s (bytes_eq (substitution_name n) (substitution_name s)) (placed ns s)
 
 pub text_of_name : (position : Position) (text : Substitution → List ℕ) (s : Substitution) → StandsAt position s → text_in (position, map text (names_at position)) s ≡ text s
 text_of_name position text s h =

@@ -3,9 +3,9 @@ use Rattle.std.proofs.Common.{◌≡◌, ℕ, zero, suc, ◌+◌, ◌-◌, ◌<�
 use Rattle.std.proofs.lemmas.Bool.{lt-ltb, le-ltb, ltb-true, ltb-false}
 use Rattle.gn_substs.specs.declared.names.Substitution.{Substitution}
 use Rattle.gn_substs.specs.declared.positions.Position.{Position}
-use Rattle.gn_substs.specs.declared.pieces.Piece.{Piece}
+use Rattle.gn_substs.specs.declared.pieces.SubstPiece.{SubstPiece}
 use Rattle.gn_substs.specs.declared.subst.Subst.{Subst}
-use Rattle.gn_substs.specs.declared.subst.Found.{Found}
+use Rattle.gn_substs.specs.declared.subst.BracedName.{BracedName}
 use Rattle.gn_substs.specs.Positions.{substitution_at}
 use Rattle.gn_substs.specs.Pieces.{first_is, pair_at, found_at, name_from, piece_of}
 use Rattle.gn_substs.specs.Reading.{LeadsTo, IsReadAs, IsFirstBad, with_first, read_behind, read_within, subst_read}
@@ -13,26 +13,26 @@ use Rattle.gn_substs.specs.Laws.{HasOneReading}
 use Rattle.gn_substs.proofs.PieceLemmas.{pair_room}
 
 -- What is found stands where its name says.
-pub record FoundIn (position : Position) (inside : List ℕ) (start close : ℕ) (found : Found) : Type 0 where
+pub record FoundIn (position : Position) (inside : List ℕ) (start close : ℕ) (found : BracedName) : Type 0 where
   pub starts : found.start ≡ start
   pub within : close < length inside
   pub named : substitution_at position (take close inside) ≡ Some found.substitution
   pub ends : found.end ≡ start + 2 + close + 2
 
-found_by : (position : Position) (inside : List ℕ) (start close : ℕ) (found : Found) (b : Bool) (o : Option Substitution) → nat_lt close (length inside) ≡ b →
+found_by : (position : Position) (inside : List ℕ) (start close : ℕ) (found : BracedName) (b : Bool) (o : Option Substitution) → nat_lt close (length inside) ≡ b →
     substitution_at position (take close inside) ≡ o → (if b then option_map (found_at start close) o else None) ≡ Some found → FoundIn position inside start close found
 found_by position inside start close found false o e n h = absurd cc
 found_by position inside start close found true None e n h = absurd cc
 found_by position inside start close found true (Some s) e n h =
     let same : found_at start close s ≡ found = cc in
     record {
-      starts = sym (ap (λ (f : Found). f.start) same);
+      starts = sym (ap (λ (f : BracedName). f.start) same);
       within = ltb-true close (length inside) e;
-      named = n ∙ ap (λ (f : Found). Some f.substitution) same;
-      ends = sym (ap (λ (f : Found). f.end) same);
+      named = n ∙ ap (λ (f : BracedName). Some f.substitution) same;
+      ends = sym (ap (λ (f : BracedName). f.end) same);
     }
 
-pub is_found : (position : Position) (text : List ℕ) (start : ℕ) (found : Found) → name_from position text start ≡ Some found →
+pub is_found : (position : Position) (text : List ℕ) (start : ℕ) (found : BracedName) → name_from position text start ≡ Some found →
     FoundIn position (drop (start + 2) text) start (pair_at 125 (drop (start + 2) text)) found
 unfolding name_from
 is_found position text start found h =
@@ -48,7 +48,7 @@ pair_within b (x ∷ more) = by ((x == b) && first_is b more) (pair_within b mor
     by false h = omega (arith, h)
 
 -- Where something is found, a `{{` stands, and the text goes on at least to its end.
-pub found_room : (position : Position) (text : List ℕ) (start : ℕ) (found : Found) → name_from position text start ≡ Some found →
+pub found_room : (position : Position) (text : List ℕ) (start : ℕ) (found : BracedName) → name_from position text start ≡ Some found →
     (start < length text) × (start + 4 ≤ found.end) × (found.end ≤ length text)
 found_room position text start found h =
     let f = is_found position text start found h in
@@ -56,7 +56,7 @@ found_room position text start found h =
     let l = length-drop (start + 2) text in
     (omega (arith, f.within, l), omega (arith, f.ends), omega (arith, f.ends, room, l))
 
-pub pieces_read : (n : ℕ) (position : Position) (before : ℕ) (text : List ℕ) (ps : List Piece) (last : List ℕ) → length text ≤ n → LeadsTo position text ps last →
+pub pieces_read : (n : ℕ) (position : Position) (before : ℕ) (text : List ℕ) (ps : List SubstPiece) (last : List ℕ) → length text ≤ n → LeadsTo position text ps last →
     pair_at 123 last ≡ length last → read_within n position before text ≡ Ok (record { pieces = ps; last = last })
 pieces_read zero position before text [] last le h none = ap (λ x. Ok (record { pieces = []; last = x })) h
 pieces_read zero position before text (p ∷ ps) last le h none = absurd (omega (arith, le, (found_room position text (pair_at 123 text) h.0 h.1).0))
@@ -70,7 +70,7 @@ pieces_read (suc n) position before text (p ∷ ps) last le h none =
     (ap (with_first (piece_of text h.0)) (pieces_read n position (before + h.0.end) (drop h.0.end text) ps last rest h.3 none)
     ∙ ap (λ q. Ok (record { pieces = q ∷ ps; last = last })) (sym h.2))
 
-pub bad_read : (n : ℕ) (position : Position) (before : ℕ) (text : List ℕ) (ps : List Piece) (rest : List ℕ) (offset : ℕ) → length text ≤ n → LeadsTo position text ps rest →
+pub bad_read : (n : ℕ) (position : Position) (before : ℕ) (text : List ℕ) (ps : List SubstPiece) (rest : List ℕ) (offset : ℕ) → length text ≤ n → LeadsTo position text ps rest →
     pair_at 123 rest < length rest → name_from position rest (pair_at 123 rest) ≡ None → offset + length rest ≡ before + length text + pair_at 123 rest →
     read_within n position before text ≡ Err offset
 bad_read zero position before text [] rest offset le h lt none at = absurd (omega (arith, le, ap length h, lt))
@@ -91,9 +91,9 @@ bad_read (suc n) position before text (p ∷ ps) rest offset le h lt none at =
 abbrev IsRightAt : Position → ℕ → List ℕ → Result Subst ℕ → Type 0
 IsRightAt position before text (Ok s) = IsReadAs position text s.pieces s.last
 IsRightAt position before text (Err offset) =
-    (pieces : List Piece) × (rest : List ℕ) × LeadsTo position text pieces rest × (pair_at 123 rest < length rest) × (name_from position rest (pair_at 123 rest) ≡ None) × (offset + length rest ≡ before + length text + pair_at 123 rest)
+    (pieces : List SubstPiece) × (rest : List ℕ) × LeadsTo position text pieces rest × (pair_at 123 rest < length rest) × (name_from position rest (pair_at 123 rest) ≡ None) × (offset + length rest ≡ before + length text + pair_at 123 rest)
 
-prepended : (position : Position) (before : ℕ) (text : List ℕ) (found : Found) (r : Result Subst ℕ) → name_from position text (pair_at 123 text) ≡ Some found →
+prepended : (position : Position) (before : ℕ) (text : List ℕ) (found : BracedName) (r : Result Subst ℕ) → name_from position text (pair_at 123 text) ≡ Some found →
     IsRightAt position (before + found.end) (drop found.end text) r → IsRightAt position before text (with_first (piece_of text found) r)
 prepended position before text found (Ok s) e h = ((found, e, refl, h.0), h.1)
 prepended position before text found (Err offset) e h = (
@@ -105,8 +105,8 @@ prepended position before text found (Err offset) e h = (
   omega (arith, h.5, length-drop found.end text, (found_room position text (pair_at 123 text) found e).2),
 )
 
-right_step : (position : Position) (before : ℕ) (text : List ℕ) (go : Found → Result Subst ℕ) (b : Bool) (o : Option Found) → nat_lt (pair_at 123 text) (length text) ≡ b →
-    name_from position text (pair_at 123 text) ≡ o → ((found : Found) → o ≡ Some found → IsRightAt position (before + found.end) (drop found.end text) (go found)) →
+right_step : (position : Position) (before : ℕ) (text : List ℕ) (go : BracedName → Result Subst ℕ) (b : Bool) (o : Option BracedName) → nat_lt (pair_at 123 text) (length text) ≡ b →
+    name_from position text (pair_at 123 text) ≡ o → ((found : BracedName) → o ≡ Some found → IsRightAt position (before + found.end) (drop found.end text) (go found)) →
     IsRightAt position before text (if b then read_behind o (before + pair_at 123 text) text go else Ok (record { pieces = []; last = text }))
 right_step position before text go false o e n again = (refl, omega (arith, pair_within 123 text, ltb-false (pair_at 123 text) (length text) e))
 right_step position before text go true None e n again = ([], text, refl, ltb-true (pair_at 123 text) (length text) e, n, omega arith)
@@ -131,12 +131,12 @@ bad_right position text offset (Ok s) h e = absurd cc
 bad_right position text offset (Err at) h e = let same : at ≡ offset = cc in (h.0, h.1, h.2, h.3, h.4, omega (arith, h.5, same))
 
 -- the same of a whole text
-pub read_of_pieces : (position : Position) (text : List ℕ) (ps : List Piece) (last : List ℕ) → LeadsTo position text ps last → pair_at 123 last ≡ length last →
+pub read_of_pieces : (position : Position) (text : List ℕ) (ps : List SubstPiece) (last : List ℕ) → LeadsTo position text ps last → pair_at 123 last ≡ length last →
     subst_read position text ≡ Ok (record { pieces = ps; last = last })
 unfolding subst_read
 read_of_pieces position text ps last h none = pieces_read (length text) position 0 text ps last (omega arith) h none
 
-pub read_of_bad : (position : Position) (text : List ℕ) (ps : List Piece) (rest : List ℕ) (offset : ℕ) → LeadsTo position text ps rest → pair_at 123 rest < length rest →
+pub read_of_bad : (position : Position) (text : List ℕ) (ps : List SubstPiece) (rest : List ℕ) (offset : ℕ) → LeadsTo position text ps rest → pair_at 123 rest < length rest →
     name_from position rest (pair_at 123 rest) ≡ None → offset + length rest ≡ length text + pair_at 123 rest → subst_read position text ≡ Err offset
 unfolding subst_read
 read_of_bad position text ps rest offset h lt none at = bad_read (length text) position 0 text ps rest offset (omega arith) h lt none (omega (arith, at))
@@ -153,7 +153,7 @@ one_reading position text =
     }
 
 -- the offset of a bad `{{`, as code counts it
-pub read_bad_at : (position : Position) (text : List ℕ) (ps : List Piece) (rest : List ℕ) (start : ℕ) → LeadsTo position text ps rest → start ≡ pair_at 123 rest →
+pub read_bad_at : (position : Position) (text : List ℕ) (ps : List SubstPiece) (rest : List ℕ) (start : ℕ) → LeadsTo position text ps rest → start ≡ pair_at 123 rest →
     start < length rest → length rest ≤ length text → name_from position rest start ≡ None → subst_read position text ≡ Err (length text - length rest + start)
 read_bad_at position text ps rest start h at lt within none =
     read_of_bad position text ps rest (length text - length rest + start) h (omega (arith, lt, at)) (ap (name_from position rest) (sym at) ∙ none) (omega (arith, within, at))

@@ -11,7 +11,7 @@ use Rattle.gn_ninja_text.specs.Escapes.{doubled, value_escaped, without_first_sp
 use Rattle.gn_ninja_text.specs.Values.{ValuePart, Byte, Variable, Bytes, Name, is_name_byte, with_byte, with_variable, parts_from, value_parts_read, part_bytes, parts_bytes, value_made}
 use Rattle.gn_substs.specs.declared.names.Substitution.{Substitution}
 use Rattle.gn_substs.specs.declared.names.Substitution.TheVariants.{Source, SourceFilePart, SourceNamePart, SourceDir, SourceRootRelativeDir, SourceGenDir, SourceOutDir, SourceTargetRelative, ResponseFileName, TargetOutputName, OutputDir, OutputExtension, RootOutDir, RootGenDir, TargetOutDir, TargetGenDir, LabelName, Inputs, Output, InputsNewline, LabelNoToolchain, Asmflags, Cflags, CflagsC, CflagsCc, Defines, IncludeDirs, Label, Ldflags, Libs, Solibs}
-use Rattle.gn_substs.specs.declared.pieces.Piece.{Piece}
+use Rattle.gn_substs.specs.declared.pieces.SubstPiece.{SubstPiece}
 use Rattle.gn_substs.specs.Expansions.{piece_with}
 use Rattle.gn_substs.specs.Variables.{variable_name, variable_of, doubled_with, tool_text, piece_parts, value_parts, with_values}
 
@@ -92,7 +92,7 @@ variable_read s rest parts h =
     ∙ ap (with_variable name) h ∙ named name parts good
 
 -- pieces behind the beginning are read back
-pieces_read : (pieces : List Piece) (rest : List ℕ) (parts : List ValuePart) → parts_from Bytes rest ≡ Some parts → parts_from Bytes (flat_map doubled_with pieces ++ rest) ≡ Some (flat_map piece_parts pieces ++ parts)
+pieces_read : (pieces : List SubstPiece) (rest : List ℕ) (parts : List ValuePart) → parts_from Bytes rest ≡ Some parts → parts_from Bytes (flat_map doubled_with pieces ++ rest) ≡ Some (flat_map piece_parts pieces ++ parts)
 pieces_read [] rest parts h = h
 pieces_read (p ∷ more) rest parts h =
     let again = variable_read p.substitution (flat_map doubled_with more ++ rest) (flat_map piece_parts more ++ parts) (pieces_read more rest parts h) in
@@ -123,7 +123,7 @@ escaped_read (b ∷ more) rest parts s h = by (32 == b) refl
 ends_here : (bytes : List ℕ) → parts_from Bytes (doubled bytes) ≡ Some (map Byte bytes)
 ends_here bytes = ap (parts_from Bytes) (sym (append-nil (doubled bytes))) ∙ doubled_read bytes [] [] refl ∙ ap Some (append-nil (map Byte bytes))
 
-pub text_read_back : (pieces : List Piece) (last : List ℕ) → value_parts_read (tool_text pieces last) ≡ Some (value_parts pieces last)
+pub text_read_back : (pieces : List SubstPiece) (last : List ℕ) → value_parts_read (tool_text pieces last) ≡ Some (value_parts pieces last)
 text_read_back [] last = ap value_parts_read (sym (append-nil (value_escaped last))) ∙ escaped_read last [] [] refl refl ∙ ap Some (append-nil (map Byte last))
 text_read_back (p ∷ more) last =
     let rest = flat_map doubled_with more ++ doubled last in
@@ -141,7 +141,7 @@ bytes_of : (values : List ℕ → List ℕ) (bytes : List ℕ) → parts_bytes v
 bytes_of values [] = refl
 bytes_of values (b ∷ more) = ap (λ z. b ∷ z) (bytes_of values more)
 
-bytes_of_pieces : (values : List ℕ → List ℕ) (pieces : List Piece) → parts_bytes values (flat_map piece_parts pieces) ≡ flat_map (piece_with (λ s. values (variable_name s))) pieces
+bytes_of_pieces : (values : List ℕ → List ℕ) (pieces : List SubstPiece) → parts_bytes values (flat_map piece_parts pieces) ≡ flat_map (piece_with (λ s. values (variable_name s))) pieces
 bytes_of_pieces values [] = refl
 bytes_of_pieces values (p ∷ more) =
     let name = variable_name p.substitution in
@@ -150,7 +150,7 @@ bytes_of_pieces values (p ∷ more) =
     ∙ ap (λ z. z ++ flat_map (piece_with (λ s. values (variable_name s))) more)
     (flat_map-append (part_bytes values) (map Byte p.before) (Variable name ∷ []) ∙ ap (λ z. z ++ (values name ++ [])) (bytes_of values p.before) ∙ ap (λ z. p.before ++ z) (append-nil (values name)))
 
-pub text_value : (values : List ℕ → List ℕ) (pieces : List Piece) (last : List ℕ) → value_made values (tool_text pieces last) ≡ Some (with_values values pieces last)
+pub text_value : (values : List ℕ → List ℕ) (pieces : List SubstPiece) (last : List ℕ) → value_made values (tool_text pieces last) ≡ Some (with_values values pieces last)
 text_value values pieces last =
     ap (option_map (parts_bytes values)) (text_read_back pieces last)
     ∙ ap Some (

@@ -2,9 +2,9 @@
 use Rattle.std.specs.Prelude.{ℕ, ◌≡◌, List, [], ◌∷◌, ◌++◌, length, Result, Ok, Err, ⊤}
 use Rattle.gn_substs.specs.declared.names.Substitution.{Substitution}
 use Rattle.gn_substs.specs.declared.positions.Position.{Position}
-use Rattle.gn_substs.specs.declared.pieces.Piece.{Piece}
+use Rattle.gn_substs.specs.declared.pieces.SubstPiece.{SubstPiece}
 use Rattle.gn_substs.specs.declared.subst.Subst.{Subst}
-use Rattle.gn_substs.specs.Names.{name_of}
+use Rattle.gn_substs.specs.Names.{substitution_name}
 use Rattle.gn_substs.specs.Positions.{StandsAt}
 use Rattle.gn_substs.specs.Pieces.{pair_at}
 use Rattle.gn_substs.specs.Reading.{IsReadAs, IsFirstBad}
@@ -19,14 +19,14 @@ pub record HasOneReading (position : Position) (text : List ℕ) (read : Result 
 
 -- a substitution between its braces
 abbrev pub braced : Substitution → List ℕ
-braced s = 123 ∷ 123 ∷ (name_of s ++ 125 ∷ 125 ∷ [])
+braced s = 123 ∷ 123 ∷ (substitution_name s ++ 125 ∷ 125 ∷ [])
 
 -- the substitution of the piece stands at the position, and no `{{` stands in the bytes before it
-abbrev pub IsPieceAt : Position → Piece → Type 0
+abbrev pub IsPieceAt : Position → SubstPiece → Type 0
 IsPieceAt position p = StandsAt position p.substitution × (pair_at 123 p.before ≡ length p.before)
 
 -- the same of all pieces
-abbrev pub ArePiecesAt : Position → List Piece → Type 0
+abbrev pub ArePiecesAt : Position → List SubstPiece → Type 0
 ArePiecesAt position [] = ⊤
 ArePiecesAt position (p ∷ ps) = IsPieceAt position p × ArePiecesAt position ps
 

@@ -4,9 +4,9 @@ ghost use Rattle.std.specs.Prelude.{◌≡◌, ℕ, List, Ok, Some, true, map};
 ghost use Rattle.gn_ninja_text.specs.Values.{value_parts_read, value_made};
 ghost use Rattle.gn_substs.specs.declared.names.Substitution.{Substitution};
 ghost use Rattle.gn_substs.specs.declared.positions.Position.{Position};
-ghost use Rattle.gn_substs.specs.declared.pieces.Piece.{Piece};
+ghost use Rattle.gn_substs.specs.declared.pieces.SubstPiece.{SubstPiece};
 ghost use Rattle.gn_substs.specs.declared.subst.Subst.{Subst};
-ghost use Rattle.gn_substs.specs.Names.{name_of};
+ghost use Rattle.gn_substs.specs.Names.{substitution_name};
 ghost use Rattle.gn_substs.specs.Positions.{names_at, all_differ, StandsAt};
 ghost use Rattle.gn_substs.specs.Reading.{subst_read};
 ghost use Rattle.gn_substs.specs.Expansions.{text_in};
@@ -26,7 +26,7 @@ pub fn pieces_are_the_text()
 /// The names of the substitutions of a position differ, and so do those of any two substitutions.
 pub fn names_of_a_position_differ()
     ensures position { (position : Position) → all_differ (names_at position) ≡ true }
-    ensures all { (a b : Substitution) → name_of a ≡ name_of b → a ≡ b }
+    ensures all { (a b : Substitution) → substitution_name a ≡ substitution_name b → a ≡ b }
 {}
 
 /// Where each substitution of a position is given a text, what stands for it is that text.
@@ -37,6 +37,6 @@ pub fn each_name_has_its_text()
 /// What Ninja reads in a tool's text as it is written is, part by part, the text: its bytes as they are, and the variables
 /// of its substitutions. So Ninja makes of it the text with the variables' values in place of the substitutions.
 pub fn tool_texts_are_read_back()
-    ensures parts { (pieces : List Piece) (last : List ℕ) → value_parts_read (tool_text pieces last) ≡ Some (value_parts pieces last) }
-    ensures value { (values : List ℕ → List ℕ) (pieces : List Piece) (last : List ℕ) → value_made values (tool_text pieces last) ≡ Some (with_values values pieces last) }
+    ensures parts { (pieces : List SubstPiece) (last : List ℕ) → value_parts_read (tool_text pieces last) ≡ Some (value_parts pieces last) }
+    ensures value { (values : List ℕ → List ℕ) (pieces : List SubstPiece) (last : List ℕ) → value_made values (tool_text pieces last) ≡ Some (with_values values pieces last) }
 {}

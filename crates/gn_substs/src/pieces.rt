@@ -9,20 +9,20 @@ use std::marker::Model;
 
 /// Bytes, and the substitution that stands behind them.
 #[derive(Debug, Drop)]
-pub struct Piece {
+pub struct SubstPiece {
     /// The bytes before the substitution, in which there is no `{{`.
     pub before: Text,
     /// The substitution.
     pub substitution: Substitution,
 }
 
-impl Piece {
+impl SubstPiece {
     /// A new piece equal to this one.
-    pub fn copy(&self, alloc: Global) -> Result<Piece, AllocError>
+    pub fn copy(&self, alloc: Global) -> Result<SubstPiece, AllocError>
         ensures { IfOk result (λ p. p ≡ self.now) }
     {
         let before = self.before.copy(alloc)?;
-        Ok(Piece {
+        Ok(SubstPiece {
             before,
             substitution: self.substitution,
         })
@@ -32,28 +32,28 @@ impl Piece {
 /// Pieces in order.
 #[derive(Debug, Drop)]
 pub struct Pieces {
-    list: Vec<Piece>,
+    list: Vec<SubstPiece>,
 }
 
 impl Model for Pieces {
     ghost use Rattle.std.specs.Prelude.{List};
-    ghost use Rattle.gn_substs.specs.declared.pieces.Piece.{Piece};
+    ghost use Rattle.gn_substs.specs.declared.pieces.SubstPiece.{SubstPiece};
 
-    ghost Value = { List Piece };
+    ghost Value = { List SubstPiece };
 
     ghost view = { λ p. p.list.items };
 }
 
 impl Pieces {
     /// These pieces, which takes no memory.
-    pub fn from_vec(list: Vec<Piece>) -> Pieces
+    pub fn from_vec(list: Vec<SubstPiece>) -> Pieces
         ensures { result ≡ list.items }
     {
         Pieces { list }
     }
 
     /// The pieces, in order.
-    pub fn as_slice(&self) -> &[Piece]
+    pub fn as_slice(&self) -> &[SubstPiece]
         ensures { result.now ≡ self.now }
     {
         self.list.as_slice()

@@ -9,7 +9,7 @@ use crate::error::SubstError;
 use crate::given::Given;
 use crate::names::Substitution;
 use crate::pairs::pair_at;
-use crate::pieces::{Piece, Pieces};
+use crate::pieces::{Pieces, SubstPiece};
 use crate::positions::{Position, substitution_at};
 use gn_paths::Text;
 use std::alloc::{AllocError, Global};
@@ -25,7 +25,7 @@ pub struct Subst {
 
 // A substitution between its braces: where these begin and end, and the substitution.
 #[derive(Clone, Copy)]
-pub(crate) struct Found {
+pub(crate) struct BracedName {
     pub start: usize,
     pub substitution: Substitution,
     pub end: usize,
@@ -42,7 +42,7 @@ fn from(text: &[u8], start: usize) -> &[u8]
 
 // The substitution whose `{{` stands at `start`.
 #[tactic(auto, using(crate::proofs::PieceLemmas::named_there, crate::proofs::PieceLemmas::not_closed, crate::proofs::PieceLemmas::not_named))]
-fn name_from(text: &[u8], start: usize, position: Position) -> Option<Found>
+fn name_from(text: &[u8], start: usize, position: Position) -> Option<BracedName>
     requires { start + 2 ≤ length text.now }
     ensures value { result ≡ name_from position text.now start }
     ensures start { IfSome result (λ f. f.start ≡ start) }
@@ -55,7 +55,7 @@ fn name_from(text: &[u8], start: usize, position: Position) -> Option<Found>
         return None;
     }
     match substitution_at(position, &inside[..close]) {
-        Some(substitution) => Some(Found {
+        Some(substitution) => Some(BracedName {
             start,
             substitution,
             end: start + 2 + close + 2,
@@ -67,15 +67,15 @@ fn name_from(text: &[u8], start: usize, position: Position) -> Option<Found>
 // Puts the piece that ends with `found` behind the others.
 fn push_piece(
     alloc: Global,
-    pieces: &mut Vec<Piece>,
+    pieces: &mut Vec<SubstPiece>,
     text: &[u8],
-    found: Found,
+    found: BracedName,
 ) -> Result<(), AllocError>
     requires { found.start ≤ length text.now }
     ensures { OnOk result (pieces.new.items ≡ pieces.old.items ++ piece_of text.now found ∷ []) }
 {
     let before = Text::from_bytes(alloc, &text[..found.start])?;
-    pieces.push(Piece {
+    pieces.push(SubstPiece {
         before,
         substitution: found.substitution,
     })?;
@@ -83,7 +83,7 @@ fn push_piece(
 }
 
 // Puts the bytes of a piece, and what is given for its substitution, at the end.
-fn append_piece(text: &mut Text, piece: &Piece, given: &Given) -> Result<(), AllocError>
+fn append_piece(text: &mut Text, piece: &SubstPiece, given: &Given) -> Result<(), AllocError>
     ensures { OnOk result (text.new ≡ text.old ++ piece_with (text_in given.now) piece.now) }
 {
     text.append(piece.before.as_bytes())?;

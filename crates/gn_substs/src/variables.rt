@@ -5,7 +5,7 @@ ghost use Rattle.std.specs.List.{flat_map};
 ghost use Rattle.gn_substs.specs.Variables.{variable_name, variable_of, doubled_with, tool_text};
 
 use crate::names::Substitution;
-use crate::pieces::Piece;
+use crate::pieces::SubstPiece;
 use crate::subst::Subst;
 use gn_ninja_text::{append_doubled, escape_value};
 use gn_paths::Text;
@@ -36,7 +36,7 @@ fn append_variable(text: &mut Vec<u8>, substitution: Substitution) -> Result<(),
 }
 
 // Puts the bytes of pieces, escaped, and the variables of their substitutions at the end.
-fn append_pieces(text: &mut Vec<u8>, pieces: &[Piece]) -> Result<(), AllocError>
+fn append_pieces(text: &mut Vec<u8>, pieces: &[SubstPiece]) -> Result<(), AllocError>
     ensures { OnOk result (text.new.items ≡ text.old.items ++ flat_map doubled_with pieces.now) }
 {
     for piece in pieces {

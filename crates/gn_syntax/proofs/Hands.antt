@@ -4,7 +4,7 @@ use Rattle.gn_tree.specs.declared.position.Position.{Position}
 use Rattle.gn_tokens.specs.declared.token.Token.{Token}
 use Rattle.gn_tokens.specs.declared.token.TokenError.{TokenError}
 use Rattle.gn_tokens.specs.Token as tokens
-use Rattle.gn_tokens.specs.Next.{Reader, IsNext, behind}
+use Rattle.gn_tokens.specs.Next.{Reader, IsNext, offset_behind}
 use Rattle.gn_grammar.specs.Position.{position_of}
 use Rattle.gn_syntax.specs.Counting.{behind_bytes}
 use Rattle.gn_syntax.specs.Parsing.{Follows, StandsAt, IsInHand}
@@ -16,7 +16,7 @@ follows reader bytes from (Ok (Some token)) same le h = (omega (arith, h.starts)
 follows reader bytes from (Ok None) same le h = tt
 follows reader bytes from (Err error) same le h = tt
 
-pub in_hand : (reader : Reader) (bytes : List ℕ) (at : ℕ) (position : Position) (hand : Result (Option Token) TokenError) → reader.bytes ≡ bytes → at ≡ behind reader.at hand →
+pub in_hand : (reader : Reader) (bytes : List ℕ) (at : ℕ) (position : Position) (hand : Result (Option Token) TokenError) → reader.bytes ≡ bytes → at ≡ offset_behind reader.at hand →
     IsNext reader hand → StandsAt bytes position hand → IsInHand bytes at position hand
 in_hand reader bytes at position (Ok (Some token)) same e h stands =
     (e, omega (arith, h.ends), omega (arith, h.within, ap length same), stands, subst (λ (b : List ℕ). tokens.IsToken token.kind (slice_range b token.start token.end)) same h.is_token)

@@ -3,6 +3,7 @@ use Rattle.std.proofs.Common.{◌≡◌, ℕ, zero, suc, ◌+◌, ◌-◌, ◌�
 use Rattle.std.specs.List.{prefix_len, count_by, slice_range}
 use Rattle.std.proofs.lemmas.List.{reverse-append, length-reverse, append-nil}
 use Rattle.std.proofs.lemmas.List.Sums.{sum_by-append, count_by-le-length, prefix_len-le-length}
+use Rattle.gn_value_model.specs.Limits.{max_bytes}
 use Rattle.gn_tree.specs.declared.position.Position.{Position}
 use Rattle.gn_grammar.specs.Position.{counted, line_behind, column_behind, position_of}
 use Rattle.gn_grammar.proofs.Standing.{at, same_place}
@@ -62,12 +63,12 @@ length_take zero bs = omega arith
 length_take (suc n) [] = omega arith
 length_take (suc n) (b ∷ bs) = omega (arith, length_take n bs)
 
-pub line_of : (bytes : List ℕ) (n : ℕ) (p : Position) → length bytes ≤ 16777216 → p ≡ behind_bytes (at 1 1) (take n bytes) → p.line ≡ line_behind (take n bytes)
+pub line_of : (bytes : List ℕ) (n : ℕ) (p : Position) → length bytes ≤ max_bytes → p ≡ behind_bytes (at 1 1) (take n bytes) → p.line ≡ line_behind (take n bytes)
 line_of bytes n p small e =
     let same : p.line ≡ counted (line_behind (take n bytes)) = ap (λ (q : Position). q.line) (e ∙ position_behind bytes n) in
     omega (arith, same, count_by-le-length is_newline (take n bytes), length_take n bytes)
 
-pub column_of : (bytes : List ℕ) (n : ℕ) (p : Position) → length bytes ≤ 16777216 → p ≡ behind_bytes (at 1 1) (take n bytes) → p.column ≡ column_behind (take n bytes)
+pub column_of : (bytes : List ℕ) (n : ℕ) (p : Position) → length bytes ≤ max_bytes → p ≡ behind_bytes (at 1 1) (take n bytes) → p.column ≡ column_behind (take n bytes)
 column_of bytes n p small e =
     let same : p.column ≡ counted (column_behind (take n bytes)) = ap (λ (q : Position). q.column) (e ∙ position_behind bytes n) in
     omega (arith, same, prefix_len-le-length no_newline (reverse (take n bytes)), length-reverse (take n bytes), length_take n bytes)

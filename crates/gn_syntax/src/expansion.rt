@@ -105,7 +105,7 @@ fn first_ones(bytes: &[u8], count: usize) -> &[u8]
 }
 
 // The bytes behind so many.
-pub(crate) fn behind(bytes: &[u8], count: usize) -> &[u8]
+pub(crate) fn bytes_behind(bytes: &[u8], count: usize) -> &[u8]
     requires { count ≤ length bytes.now }
     ensures value { result.now ≡ drop count bytes.now }
     ensures len { length result.now + count ≡ length bytes.now }
@@ -136,7 +136,7 @@ fn after_word(bytes: &[u8]) -> &[u8]
     ensures value { result.now ≡ past_word bytes.now }
     ensures within { length result.now ≤ length bytes.now }
 {
-    behind(bytes, word_len(bytes))
+    bytes_behind(bytes, word_len(bytes))
 }
 
 // The subscript at the front, which a bracket closes.

@@ -1,7 +1,8 @@
 // The parser as its callers see it.
 
 ghost use Rattle.std.specs.Prelude.{◌≡◌, ◌≤◌, IfOk, [], length};
-ghost use Rattle.gn_tree.specs.Depth.{max_depth, expr_depth, IsShallow};
+ghost use Rattle.gn_value_model.specs.Limits.{max_bytes};
+ghost use Rattle.gn_tree.specs.Depth.{max_tree_depth, expr_depth, IsShallow};
 ghost use Rattle.gn_grammar.specs.Lexemes.{lexemes, last_of};
 ghost use Rattle.gn_grammar.specs.Grammar.{Spells, SpellsStatements};
 ghost use Rattle.gn_grammar.specs.Machine.{verdict, Good};
@@ -47,7 +48,7 @@ impl Parsed {
 /// limit is 200; or want of memory.
 pub fn parse(alloc: Global, bytes: &[u8]) -> Result<Parsed, SyntaxError>
     ensures read { IsAnswer result (reading bytes.now) }
-    ensures shallow { IfOk result (λ parsed. length bytes.now ≤ 16777216 → IsShallow parsed) }
+    ensures shallow { IfOk result (λ parsed. length bytes.now ≤ max_bytes → IsShallow parsed) }
 {
     machine_is_right();
     match whole(alloc, bytes) {
@@ -60,7 +61,7 @@ pub fn parse(alloc: Global, bytes: &[u8]) -> Result<Parsed, SyntaxError>
 /// spell, or their first error, as that of a file; or want of memory.
 pub fn parse_expr(alloc: Global, bytes: &[u8]) -> Result<SubExpr, SyntaxError>
     ensures read { IsAnswer result (expr_reading bytes.now) }
-    ensures shallow { IfOk result (λ expr. length bytes.now ≤ 16777216 → expr_depth expr ≤ max_depth) }
+    ensures shallow { IfOk result (λ expr. length bytes.now ≤ max_bytes → expr_depth expr ≤ max_tree_depth) }
 {
     machine_is_right();
     match whole_expr(alloc, bytes) {

@@ -10,7 +10,7 @@ ghost use Rattle.gn_grammar.specs.Pieces.{pieces_of};
 ghost use Rattle.gn_syntax.specs.Literals.{run_pieces, Expands, IsRest, Took, Stepped};
 
 use crate::error::Stop;
-use crate::expansion::{after_one, behind, hex_byte, is_next, named};
+use crate::expansion::{after_one, bytes_behind, hex_byte, is_next, named};
 use gn_paths::Text;
 use gn_tokens::string_is_its_items;
 use gn_tree::{Piece, Pieces, Position};
@@ -174,7 +174,7 @@ pub(crate) fn pieces(alloc: Global, position: Position, text: &[u8]) -> Result<P
     };
     let mut at = 1;
     'more: loop {
-        let len = read.step(position, at, behind(text, at))?;
+        let len = read.step(position, at, bytes_behind(text, at))?;
         if len == 0 {
             read.end_run()?;
             return Ok(Pieces::from_vec(read.pieces));

@@ -1,6 +1,7 @@
 // Where a byte stands, counted from a place before it.
 
 ghost use Rattle.std.specs.Prelude.{◌≡◌, ◌≤◌, length, take};
+ghost use Rattle.gn_value_model.specs.Limits.{max_bytes};
 ghost use Rattle.gn_grammar.specs.Position.{line_behind, column_behind};
 ghost use Rattle.gn_syntax.specs.Counting.{behind_byte, behind_bytes};
 
@@ -39,7 +40,7 @@ pub(crate) fn behind_bytes(position: Position, bytes: &[u8]) -> Position
 
 /// The line and the column of the byte at an offset, or of the end of the file, both counted from 1, columns in bytes.
 pub fn place_of(bytes: &[u8], offset: usize) -> (u32, u32)
-    requires size { length bytes.now ≤ 16777216 }
+    requires size { length bytes.now ≤ max_bytes }
     requires within { offset ≤ length bytes.now }
     ensures line { result.0 ≡ line_behind (take offset bytes.now) }
     ensures column { result.1 ≡ column_behind (take offset bytes.now) }

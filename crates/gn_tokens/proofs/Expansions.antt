@@ -6,7 +6,7 @@ use Rattle.std.proofs.lemmas.Bool.Decides.{eqb_tells, nat_tests}
 use Rattle.std.proofs.lemmas.List.Elements.{All-cons, All-append, All-weaker, All-nil}
 use Rattle.gn_basics.proofs.Tests.{first_true, second_true}
 use Rattle.gn_tokens.specs.Bytes.{is_letter, is_word_byte, is_digit, is_hex_digit, begins, begins_with, IsWord, IsIdentifier, front_word, past_word, is_name}
-use Rattle.gn_tokens.specs.Number.{IsDigits, IsRun, IsInteger, integer_len}
+use Rattle.gn_tokens.specs.Number.{IsDigits, IsDigitRun, IsInteger, integer_len}
 use Rattle.gn_tokens.specs.Text.{Item, Plain, Escape, Hex, Variable, Braced, Element, Field, item_bytes, IsExpansion, is_hex, is_field, index_len, closes, closes_behind, is_braced_end, is_braced, expands, front_index, braced_item, hex_item, expansion_item}
 use Rattle.gn_tokens.proofs.Words.{begins_with_tells, all_in_front, behind_fails, word_bytes, word_begins, word_past, name_here, name_is, word_whole}
 use Rattle.gn_tokens.proofs.Numbers.{integer_is_run, integer_here, IsIntegerHere, integer_len_is, digit_no_letter, first_digit}
@@ -115,7 +115,7 @@ no_brace : (w rest : List ℕ) → IsWord w → begins_with 123 (w ++ rest) ≡ 
 no_brace [] rest h = absurd h
 no_brace (b ∷ w) rest h = letter_no_brace b h.0
 
-integer_no_letter : (w rest : List ℕ) → IsRun w → begins is_letter (w ++ rest) ≡ false
+integer_no_letter : (w rest : List ℕ) → IsDigitRun w → begins is_letter (w ++ rest) ≡ false
 integer_no_letter [] rest (inl h) = absurd h
 integer_no_letter [] rest (inr (ds, e, h)) = absurd cc
 integer_no_letter (b ∷ w) rest (inl h) = digit_no_letter b (first_digit b w h)
@@ -185,7 +185,7 @@ digits_ordinary : (ds : List ℕ) → IsDigits ds → AllOrdinary ds
 digits_ordinary [] h = absurd h
 digits_ordinary (d ∷ ds) h = All-weaker (λ c. IsTrue (is_digit c)) (λ c. IsTrue (is_ordinary c)) digit_ordinary (d ∷ ds) h
 
-run_ordinary : (w : List ℕ) → IsRun w → AllOrdinary w
+run_ordinary : (w : List ℕ) → IsDigitRun w → AllOrdinary w
 run_ordinary w (inl h) = digits_ordinary w h
 run_ordinary w (inr (ds, e, h)) = subst AllOrdinary (sym e) (cons 45 ds refl (digits_ordinary ds h))
 

@@ -6,7 +6,7 @@ use Rattle.std.proofs.lemmas.Bool.Decides.{eqb_tells, leb_tells, nat_tests}
 use Rattle.std.proofs.lemmas.List.Sums.{prefix_len-le-length}
 use Rattle.gn_basics.proofs.Tests.{first_true, second_true}
 use Rattle.gn_tokens.specs.Bytes.{is_letter, is_digit, begins}
-use Rattle.gn_tokens.specs.Number.{decimal, IsDigits, IsNumeral, IsInteger, IsRun, IsBadRun, begins_run, run_len, is_magnitude, is_integer, integer_len}
+use Rattle.gn_tokens.specs.Number.{decimal, IsDigits, IsNumeral, IsInteger, IsDigitRun, IsBadRun, begins_run, run_len, is_magnitude, is_integer, integer_len}
 use Rattle.gn_tokens.proofs.Words.{or_true, all_in_front, passing, all_pass, behind_fails}
 
 digit_no_minus : (b : ℕ) → is_digit b ≡ true → (b == 45) ≡ false
@@ -28,7 +28,7 @@ digits_all [] h = absurd h
 digits_all (d ∷ ds) h = h
 
 -- A run, behind which no digit comes.
-pub run_here : (w rest : List ℕ) → IsRun w → begins is_digit rest ≡ false → (begins_run (w ++ rest) ≡ true) × (run_len (w ++ rest) ≡ length w)
+pub run_here : (w rest : List ℕ) → IsDigitRun w → begins is_digit rest ≡ false → (begins_run (w ++ rest) ≡ true) × (run_len (w ++ rest) ≡ length w)
 run_here [] rest (inl h) stop = absurd h
 run_here [] rest (inr (ds, e, h)) stop = absurd cc
 run_here (b ∷ w) rest (inl h) stop =
@@ -44,7 +44,7 @@ run_here (b ∷ w) rest (inr (ds, e, h)) stop =
     )
 
 -- A run is no more than the one at the front.
-pub run_at_most : (m : ℕ) (bs : List ℕ) → m ≤ length bs → IsRun (take m bs) → (begins_run bs ≡ true) × (1 ≤ m) × (m ≤ run_len bs)
+pub run_at_most : (m : ℕ) (bs : List ℕ) → m ≤ length bs → IsDigitRun (take m bs) → (begins_run bs ≡ true) × (1 ≤ m) × (m ≤ run_len bs)
 run_at_most zero bs le (inl h) = absurd h
 run_at_most zero bs le (inr (ds, e, h)) = absurd cc
 run_at_most (suc m) [] le h = absurd (omega arith)
@@ -66,12 +66,12 @@ digits_front (b ∷ bs) h =
     rw e (subst (λ n. All (λ c. IsTrue (is_digit c)) (take n (b ∷ bs))) e (all_pass is_digit (b ∷ bs)))
 
 -- The run at the front is one, and behind it no digit comes.
-pub front_is_run : (bs : List ℕ) → begins_run bs ≡ true → IsRun (take (run_len bs) bs)
+pub front_is_run : (bs : List ℕ) → begins_run bs ≡ true → IsDigitRun (take (run_len bs) bs)
 front_is_run [] h = absurd cc
 front_is_run (b ∷ bs) h = elim (eqb_tells b 45) [
   | inl e ↦
       let begin : begins is_digit bs ≡ true = subst (λ x. begins_run (x ∷ bs) ≡ true) e.1 h in
-      subst (λ x. IsRun (take (run_len (x ∷ bs)) (x ∷ bs))) (sym e.1) (inr (take (prefix_len is_digit bs) bs, refl, digits_front bs begin))
+      subst (λ x. IsDigitRun (take (run_len (x ∷ bs)) (x ∷ bs))) (sym e.1) (inr (take (prefix_len is_digit bs) bs, refl, digits_front bs begin))
   | inr e ↦ rw e.0 (inl (digits_front (b ∷ bs) (elim (or_true (is_digit b) ((b == 45) && begins is_digit bs) h) [
     | inl d ↦ d
     | inr d ↦ absurd (let k = e.0 in let l = first_true (b == 45) (begins is_digit bs) d.1 in cc)
@@ -140,7 +140,7 @@ magnitude_complete is_negative d ds num le ne = elim (eqb_tells d 48) [
 ]
 
 -- A run that the function takes is an integer, and the other way round.
-pub integer_sound : (w : List ℕ) → IsRun w → is_integer w ≡ true → IsInteger w
+pub integer_sound : (w : List ℕ) → IsDigitRun w → is_integer w ≡ true → IsInteger w
 integer_sound [] r h = absurd cc
 integer_sound (b ∷ w) (inl digits) h =
     let plain : is_magnitude false (b ∷ w) ≡ true = rw (digit_no_minus b (first_digit b w digits)) at h in
@@ -159,7 +159,7 @@ integer_complete (b ∷ w) (inl (num, lt)) =
 integer_complete w (inr ([], e, num, ne, le)) = absurd num
 integer_complete w (inr (d ∷ ds, e, num, ne, le)) = ap is_integer e ∙ magnitude_complete true d ds num le (λ _. ne)
 
-pub integer_is_run : (w : List ℕ) → IsInteger w → IsRun w
+pub integer_is_run : (w : List ℕ) → IsInteger w → IsDigitRun w
 integer_is_run [] (inl (num, lt)) = absurd num
 integer_is_run (b ∷ w) (inl (num, lt)) = inl num.0
 integer_is_run w (inr ([], e, num, ne, le)) = absurd num

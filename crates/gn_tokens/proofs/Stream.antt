@@ -2,7 +2,7 @@
 use Rattle.std.proofs.Common.{◌≡◌, ℕ, zero, suc, ◌+◌, ◌-◌, ◌<◌, ◌≤◌, List, length, Option, Some, None, Result, Ok, Err, refl, sym, ◌∙◌, ap, subst, arith}
 use Rattle.gn_tokens.specs.declared.token.Token.{Token}
 use Rattle.gn_tokens.specs.declared.token.TokenError.{TokenError}
-use Rattle.gn_tokens.specs.Next.{Reader, IsNext, IsNextToken, next_token, behind}
+use Rattle.gn_tokens.specs.Next.{Reader, IsNext, IsNextToken, next_token, offset_behind}
 use Rattle.gn_tokens.specs.Stream.{Stream, Gives, stream_with, stream_behind, stream_within, stream_of}
 use Rattle.gn_tokens.proofs.Next.{next_token_is_next}
 
@@ -25,7 +25,7 @@ same_within (suc n) (suc m) bytes at h below_n below_m =
     let fact = moves_on bytes at token h e in
     same_within n m bytes token.end fact.within (omega (arith, fact.starts, fact.ends)) (omega (arith, fact.starts, fact.ends)))
 
-with_behind : (f : ℕ → Stream) (at : ℕ) (answer : Result (Option Token) TokenError) → stream_behind f answer ≡ stream_with answer (f (behind at answer))
+with_behind : (f : ℕ → Stream) (at : ℕ) (answer : Result (Option Token) TokenError) → stream_behind f answer ≡ stream_with answer (f (offset_behind at answer))
 with_behind f at (Ok (Some token)) = refl
 with_behind f at (Ok None) = refl
 with_behind f at (Err error) = refl
@@ -41,9 +41,9 @@ unfolds bytes at h = at_reader bytes at ∙ same_behind (stream_within (length b
     ∙ sym (at_reader bytes token.end))
 
 -- What is left is the next answer, and then what is left behind it.
-pub stream_next : (old new : Reader) (answer : Result (Option Token) TokenError) → old.at ≤ length old.bytes → answer ≡ next_token old.bytes old.at → new.bytes ≡ old.bytes → new.at ≡ behind old.at answer →
+pub stream_next : (old new : Reader) (answer : Result (Option Token) TokenError) → old.at ≤ length old.bytes → answer ≡ next_token old.bytes old.at → new.bytes ≡ old.bytes → new.at ≡ offset_behind old.at answer →
     stream_of old ≡ stream_with answer (stream_of new)
 stream_next old new answer h value bytes at =
     unfolds old.bytes old.at h ∙ ap (stream_behind (λ start. stream_of (record { bytes = old.bytes; at = start }))) (sym value)
     ∙ with_behind (λ start. stream_of (record { bytes = old.bytes; at = start })) old.at answer
-    ∙ ap (stream_with answer) (ap (λ x. stream_of (record { bytes = x; at = behind old.at answer })) (sym bytes) ∙ ap (λ x. stream_of (record { bytes = new.bytes; at = x })) (sym at))
+    ∙ ap (stream_with answer) (ap (λ x. stream_of (record { bytes = x; at = offset_behind old.at answer })) (sym bytes) ∙ ap (λ x. stream_of (record { bytes = new.bytes; at = x })) (sym at))

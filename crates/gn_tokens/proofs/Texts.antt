@@ -70,7 +70,7 @@ byte_of (Plain b) = b
 byte_of _ = 0
 
 -- The item at the front, and what comes behind it.
-pub record IsStep (b : ℕ) (bs : List ℕ) (item : Item) : Type 0 where
+pub record IsTextStep (b : ℕ) (bs : List ℕ) (item : Item) : Type 0 where
   pub later : List ℕ
   pub bytes : b ∷ bs ≡ item_bytes item ++ later
   pub is_item : IsItem item later
@@ -79,7 +79,7 @@ pub record IsStep (b : ℕ) (bs : List ℕ) (item : Item) : Type 0 where
   pub shorter : length later < length (b ∷ bs)
   pub bad : ((item ≡ Plain 36) × (first_bad false (b ∷ bs) ≡ Some 0)) ⊎ ((item ≢ Plain 36) × (first_bad false (b ∷ bs) ≡ further (length (item_bytes item)) (first_bad false later)))
 
-escape_step : (c : ℕ) (cs : List ℕ) → is_escapable c ≡ true → IsStep 92 (c ∷ cs) (Escape c)
+escape_step : (c : ℕ) (cs : List ℕ) → is_escapable c ≡ true → IsTextStep 92 (c ∷ cs) (Escape c)
 escape_step c cs h = record {
   later = cs;
   bytes = refl;
@@ -90,7 +90,7 @@ escape_step c cs h = record {
   bad = inr (λ e. absurd cc, rw h (further_more 1 (first_bad false cs)));
 }
 
-backslash_step : (bs : List ℕ) → begins is_escapable bs ≡ false → IsStep 92 bs (Plain 92)
+backslash_step : (bs : List ℕ) → begins is_escapable bs ≡ false → IsTextStep 92 bs (Plain 92)
 backslash_step bs h = record {
   later = bs;
   bytes = refl;
@@ -101,7 +101,7 @@ backslash_step bs h = record {
   bad = inr (λ e. absurd (let k : 92 ≡ 36 = ap byte_of e in omega arith), ap (further 1) (bad_no_escape bs h));
 }
 
-lone_step : (bs : List ℕ) → expands bs ≡ false → IsStep 36 bs (Plain 36)
+lone_step : (bs : List ℕ) → expands bs ≡ false → IsTextStep 36 bs (Plain 36)
 lone_step bs h = record {
   later = bs;
   bytes = refl;
@@ -112,7 +112,7 @@ lone_step bs h = record {
   bad = inl (refl, rw h refl);
 }
 
-expansion_step_at : (bs : List ℕ) (item : Item) → expands bs ≡ true → expansion_item bs ≡ item → Splits bs item → IsStep 36 bs item
+expansion_step_at : (bs : List ℕ) (item : Item) → expands bs ≡ true → expansion_item bs ≡ item → Splits bs item → IsTextStep 36 bs item
 expansion_step_at bs item h e (later, split, is_expansion) =
     let chunk = behind_first item in
     let first : item_bytes item ≡ 36 ∷ chunk = dollar_first item later is_expansion in
@@ -141,7 +141,7 @@ expansion_step_at bs item h e (later, split, is_expansion) =
     expansion_is_item (Element name index) later x = x
     expansion_is_item (Field name field) later x = x
 
-plain_step : (b : ℕ) (bs : List ℕ) → is_stop b ≡ false → (b == 92) ≡ false → (b == 36) ≡ false → IsStep b bs (Plain b)
+plain_step : (b : ℕ) (bs : List ℕ) → is_stop b ≡ false → (b == 92) ≡ false → (b == 36) ≡ false → IsTextStep b bs (Plain b)
 plain_step b bs inside no_backslash no_dollar = record {
   later = bs;
   bytes = refl;
@@ -153,7 +153,7 @@ plain_step b bs inside no_backslash no_dollar = record {
 }
 
 abbrev SomeStep : ℕ → List ℕ → Type 0
-SomeStep b bs = (item : Item) × IsStep b bs item
+SomeStep b bs = (item : Item) × IsTextStep b bs item
 
 backslash : (bs : List ℕ) → SomeStep 92 bs
 backslash [] = (Plain 92, backslash_step [] refl)
@@ -191,7 +191,7 @@ pub record IsRead (bs rest : List ℕ) : Type 0 where
 good_item : (item : Item) (items : List Item) → item ≢ Plain 36 → AllExpand items → AllExpand (item ∷ items)
 good_item item items h more = All-cons (λ x. x ≢ Plain 36) item items h more
 
-judged_none : (b : ℕ) (bs rest : List ℕ) (item : Item) → (s : IsStep b bs item) → item ≢ Plain 36 → (found : Option ℕ) → IsJudged s.later rest found → IsJudged (b ∷ bs) rest (further (length (item_bytes item)) found)
+judged_none : (b : ℕ) (bs rest : List ℕ) (item : Item) → (s : IsTextStep b bs item) → item ≢ Plain 36 → (found : Option ℕ) → IsJudged s.later rest found → IsJudged (b ∷ bs) rest (further (length (item_bytes item)) found)
 judged_none b bs rest item s good None h = subst AllExpand (sym s.items) (good_item item (text_items s.later) good h)
 judged_none b bs rest item s good (Some at) (before, dollar, later, reads, fine, lone, closes, size) = (
   item ∷ before,
@@ -204,13 +204,13 @@ judged_none b bs rest item s good (Some at) (before, dollar, later, reads, fine,
   omega (arith, ap length s.bytes, length-append (item_bytes item) s.later, size),
 )
 
-judged_lone : (b : ℕ) (bs rest : List ℕ) (item : Item) → (s : IsStep b bs item) → item ≡ Plain 36 → IsRead s.later rest → IsJudged (b ∷ bs) rest (Some 0)
+judged_lone : (b : ℕ) (bs rest : List ℕ) (item : Item) → (s : IsTextStep b bs item) → item ≡ Plain 36 → IsRead s.later rest → IsJudged (b ∷ bs) rest (Some 0)
 judged_lone b bs rest item s e inner =
     let bytes : b ∷ bs ≡ 36 ∷ s.later = s.bytes ∙ ap (λ x. item_bytes x ++ s.later) e in
     let is_item : IsItem (Plain 36) s.later = subst (λ x. IsItem x s.later) e s.is_item in
     ([], s.later, text_items s.later, bytes, All-nil (λ x. x ≢ Plain 36), is_item.3 refl, inner.reads, omega (arith, ap length bytes))
 
-read_step : (b : ℕ) (bs rest : List ℕ) (item : Item) → (s : IsStep b bs item) → IsRead s.later rest → IsRead (b ∷ bs) rest
+read_step : (b : ℕ) (bs rest : List ℕ) (item : Item) → (s : IsTextStep b bs item) → IsRead s.later rest → IsRead (b ∷ bs) rest
 read_step b bs rest item s inner = record {
   reads = subst (λ x. Reads x (b ∷ bs) rest) (sym s.items) (s.later, s.bytes, s.is_item, inner.reads);
   judged = elim s.bad [

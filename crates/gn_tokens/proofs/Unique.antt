@@ -11,7 +11,7 @@ use Rattle.gn_tokens.specs.declared.token.TokenError.TheVariants.{BadByte, BadNu
 use Rattle.gn_tokens.specs.declared.token.TokenKind.{TokenKind}
 use Rattle.gn_tokens.specs.declared.token.TokenKind.TheVariants as k
 use Rattle.gn_tokens.specs.Bytes.{is_letter, is_word_byte, is_digit, is_white, is_escapable, begins, begins_with}
-use Rattle.gn_tokens.specs.Number.{IsInteger, IsRun, IsBadRun, begins_run, run_len}
+use Rattle.gn_tokens.specs.Number.{IsInteger, IsDigitRun, IsBadRun, begins_run, run_len}
 use Rattle.gn_tokens.specs.Text.{Item, Plain, Escape, Hex, Variable, Braced, Element, Field, item_bytes, IsExpansion, IsLone, IsItem, Reads, AllExpand, IsString, IsOpen, IsBadDollarBehind, is_stop, expands, text_len, further, first_bad, expansion_item}
 use Rattle.gn_tokens.specs.Token.{IsGap, nothing, white, comment, IsToken}
 use Rattle.gn_tokens.specs.Front.{Front, Found, WrongByte, WrongNumber, NotClosed, WrongDollar, gap_len, word_kind, front_number, front_closed, front_string, front_mark, front_of}
@@ -246,7 +246,7 @@ identifier_kind (b ∷ w) t = rw t.0.0 (sym (free_kind (b ∷ w) t))
 integer_kind : (w : List ℕ) → IsInteger w → k.Integer ≡ kind_of w
 integer_kind [] t = absurd (let x = run_at_most 0 [] (omega arith) (integer_is_run [] t) in omega (arith, x.1))
 integer_kind (b ∷ w) t =
-    let run : begins_run (b ∷ w) ≡ true = (run_at_most (length (b ∷ w)) (b ∷ w) (omega arith) (subst IsRun (sym (take_all (b ∷ w))) (integer_is_run (b ∷ w) t))).0 in
+    let run : begins_run (b ∷ w) ≡ true = (run_at_most (length (b ∷ w)) (b ∷ w) (omega arith) (subst IsDigitRun (sym (take_all (b ∷ w))) (integer_is_run (b ∷ w) t))).0 in
     rw (run_no_letter b w run, run) refl
   where
     take_all : (w : List ℕ) → take (length w) w ≡ w

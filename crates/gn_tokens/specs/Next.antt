@@ -91,7 +91,7 @@ abbrev pub next_token : List ℕ → ℕ → Result (Option Token) TokenError
 next_token bytes at = let start = at + gap_len false (drop at bytes) in answer start (drop start bytes)
 
 -- where a reader stands behind this answer: behind the token, or where it was
-abbrev pub behind : ℕ → Result (Option Token) TokenError → ℕ
-behind at (Ok (Some token)) = token.end
-behind at (Ok None) = at
-behind at (Err error) = at
+abbrev pub offset_behind : ℕ → Result (Option Token) TokenError → ℕ
+offset_behind at (Ok (Some token)) = token.end
+offset_behind at (Ok None) = at
+offset_behind at (Err error) = at

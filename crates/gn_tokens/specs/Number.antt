@@ -32,13 +32,13 @@ integer_value [] = pos 0
 integer_value (b ∷ bs) = if b == 45 then neg_ℤ (pos (decimal bs)) else pos (decimal (b ∷ bs))
 
 -- digits, which a `-` may stand before
-abbrev pub IsRun : List ℕ → Type 0
-IsRun bs = IsDigits bs ⊎ ((ds : List ℕ) × (bs ≡ 45 ∷ ds) × IsDigits ds)
+abbrev pub IsDigitRun : List ℕ → Type 0
+IsDigitRun bs = IsDigits bs ⊎ ((ds : List ℕ) × (bs ≡ 45 ∷ ds) × IsDigits ds)
 
 -- The bytes begin with a run of digits of this length that is no integer, or that a letter or `_` follows directly.
 pub record IsBadRun (bs : List ℕ) (len : ℕ) : Type 0 where
   pub within : len ≤ length bs
-  pub run : IsRun (take len bs)
+  pub run : IsDigitRun (take len bs)
   pub whole : begins is_digit (drop len bs) ≡ false
   pub bad : (¬ IsInteger (take len bs)) ⊎ (begins is_letter (drop len bs) ≡ true)
 

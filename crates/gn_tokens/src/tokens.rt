@@ -1,7 +1,7 @@
 //! The tokens of a file, one after the other.
 
 ghost use Rattle.std.specs.Prelude.{◌≡◌, ◌≤◌, length};
-ghost use Rattle.gn_tokens.specs.Next.{Reader, IsNext, next_token, behind};
+ghost use Rattle.gn_tokens.specs.Next.{Reader, IsNext, next_token, offset_behind};
 ghost use Rattle.gn_tokens.specs.Stream.{stream_with, stream_of};
 
 use crate::front::token_from;
@@ -41,7 +41,7 @@ impl<'a> Tokens<'a> {
         ensures value { result ≡ next_token self.old.bytes self.old.at }
         ensures stream { stream_of self.old ≡ stream_with result (stream_of self.new) }
         ensures bytes { self.new.bytes ≡ self.old.bytes }
-        ensures at { self.new.at ≡ behind self.old.at result }
+        ensures at { self.new.at ≡ offset_behind self.old.at result }
     {
         let found = token_from(self.bytes, self.at);
         if let Ok(Some(token)) = found {

@@ -52,9 +52,9 @@ abbrev mutual
   block_depth (statement_then s b) = max (statement_depth s) (block_depth b)
 
 -- how deep the tree of a file is at most
-abbrev pub max_depth : ℕ
-max_depth = 268435456
+abbrev pub max_tree_depth : ℕ
+max_tree_depth = 268435456
 
 -- The tree of a block is no deeper than that.
 abbrev pub IsShallow : BlockTree → Type 0
-IsShallow tree = block_depth tree ≤ max_depth
+IsShallow tree = block_depth tree ≤ max_tree_depth

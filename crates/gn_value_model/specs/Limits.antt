@@ -10,7 +10,7 @@ max_depth = 200
 abbrev pub max_items : ℕ
 max_items = 1048576
 
--- a string has at most this many bytes
+-- a string has at most this many bytes, and so has a file
 abbrev pub max_bytes : ℕ
 max_bytes = 16777216
 

@@ -6,7 +6,7 @@ use Rattle.gn_closure.specs.Closure.{Horn}
 use Rattle.gn_graph.specs.declared.clause.Clause.{Clause}
 use Rattle.gn_graph.specs.Clauses.{has, horn_of, horns}
 use Rattle.gn_graph.specs.Plans.{Fired}
-use Rattle.gn_graph.proofs.PlanSteps.{one_fired, one_behind, second_at, behind}
+use Rattle.gn_graph.proofs.PlanSteps.{one_fired, one_behind, second_at, fired_behind}
 use Rattle.gn_graph.proofs.consequences.fire_extra.Goals as goal
 
 pub loop-k-preserved : goal.loop-k-preserved
@@ -28,5 +28,5 @@ pub returns : goal.returns
 returns c =
     let cs = c.args.clauses.now in
     let xs = c.args.extra.now in
-    behind (horns cs ++ horns xs) (has c.args.holds.now.keys) (length cs) (length cs + c.loop-k.k) c.args.new.now.keys c.loop-k.new.keys
+    fired_behind (horns cs ++ horns xs) (has c.args.holds.now.keys) (length cs) (length cs + c.loop-k.k) c.args.new.now.keys c.loop-k.new.keys
     (omega (arith, length-append (horns cs) (horns xs), length-map cs horn_of, length-map xs horn_of)) c.loop-k.invariant

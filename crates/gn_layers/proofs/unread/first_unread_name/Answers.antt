@@ -12,7 +12,7 @@ loop-number-preserved c =
     let unread = c.in-Some.variable.now.unread in
     let rest = first_unread_of (texted names (variables_in c.next.new.self)) in
     ap (λ o. earlier o rest) c.earlier_name-first.ensures
-    ∙ earlier_assoc before (unread_at c.name_of.result.now unread) rest
-    ∙ ap (λ k. earlier before (earlier (unread_at k unread) rest)) c.name_of.ensures
+    ∙ earlier_assoc before (unread_at c.numbered_name.result.now unread) rest
+    ∙ ap (λ k. earlier before (earlier (unread_at k unread) rest)) c.numbered_name.ensures
     ∙ ap (λ es. earlier before (first_unread_of (texted names (variables_in es)))) (sym c.in-Some.ensures.steps)
     ∙ c.loop-number.invariant
