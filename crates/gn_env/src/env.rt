@@ -1,9 +1,10 @@
 // The environment of an evaluation.
 
 ghost use types.Logic.{sem};
-ghost use Rattle.std.specs.Prelude.{◌≡◌, ◌≢◌, ◌++◌, OnOk, OnErr, IfOk, IfErr, IfSome, true, false, map, option_map};
+ghost use Rattle.std.specs.Prelude.{◌≡◌, ◌≢◌, [], ◌++◌, OnOk, OnErr, IfOk, IfErr, IfSome, true, false, map, option_map};
 ghost use Rattle.gn_values.specs.Limits.{scope_fits};
 ghost use Rattle.gn_values.specs.View.{val_of};
+ghost use Rattle.gn_environment.specs.Chains.{shown_or};
 ghost use Rattle.gn_environment.specs.Environment.{new_environment, fixed_value, kept_by, value_of, after_read, after_assignment, after_assignment_over, after_element_assignment, after_element_assignment_over, entered, left, entries_here, reported_here, variable_here, restored, given, with_open};
 ghost use Rattle.gn_environment.specs.Declaring.{declaring_entered, name_declared, declared_here};
 ghost use Rattle.gn_environment.specs.Faults.{fault_in};
@@ -15,6 +16,7 @@ ghost use Rattle.gn_env.specs.contracts.env.Env.{the_row};
 use crate::caller::Caller;
 use gn_environment::{Context, OpenBlock};
 use gn_faults::{Code, Fault, FileKind};
+use gn_kept::behind_value;
 use gn_layers::{AssignError, ElementAssignError, Variable};
 use gn_paths::{Path, Place, Text, Texts};
 use gn_scopes::NamedScopes;
@@ -69,6 +71,24 @@ impl Model for Env {
     } };
 }
 
+// What a read finds at a name that stands for this in the scopes that are open.
+fn shown_or_behind<'a>(
+    found: Option<&'a Variable>,
+    body: &'a Option<Arc<Definition>>,
+    beneath: &'a [Arc<KeptScope>],
+    name: &[u8],
+) -> Option<&'a Value>
+    ensures { option_map (λ v. val_of v.now) result
+        ≡ shown_or (option_map (λ v. variable_state v.now) found.entry)
+        (fixed_value name.now
+        (kept_by (option_map (λ d. d.value) body.now) ++ map (λ f. f.value) beneath.now)) }
+{
+    match found {
+        Some(variable) => variable.shown(),
+        None => behind_value(body, beneath, name),
+    }
+}
+
 impl Env {
     /// An environment of one scope, in which nothing is set, no block is open that says what may be called in it, and no
     /// template's body runs. `kind` says as what the file is evaluated, `file` is the file that its places name, `directory`
@@ -107,6 +127,35 @@ impl Env {
             definitions,
             depth: 0,
         }
+    }
+
+    /// An environment of one scope, in which nothing is set and beneath which nothing stands, for what stands in another file: in
+    /// the directory and the open block of this one.
+    #[tactic(auto, unfolding(gn_environment::specs::Environment::new_environment))]
+    pub fn apart(&self, alloc: Global, file: &Text) -> Result<Env, AllocError>
+        ensures { IfOk result
+            (λ env. env
+            ≡ new_environment (record self.now.setting { file = file.now }) self.now.execution false [] []) }
+    {
+        let context = self.context.clone()?;
+        let file = file.copy(alloc)?;
+        let directory = self.directory.copy(alloc)?;
+        let execution = self.execution.copy(alloc)?;
+        Ok(Env {
+            context,
+            kind: self.kind,
+            file,
+            directory,
+            inside: self.inside,
+            scopes: NamedScopes::new(alloc, false),
+            body: None,
+            callers: VecDeque::new(alloc),
+            beneath: Vec::new(alloc),
+            execution,
+            made: Definitions::new(alloc),
+            definitions: MadeBy::new(alloc),
+            depth: 0,
+        })
     }
 
     /// What never changes in the evaluation, whatever its file is.
@@ -166,8 +215,8 @@ impl Env {
         ensures value { option_map (λ v. val_of v.now) result ≡ value_of name.now self.old }
     {
         let name = name.as_bytes();
-        self.mark(name);
-        self.value(name)
+        let found = self.scopes.read(name);
+        shown_or_behind(found, &self.body, &self.beneath, name)
     }
 
     /// Counts a name as read from then on. It takes no memory.
@@ -183,10 +232,8 @@ impl Env {
     pub fn value(&self, name: &[u8]) -> Option<&Value>
         ensures { option_map (λ v. val_of v.now) result ≡ value_of name.now self.now }
     {
-        match self.scopes.variable(name) {
-            Some(variable) => variable.shown(),
-            None => behind_value(&self.body, &self.beneath, name),
-        }
+        let found = self.scopes.variable(name);
+        shown_or_behind(found, &self.body, &self.beneath, name)
     }
 
     /// `name = value`, `name += value` or `name -= value`, whose operator stands at the position. `Overwrite` comes
@@ -435,36 +482,4 @@ impl Env {
             column: position.column,
         })
     }
-}
-
-// What a name has behind the scopes: in what the body keeps, or else in the first of the scopes beneath that has it.
-fn behind_value<'a>(
-    body: &'a Option<Arc<Definition>>,
-    beneath: &'a [Arc<KeptScope>],
-    name: &[u8],
-) -> Option<&'a Value>
-    ensures { option_map (λ v. val_of v.now) result
-        ≡ fixed_value name.now
-        (kept_by (option_map (λ d. d.value) body.now) ++ map (λ f. f.value) beneath.now) }
-{
-    let Some(definition) = body else {
-        return fixed_value(beneath, name);
-    };
-    match definition.scope().variables().get(name) {
-        Some(value) => Some(value),
-        None => fixed_value(beneath, name),
-    }
-}
-
-// The value that the first of the scopes that has the name has at it.
-fn fixed_value<'a>(scopes: &'a [Arc<KeptScope>], name: &[u8]) -> Option<&'a Value>
-    ensures { option_map (λ v. val_of v.now) result
-        ≡ fixed_value name.now (map (λ f. f.value) scopes.now) }
-{
-    for scope in scopes {
-        if let Some(value) = scope.variables().get(name) {
-            return Some(value);
-        }
-    }
-    None
 }

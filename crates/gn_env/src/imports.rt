@@ -2,15 +2,14 @@
 
 ghost use Rattle.std.specs.Prelude.{◌≡◌, IfOk, OnOk, OnErr, IfErr, IfSome, option_map};
 ghost use Rattle.gn_values.specs.Tables.{with_name};
-ghost use Rattle.gn_environment.specs.Imports.{import_left, scope_left, merged, merged_known, conflict_in, invoker_brought, lesser, first_name, other_value, other_template, other_defaults, same_definition};
+ghost use Rattle.gn_environment.specs.Imports.{import_left, scope_left, merged, merged_known, conflict_in, invoker_brought, lesser, first_name, other_value, other_template, other_defaults};
 ghost use Rattle.gn_env.specs.Conflicts.{conflict_of};
 
 use crate::env::Env;
+use gn_kept::same_definition;
 use gn_paths::Text;
 use gn_scopes::NamedScopes;
-use gn_values::{
-    Bindings, Definition, DefinitionName, Definitions, ImportValue, KeptScope, MadeBy,
-};
+use gn_values::{Bindings, DefinitionName, Definitions, ImportValue, KeptScope, MadeBy};
 use std::alloc::{AllocError, Global};
 use std::collections::BTreeMap;
 use std::sync::Arc;
@@ -182,18 +181,6 @@ fn with_made(
     let mut definitions = definitions;
     definitions.set(execution, Arc::new(alloc, made)?)?;
     Ok(definitions)
-}
-
-// Whether two definitions stand at one place.
-fn same_definition(left: Option<&Arc<Definition>>, right: Option<&Arc<Definition>>) -> bool
-    ensures { result
-        ≡ same_definition (option_map (λ d. d.now.value) left.entry) (option_map (λ d. d.now.value) right.entry) }
-{
-    match (left, right) {
-        (Some(left), Some(right)) => *left.place() == *right.place(),
-        (None, None) => true,
-        _ => false,
-    }
 }
 
 // Of two names the lesser one, by their bytes.

@@ -13,6 +13,7 @@ ghost use Rattle.gn_environment.specs.Invoker.{names_invoker, is_outermost, is_i
 
 use crate::caller::Caller;
 use crate::env::Env;
+use gn_kept::kept_value;
 use gn_layers::NameSet;
 use gn_paths::{Text, Texts};
 use gn_scopes::NamedScopes;
@@ -167,20 +168,6 @@ fn value_if_invoker<'a>(name: &Text, outer: Option<&'a Value>) -> Option<&'a Val
         outer
     } else {
         None
-    }
-}
-
-// What the body keeps at a name.
-fn kept_value<'a>(body: &'a Option<Arc<Definition>>, name: &Text) -> Option<&'a Value>
-    ensures { option_map (λ v. val_of v.now) result
-        ≡ fixed_value name.now (kept_by (option_map (λ d. d.value) body.now)) }
-{
-    let Some(definition) = body else {
-        return None;
-    };
-    match definition.scope().variables().get(name.as_bytes()) {
-        Some(value) => Some(value),
-        None => None,
     }
 }
 

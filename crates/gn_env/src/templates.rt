@@ -1,19 +1,18 @@
 // Templates: what a name means, what a definition keeps, and the scopes in which a call's block and its body run.
 
-ghost use Rattle.std.specs.Prelude.{◌≡◌, ◌++◌, [], ◌∷◌, IfOk, OnOk, OnErr, IfErr, IfSome, Ok, Err, length, map, option_map};
-ghost use Rattle.std.specs.List.{list_any};
+ghost use Rattle.std.specs.Prelude.{◌≡◌, [], ◌∷◌, IfOk, OnOk, OnErr, IfErr, IfSome, Ok, Err, length, map, option_map};
 ghost use Rattle.gn_tree.specs.Depth.{IsShallow};
 ghost use Rattle.gn_values.specs.Tables.{at_name};
 ghost use Rattle.gn_values.specs.View.{entry_of};
-ghost use Rattle.gn_environment.specs.Environment.{kept_by, behind};
-ghost use Rattle.gn_environment.specs.Templates.{same_place, definition_of, is_visible, if_named, template_among, template_of, has_template_here, standing_in, scope_here, new_definition, template_defined, defaults_of, defaults_among, defaults_set, table_given, defaults_given, at_depth, block_begins, body_begins, body_ends, reported_by_invoker};
-ghost use Rattle.gn_layers.specs.Kept.{kept_scope};
+ghost use Rattle.gn_environment.specs.Environment.{behind};
+ghost use Rattle.gn_environment.specs.Templates.{definition_of, is_visible, if_named, template_among, template_of, has_template_here, standing_in, scope_here, new_definition, template_defined, defaults_of, defaults_among, defaults_set, table_given, defaults_given, at_depth, block_begins, body_begins, body_ends, reported_by_invoker};
 ghost use Rattle.gn_env.specs.Defaults.{already_set};
 
 use crate::caller::Caller;
 use crate::env::Env;
 use crate::invoker::read_block;
-use gn_layers::{Laid, Layer, Variable};
+use gn_kept::{defaults_in_layers, defaults_in_scopes, is_inside, kept_by_body, standing_in};
+use gn_layers::{Layer, Variable};
 use gn_paths::{Place, Text};
 use gn_scopes::{NamedScopes, copy_entries};
 use gn_tree::{Block, Position};
@@ -295,18 +294,6 @@ impl Env {
         laid.into_kept(alloc)
     }
 
-    // Where the definitions stand in whose bodies the evaluation is.
-    fn standing_in(&self, alloc: Global) -> Result<Vec<Place>, AllocError>
-        ensures { IfOk result (λ places. places.items ≡ standing_in self.now.body) }
-    {
-        let mut places = Vec::new(alloc);
-        if let Some(body) = &self.body {
-            places.push(body.place().copy(alloc)?)?;
-            copy_places(&mut places, alloc, body.enclosing())?;
-        }
-        Ok(places)
-    }
-
     fn new_definition(
         &self,
         alloc: Global,
@@ -344,7 +331,7 @@ impl Env {
         ensures scope { IfOk result (λ s. s.scope.value ≡ scope_here self.now) }
         ensures enclosing { IfOk result (λ s. s.enclosing.items ≡ standing_in self.now.body) }
     {
-        let enclosing = self.standing_in(alloc)?;
+        let enclosing = standing_in(alloc, &self.body)?;
         let scope = self.shared_scope(alloc)?;
         let place = self.place(alloc, position)?;
         Ok(Surroundings {
@@ -417,70 +404,4 @@ impl Env {
         self.scopes.put(&name, Variable::given(value))?;
         Ok(())
     }
-}
-
-// Copies of what a body keeps.
-fn kept_by_body(alloc: Global, body: &Option<Arc<Definition>>) -> Result<Laid, AllocError>
-    ensures { IfOk result
-        (λ laid. laid ≡ kept_scope (kept_by (option_map (λ d. d.value) body.now))) }
-{
-    match body {
-        Some(definition) => Laid::of_kept(alloc, definition.scope()),
-        None => Ok(Laid::new(alloc)),
-    }
-}
-
-// Whether a place is where the body's definition stands, or one in whose body that was made.
-fn is_inside(place: &Place, body: &Definition) -> bool
-    ensures { result ≡ list_any (same_place place.now) (body.now.place ∷ body.now.enclosing) }
-{
-    place == body.place() || is_among(place, body.enclosing())
-}
-
-// Whether a place is one of these.
-fn is_among(place: &Place, places: &[Place]) -> bool
-    ensures { result ≡ list_any (same_place place.now) places.now }
-{
-    for other in places {
-        if place == other {
-            return true;
-        }
-    }
-    false
-}
-
-// Copies places behind others.
-fn copy_places(places: &mut Vec<Place>, alloc: Global, others: &[Place]) -> Result<(), AllocError>
-    ensures { OnOk result (places.new.items ≡ places.old.items ++ others.now) }
-{
-    for place in others {
-        places.push(place.copy(alloc)?)?;
-    }
-    Ok(())
-}
-
-// The defaults of a kind of call that the first of the layers has.
-fn defaults_in_layers<'a>(kind: &Text, layers: &'a VecDeque<Layer>) -> Option<&'a Bindings>
-    ensures { option_map (λ b. b.now) result
-        ≡ defaults_among kind.now (map (λ l. l.defaults) layers.now.items) }
-{
-    for layer in layers {
-        if let Some(values) = layer.defaults().get(kind) {
-            return Some(values);
-        }
-    }
-    None
-}
-
-// The same of scopes that are kept.
-fn defaults_in_scopes<'a>(kind: &Text, scopes: &'a [Arc<KeptScope>]) -> Option<&'a Bindings>
-    ensures { option_map (λ b. b.now) result
-        ≡ defaults_among kind.now (map (λ s. s.defaults) (map (λ s. s.value) scopes.now)) }
-{
-    for scope in scopes {
-        if let Some(values) = scope.defaults().get(kind) {
-            return Some(values);
-        }
-    }
-    None
 }

@@ -13,7 +13,7 @@ use Rattle.gn_environment.specs.Layers.{VariableState, ChainState, given_variabl
 use Rattle.gn_environment.specs.Templates.{in_block}
 use Rattle.gn_environment.specs.Giving.{variables_given, all_given}
 use Rattle.gn_environment.specs.Imports.{with_imported_calls}
-use Rattle.gn_layers.specs.Named.{key, name_of, named, named_chain, IsNumber, IsNumbered, IsNumberedChain, texted, IsLonger}
+use Rattle.gn_layers.specs.Named.{key, numbered_name, named, named_chain, IsNumber, IsNumbered, IsNumberedChain, texted, IsLonger}
 use Rattle.gn_scopes.proofs.NamedTables.{name_at, name_longer, all_longer, with_number, IsNumbered-with_name}
 use Rattle.gn_scopes.proofs.NamedLayers.{chain_longer, longer_numbered}
 
@@ -54,20 +54,20 @@ module _ {A : Type 0} (names longer : List (List ℕ)) (is : IsLonger names long
 
     pub one_more_texted : texted longer (t ++ (key n, a) ∷ []) ≡ texted names t ++ (name, a) ∷ []
     one_more_texted =
-        map-append (λ (e : List ℕ × A). (name_of longer e.0, e.1)) t ((key n, a) ∷ [])
+        map-append (λ (e : List ℕ × A). (numbered_name longer e.0, e.1)) t ((key n, a) ∷ [])
         ∙ (λ i. texted_longer i ++ (ap (λ o. unwrap_or o []) found i, a) ∷ [])
 
 -- Values that are given at numbers
 
 module _ (names : List (List ℕ)) (different : AllDifferent names) where
   module _ {A : Type 0} (k : List ℕ) (number : IsNumber names k) (t : Table A) (numbered : IsNumbered names t) (a : A) where
-    with_key : with_name (name_of names k) a (named names t) ≡ named names (with_name k a t)
+    with_key : with_name (numbered_name names k) a (named names t) ≡ named names (with_name k a t)
     with_key =
-        subst (λ (x : List ℕ). with_name (name_of names x) a (named names t) ≡ named names (with_name x a t)) (sym number.1) (with_number names different (name_of names (key number.0)) number.0 (name_at names number.0 number.2) t numbered a)
+        subst (λ (x : List ℕ). with_name (numbered_name names x) a (named names t) ≡ named names (with_name x a t)) (sym number.1) (with_number names different (numbered_name names (key number.0)) number.0 (name_at names number.0 number.2) t numbered a)
 
     IsNumbered-with_key : IsNumbered names (with_name k a t)
     IsNumbered-with_key =
-        subst (λ (x : List ℕ). IsNumbered names (with_name x a t)) (sym number.1) (IsNumbered-with_name names different (name_of names (key number.0)) number.0 (name_at names number.0 number.2) t numbered a)
+        subst (λ (x : List ℕ). IsNumbered names (with_name x a t)) (sym number.1) (IsNumbered-with_name names different (numbered_name names (key number.0)) number.0 (name_at names number.0 number.2) t numbered a)
 
   given_named : (vs : Table Val) (t : Table VariableState) → AllByRecursion (λ e. IsNumber names e.0) vs → IsNumbered names t → variables_given (texted names vs) (named names t) ≡ named names (variables_given vs t)
   given_named [] t h numbered = refl

@@ -14,7 +14,7 @@ use Rattle.std.proofs.lemmas.Slice.Eq.{bytes_eq-Decides}
 use Rattle.gn_text.specs.Names.{AllDifferent}
 use Rattle.gn_values.specs.Tables.{Table, at_name, with_name, without_name, with_names}
 use Rattle.gn_environment.proofs.Names.{order, tied, not_lacking}
-use Rattle.gn_layers.specs.Named.{key, name_of, named, IsNumber, IsNumbered}
+use Rattle.gn_layers.specs.Named.{key, numbered_name, named, IsNumber, IsNumbered}
 use Rattle.gn_basics.proofs.Tests.{second_holds}
 use Rattle.gn_scopes.proofs.Entries.{first, insert_entry-all, remove_entry-all, is_sorted-insert_entry, lookup-insert_entry, lookup_behind, is_sorted-remove_entry, lookup-remove_entry, remove_entry_absent, same_by_lookup, is_sorted-map, map-all, insert_entry-map}
 
@@ -50,7 +50,7 @@ IsNumbered-empty names = record { numbers = tt; rise = tt }
 -- the table by names is in order
 pub named_sorted : {A : Type 0} (names : List (List ℕ)) (t : Table A) → T (is_sorted (slice_cmp nat_cmp) (named names t))
 named_sorted names [] = tt
-named_sorted names (e ∷ es) = is_sorted-insert_entry order nat_list_cmp_total (named names es) (name_of names e.0) e.1 (named_sorted names es)
+named_sorted names (e ∷ es) = is_sorted-insert_entry order nat_list_cmp_total (named names es) (numbered_name names e.0) e.1 (named_sorted names es)
 
 -- more names behind these change nothing
 module _ (names more : List (List ℕ)) where
@@ -59,9 +59,9 @@ module _ (names more : List (List ℕ)) where
   get_longer (x ∷ xs) zero l = refl
   get_longer (x ∷ xs) (suc n) l = get_longer xs n (omega arith)
 
-  pub name_longer : (k : List ℕ) → IsNumber names k → name_of (names ++ more) k ≡ name_of names k
+  pub name_longer : (k : List ℕ) → IsNumber names k → numbered_name (names ++ more) k ≡ numbered_name names k
   name_longer k h =
-      ap (name_of (names ++ more)) h.1 ∙ ap (λ o. unwrap_or o []) (get_longer names h.0 h.2) ∙ ap (name_of names) (sym h.1)
+      ap (numbered_name (names ++ more)) h.1 ∙ ap (λ o. unwrap_or o []) (get_longer names h.0 h.2) ∙ ap (numbered_name names) (sym h.1)
 
   all_named_longer : {A : Type 0} (t : Table A) → AllByRecursion (λ e. IsNumber names e.0) t → named (names ++ more) t ≡ named names t
   all_named_longer [] h = refl
@@ -85,24 +85,24 @@ module _ {A : Type 0} (names more : List (List ℕ)) (t : Table A) (numbered : I
 
 -- numbers tie as the names at them do
 module _ (names : List (List ℕ)) (different : AllDifferent names) where
-  ties : (q : List ℕ) (j : ℕ) → slice_get names j ≡ Some q → (k : List ℕ) → IsNumber names k → is_eq (order q (name_of names k)) ≡ is_eq (order (key j) k)
+  ties : (q : List ℕ) (j : ℕ) → slice_get names j ≡ Some q → (k : List ℕ) → IsNumber names k → is_eq (order q (numbered_name names k)) ≡ is_eq (order (key j) k)
   ties q j found k h =
-      let at_k : slice_get names h.0 ≡ Some (name_of names (key h.0)) = name_at names h.0 h.2 in
+      let at_k : slice_get names h.0 ≡ Some (numbered_name names (key h.0)) = name_at names h.0 h.2 in
       both_ways _ _
       (λ e.
-      let same : q ≡ name_of names (key h.0) = tied _ _ ((Equal-is _).0 e) ∙ ap (name_of names) h.1 in
+      let same : q ≡ numbered_name names (key h.0) = tied _ _ ((Equal-is _).0 e) ∙ ap (numbered_name names) h.1 in
       let number : j ≡ h.0 = different j h.0 (slice_get_within names j q found) (found ∙ ap Some same ∙ sym at_k) in
       ap (λ x. is_eq (order (key j) x)) (h.1 ∙ ap key (sym number)) ∙ ap is_eq (itself (key j)))
       (λ e.
       let same : key j ≡ k = tied _ _ ((Equal-is _).0 e) in
-      let name : name_of names k ≡ q = ap (name_of names) (sym same) ∙ ap (λ o. unwrap_or o []) found in
+      let name : numbered_name names k ≡ q = ap (numbered_name names) (sym same) ∙ ap (λ o. unwrap_or o []) found in
       ap (λ x. is_eq (order q x)) name ∙ ap is_eq (itself q))
 
   -- what a name has in the table by names, its number has
   at_numbers : {A : Type 0} (q : List ℕ) (j : ℕ) → slice_get names j ≡ Some q → (t : Table A) → AllByRecursion (λ e. IsNumber names e.0) t → at_name q (named names t) ≡ at_name (key j) t
   at_numbers q j found [] h = refl
   at_numbers q j found (e ∷ es) h =
-      at-with_name (named names es) (name_of names e.0) e.1 q
+      at-with_name (named names es) (numbered_name names e.0) e.1 q
       ∙ (λ i. cond (ties q j found e.0 h.0 i) (Some e.1) (at_numbers q j found es h.1 i))
 
 -- a text that is no name ties with none
@@ -114,13 +114,13 @@ module _ (names : List (List ℕ)) (q : List ℕ) (lacking : list_any (bytes_eq 
         | false ↦ λ e. refl
       ] refl
 
-  apart_number : (k : List ℕ) → IsNumber names k → is_eq (order q (name_of names k)) ≡ false
-  apart_number k h = apart (name_of names k) h.0 (name_at names h.0 h.2 ∙ ap Some (ap (name_of names) (sym h.1)))
+  apart_number : (k : List ℕ) → IsNumber names k → is_eq (order q (numbered_name names k)) ≡ false
+  apart_number k h = apart (numbered_name names k) h.0 (name_at names h.0 h.2 ∙ ap Some (ap (numbered_name names) (sym h.1)))
 
   at_none : {A : Type 0} (t : Table A) → AllByRecursion (λ e. IsNumber names e.0) t → at_name q (named names t) ≡ None
   at_none [] h = refl
   at_none (e ∷ es) h =
-      at-with_name (named names es) (name_of names e.0) e.1 q
+      at-with_name (named names es) (numbered_name names e.0) e.1 q
       ∙ (λ i. cond (apart_number e.0 h.0 i) (Some e.1) (at_none es h.1 i))
 
 -- a table in order that has at each name what its number has, and nothing else, is the table by names
@@ -144,7 +144,7 @@ or_none (Some a) = refl
 -- what names are given, one by one
 module _ {A : Type 0} (names : List (List ℕ)) where
   abbrev pairs : Table A → Table A
-  pairs t = map (λ (e : List ℕ × A). (name_of names e.0, e.1)) t
+  pairs t = map (λ (e : List ℕ × A). (numbered_name names e.0, e.1)) t
 
   given_sorted : (es s : Table A) → T (is_sorted order s) → T (is_sorted order (with_names es s))
   given_sorted [] s h = h
@@ -153,19 +153,19 @@ module _ {A : Type 0} (names : List (List ℕ)) where
   given_known : AllDifferent names → (q : List ℕ) (j : ℕ) → slice_get names j ≡ Some q → (t s : Table A) → AllByRecursion (λ e. IsNumber names e.0) t → T (is_sorted order t) → at_name q (with_names (pairs t) s) ≡ option_or (at_name (key j) t) (at_name q s)
   given_known different q j found [] s h g = refl
   given_known different q j found (e ∷ es) s h g =
-      given_known different q j found es (with_name (name_of names e.0) e.1 s) h.1 (second_holds _ _ g)
-      ∙ ap (option_or (at_name (key j) es)) (at-with_name s (name_of names e.0) e.1 q ∙ ap (λ b. cond b (Some e.1) (at_name q s)) (ties names different q j found e.0 h.0))
+      given_known different q j found es (with_name (numbered_name names e.0) e.1 s) h.1 (second_holds _ _ g)
+      ∙ ap (option_or (at_name (key j) es)) (at-with_name s (numbered_name names e.0) e.1 q ∙ ap (λ b. cond b (Some e.1) (at_name q s)) (ties names different q j found e.0 h.0))
       ∙ or_later (is_eq (order (key j) e.0)) (at_name (key j) es) (at_name q s) e.1 (λ p. lookup_behind order nat_list_cmp_total (key j) e.0 es ((Equal-is _).0 p) (first _ _ g))
 
   given_unknown : (q : List ℕ) → list_any (bytes_eq q) names ≡ false → (t s : Table A) → AllByRecursion (λ e. IsNumber names e.0) t → at_name q (with_names (pairs t) s) ≡ at_name q s
   given_unknown q lacking [] s h = refl
   given_unknown q lacking (e ∷ es) s h =
-      given_unknown q lacking es (with_name (name_of names e.0) e.1 s) h.1
-      ∙ at-with_name s (name_of names e.0) e.1 q
+      given_unknown q lacking es (with_name (numbered_name names e.0) e.1 s) h.1
+      ∙ at-with_name s (numbered_name names e.0) e.1 q
       ∙ ap (λ b. cond b (Some e.1) (at_name q s)) (apart_number names q lacking e.0 h.0)
 
 -- what names are given, one by one, is what the table has by names
-pub named-from_pairs : {A : Type 0} (names : List (List ℕ)) (t : Table A) → AllDifferent names → IsNumbered names t → with_names (map (λ e. (name_of names e.0, e.1)) t) [] ≡ named names t
+pub named-from_pairs : {A : Type 0} (names : List (List ℕ)) (t : Table A) → AllDifferent names → IsNumbered names t → with_names (map (λ e. (numbered_name names e.0, e.1)) t) [] ≡ named names t
 named-from_pairs names t different numbered =
     same_named names different t numbered (with_names (pairs names t) []) (given_sorted names (pairs names t) [] tt)
     (λ q j found. given_known names different q j found t [] numbered.numbers numbered.rise ∙ or_none (at_name (key j) t))
@@ -181,10 +181,10 @@ given_in_order q (e ∷ es) s h =
 
 -- a table laid over another one in the order of its numbers is laid over it by names
 module _ {A : Type 0} (names : List (List ℕ)) (different : AllDifferent names) (t : Table A) (numbered : IsNumbered names t) (base : Table A) (sorted : T (is_sorted order base)) where
-  pub laid_sorted : T (is_sorted (slice_cmp nat_cmp) (with_names (map (λ e. (name_of names e.0, e.1)) t) base))
+  pub laid_sorted : T (is_sorted (slice_cmp nat_cmp) (with_names (map (λ e. (numbered_name names e.0, e.1)) t) base))
   laid_sorted = given_sorted names (pairs names t) base sorted
 
-  pub named-laid : with_names (map (λ e. (name_of names e.0, e.1)) t) base ≡ with_names (named names t) base
+  pub named-laid : with_names (map (λ e. (numbered_name names e.0, e.1)) t) base ≡ with_names (named names t) base
   named-laid =
       let es = named names t in
       same_by_lookup order nat_list_cmp_total (slice_cmp-IsAntisymmetric nat_cmp-IsAntisymmetric) (with_names (pairs names t) base) (with_names es base) laid_sorted (given_sorted names es base sorted) (λ q.
@@ -201,19 +201,19 @@ module _ {A : Type 0} (names : List (List ℕ)) (different : AllDifferent names)
 
 -- what is done to all values, each with its name
 module _ {A B : Type 0} (names : List (List ℕ)) (f : List ℕ → A → B) where
-  all_named-map : (t : Table A) → named names (map (λ (e : List ℕ × A). (e.0, f (name_of names e.0) e.1)) t) ≡ map (λ (e : List ℕ × A). (e.0, f e.0 e.1)) (named names t)
+  all_named-map : (t : Table A) → named names (map (λ (e : List ℕ × A). (e.0, f (numbered_name names e.0) e.1)) t) ≡ map (λ (e : List ℕ × A). (e.0, f e.0 e.1)) (named names t)
   all_named-map [] = refl
   all_named-map (e ∷ es) =
-      ap (with_name (name_of names e.0) (f (name_of names e.0) e.1)) (all_named-map es)
-      ∙ insert_entry-map order (slice_cmp-IsAntisymmetric nat_cmp-IsAntisymmetric) f (named names es) (name_of names e.0) e.1
+      ap (with_name (numbered_name names e.0) (f (numbered_name names e.0) e.1)) (all_named-map es)
+      ∙ insert_entry-map order (slice_cmp-IsAntisymmetric nat_cmp-IsAntisymmetric) f (named names es) (numbered_name names e.0) e.1
 
 module _ {A B : Type 0} (names : List (List ℕ)) (f : List ℕ → A → B) (t : Table A) where
-  pub named-map : named names (map (λ e. (e.0, f (name_of names e.0) e.1)) t) ≡ map (λ e. (e.0, f e.0 e.1)) (named names t)
+  pub named-map : named names (map (λ e. (e.0, f (numbered_name names e.0) e.1)) t) ≡ map (λ e. (e.0, f e.0 e.1)) (named names t)
   named-map = all_named-map names f t
 
-  pub IsNumbered-map : IsNumbered names t → IsNumbered names (map (λ e. (e.0, f (name_of names e.0) e.1)) t)
+  pub IsNumbered-map : IsNumbered names t → IsNumbered names (map (λ e. (e.0, f (numbered_name names e.0) e.1)) t)
   IsNumbered-map numbered =
-      let g : List ℕ × A → B = λ e. f (name_of names e.0) e.1 in
+      let g : List ℕ × A → B = λ e. f (numbered_name names e.0) e.1 in
       record {
         numbers = map-all order g (IsNumber names) t numbered.numbers;
         rise = subst T (sym (is_sorted-map order g t)) numbered.rise;

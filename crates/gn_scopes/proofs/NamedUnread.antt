@@ -11,7 +11,7 @@ use Rattle.gn_text.specs.Names.{AllDifferent}
 use Rattle.gn_values.specs.Tables.{Table, at_name, with_name}
 use Rattle.gn_environment.proofs.Names.{order}
 use Rattle.gn_environment.specs.Layers.{VariableState}
-use Rattle.gn_layers.specs.Named.{key, name_of, named, texted, IsNumber, IsNumbered}
+use Rattle.gn_layers.specs.Named.{key, numbered_name, named, texted, IsNumber, IsNumbered}
 use Rattle.gn_environment.specs.Unread.{first_unread_of, earlier, unread_at}
 use Rattle.gn_environment.proofs.Earlier.{earlier_swap}
 use Rattle.gn_environment.proofs.Names.{by_order}
@@ -31,17 +31,17 @@ unread_with_new name v (e ∷ es) none =
 
 module _ (names : List (List ℕ)) (different : AllDifferent names) where
   -- the name of a table's first number is none of the other ones
-  other_name : (k : List ℕ) (t : Table VariableState) → IsNumber names k → IsNumbered names t → T (below_all order k t) → at_name (name_of names k) (named names t) ≡ None
+  other_name : (k : List ℕ) (t : Table VariableState) → IsNumber names k → IsNumbered names t → T (below_all order k t) → at_name (numbered_name names k) (named names t) ≡ None
   other_name k t h numbered below =
-      let found : slice_get names h.0 ≡ Some (name_of names k) = name_at names h.0 h.2 ∙ ap Some (ap (name_of names) (sym h.1)) in
-      at_number names different (name_of names k) h.0 found t numbered
+      let found : slice_get names h.0 ≡ Some (numbered_name names k) = name_at names h.0 h.2 ∙ ap Some (ap (numbered_name names) (sym h.1)) in
+      at_number names different (numbered_name names k) h.0 found t numbered
       ∙ lookup_behind order nat_list_cmp_total (key h.0) k t (ap (order (key h.0)) h.1 ∙ tied_itself nat_list_cmp_total (key h.0)) below
 
   all_unread : (t : Table VariableState) → AllByRecursion (λ e. IsNumber names e.0) t → T (is_sorted order t) → first_unread_of (texted names t) ≡ first_unread_of (named names t)
   all_unread [] h g = refl
   all_unread (e ∷ es) h g =
-      ap (earlier (unread_at (name_of names e.0) e.1.unread)) (all_unread es h.1 (second_holds _ _ g))
-      ∙ sym (unread_with_new (name_of names e.0) e.1 (named names es) (other_name e.0 es h.0 (record { numbers = h.1; rise = second_holds _ _ g }) (first _ _ g)))
+      ap (earlier (unread_at (numbered_name names e.0) e.1.unread)) (all_unread es h.1 (second_holds _ _ g))
+      ∙ sym (unread_with_new (numbered_name names e.0) e.1 (named names es) (other_name e.0 es h.0 (record { numbers = h.1; rise = second_holds _ _ g }) (first _ _ g)))
 
   pub named_unread : (t : Table VariableState) → IsNumbered names t → first_unread_of (texted names t) ≡ first_unread_of (named names t)
   named_unread t numbered = all_unread t numbered.numbers numbered.rise

@@ -10,7 +10,7 @@ ghost use Rattle.gn_layers.specs.Named.{all_read_but_named};
 ghost use Rattle.gn_layers.specs.View.{value_pairs};
 
 use crate::scopes::Scopes;
-use gn_layers::{Key, NameSet};
+use gn_layers::{NameKey, NameSet};
 use gn_text::Names;
 use gn_tree::Position;
 use gn_values::{KeptScope, Value};
@@ -18,7 +18,7 @@ use std::alloc::{AllocError, Global};
 
 impl Scopes {
     /// A read of a name of the innermost layer, if it has it. It takes no memory.
-    pub(crate) fn read_here(&mut self, name: &Key)
+    pub(crate) fn read_here(&mut self, name: &NameKey)
         ensures { self.new ≡ in_block (read_in name.now) self.old }
     {
         let _found = self.inner.mark(name);
@@ -26,7 +26,7 @@ impl Scopes {
 
     /// Declares a name of the innermost layer, if it has the name and declares names, at the position of the call that gave
     /// it, unless it was declared before. It takes no memory.
-    pub(crate) fn declare(&mut self, name: &Key, position: Position)
+    pub(crate) fn declare(&mut self, name: &NameKey, position: Position)
         ensures { self.new ≡ in_block (declared_in name.now position) self.old }
     {
         self.inner.declare(name, position);
@@ -52,7 +52,7 @@ impl Scopes {
     pub(crate) fn give_all(
         &mut self,
         alloc: Global,
-        values: Vec<(Key, Value)>,
+        values: Vec<(NameKey, Value)>,
     ) -> Result<(), AllocError>
         ensures ok { OnOk result (self.new ≡ in_block (all_given (value_pairs values.items)) self.old) }
         ensures err { OnErr result (self.new ≡ self.old) }
@@ -65,7 +65,7 @@ impl Scopes {
     pub(crate) fn merge(
         &mut self,
         alloc: Global,
-        values: Vec<(Key, Value)>,
+        values: Vec<(NameKey, Value)>,
         scope: &KeptScope,
     ) -> Result<(), AllocError>
         ensures ok { OnOk result

@@ -12,7 +12,7 @@ ghost use Rattle.gn_layers.specs.View.{value_pairs};
 
 use crate::copies::copy_entries;
 use crate::named_scopes::NamedScopes;
-use gn_layers::Key;
+use gn_layers::NameKey;
 use gn_paths::Text;
 use gn_text::Names;
 use gn_values::{Bindings, Entry, KeptScope, Value};
@@ -69,7 +69,7 @@ fn numbered(
     names: &mut Names,
     alloc: Global,
     entries: Vec<Entry>,
-) -> Result<Vec<(Key, Value)>, AllocError>
+) -> Result<Vec<(NameKey, Value)>, AllocError>
     requires { AllDifferent names.old }
     ensures values { IfOk result
         (λ values. texted names.new (value_pairs values.items) ≡ map entry_of entries.items) }
@@ -88,7 +88,7 @@ fn numbered(
 // Puts the value of an entry behind others, by the number of its name, which the table has from then on.
 fn push_numbered(
     names: &mut Names,
-    values: &mut Vec<(Key, Value)>,
+    values: &mut Vec<(NameKey, Value)>,
     entry: Entry,
 ) -> Result<(), AllocError>
     requires different { AllDifferent names.old }
@@ -103,6 +103,6 @@ fn push_numbered(
 {
     values.reserve(1)?;
     let number = names.intern(entry.name.as_bytes())?;
-    values.push_reserved((Key::new(number), entry.value));
+    values.push_reserved((NameKey::new(number), entry.value));
     Ok(())
 }

@@ -6,7 +6,7 @@ ghost use Rattle.gn_environment.specs.Templates.{in_block};
 ghost use Rattle.gn_environment.specs.Unread.{reported};
 
 use crate::named_scopes::NamedScopes;
-use gn_layers::{Key, NameSet};
+use gn_layers::{NameKey, NameSet};
 use gn_paths::{Text, Texts};
 use gn_tree::Position;
 
@@ -16,7 +16,7 @@ impl NamedScopes {
         ensures { self.new ≡ in_block (read_in name.now) self.old }
     {
         if let Some(number) = self.names.number(name.as_bytes()) {
-            self.scopes.read_here(&Key::new(number));
+            self.scopes.read_here(&NameKey::new(number));
         }
     }
 

@@ -1,5 +1,6 @@
 // The layers of the scopes that are open, by the names that stand in them.
 
+ghost use types.Logic.{sem};
 ghost use Rattle.std.specs.Prelude.{◌≡◌, [], OnOk, OnErr, IfErr, IfSome, Err, Ok, None, Some, option_map, is_some};
 ghost use Rattle.gn_tree.specs.declared.position.Position.{Position};
 ghost use Rattle.gn_values.specs.View.{val_of};
@@ -9,10 +10,12 @@ ghost use Rattle.gn_environment.specs.Templates.{in_block};
 ghost use Rattle.gn_environment.specs.Chains.{variable_in, set_in, chain_variable, chain_read, chain_entered, chain_left};
 ghost use Rattle.gn_layers.specs.Errors.{refusal_of, element_refusal_of};
 ghost use Rattle.gn_environment.specs.Layers.{empty_layer};
+ghost use Rattle.gn_environment.specs.Lending.{Ends};
 ghost use Rattle.gn_layers.specs.View.{variable_state};
+ghost use Rattle.gn_scopes.specs.contracts.named_scopes.NamedScopes.{the_row};
 
 use crate::scopes::Scopes;
-use gn_layers::{AssignError, ElementAssignError, Key, Variable};
+use gn_layers::{AssignError, ElementAssignError, NameKey, Variable};
 use gn_paths::Text;
 use gn_text::Names;
 use gn_tree::{AssignOp, Position};
@@ -82,7 +85,7 @@ impl NamedScopes {
         ensures { result ≡ is_some (variable_in name.now self.now.inner) }
     {
         match self.names.number(name.as_bytes()) {
-            Some(number) => self.scopes.innermost().has(&Key::new(number)),
+            Some(number) => self.scopes.innermost().has(&NameKey::new(number)),
             None => false,
         }
     }
@@ -94,7 +97,7 @@ impl NamedScopes {
             ≡ option_map (λ v. v.value) (variable_in name.now self.now.inner) }
     {
         let number = self.names.number(name.as_bytes())?;
-        self.scopes.innermost().value(&Key::new(number))
+        self.scopes.innermost().value(&NameKey::new(number))
     }
 
     /// Where a name of the innermost layer was declared. None comes exactly where it isn't declared there. It takes no memory.
@@ -102,7 +105,7 @@ impl NamedScopes {
         ensures { result ≡ place_of (variable_in name.now self.now.inner) }
     {
         let number = self.names.number(name.as_bytes())?;
-        self.scopes.innermost().declared(&Key::new(number))
+        self.scopes.innermost().declared(&NameKey::new(number))
     }
 
     /// What a name stands for in the first layer that has it. None comes exactly where no layer has it. It takes no memory.
@@ -110,7 +113,21 @@ impl NamedScopes {
         ensures { option_map (λ v. variable_state v.now) result ≡ chain_variable name.now self.now }
     {
         let number = self.names.number(name)?;
-        self.scopes.variable(&Key::new(number))
+        self.scopes.variable(&NameKey::new(number))
+    }
+
+    /// What a name stands for in the first layer that has it, which counts as read from then on. None comes exactly where no
+    /// layer has it. The table of names is asked once. It takes no memory.
+    pub fn read(&mut self, name: &[u8]) -> Option<&Variable>
+        ensures* read { sem 𝓛 (Ends the_row self.entry
+            (λ chain. chain ≡ chain_read name.now self.old)) }
+        ensures value { option_map (λ v. variable_state v.now) result
+            ≡ chain_variable name.now (chain_read name.now self.old) }
+    {
+        let number = self.names.number(name)?;
+        let key = NameKey::new(number);
+        let found = self.scopes.mark(&key);
+        self.scopes.variable_at(&key, found)
     }
 
     /// Declares a name of the innermost layer, if it has the name and declares names, at the position of the call that gave
@@ -119,7 +136,7 @@ impl NamedScopes {
         ensures { self.new ≡ in_block (declared_in name.now position) self.old }
     {
         if let Some(number) = self.names.number(name.as_bytes()) {
-            self.scopes.declare(&Key::new(number), position);
+            self.scopes.declare(&NameKey::new(number), position);
         }
     }
 
@@ -128,7 +145,7 @@ impl NamedScopes {
         ensures { self.new ≡ chain_read name.now self.old }
     {
         if let Some(number) = self.names.number(name) {
-            let _found = self.scopes.mark(&Key::new(number));
+            let _found = self.scopes.mark(&NameKey::new(number));
         }
     }
 
@@ -138,7 +155,7 @@ impl NamedScopes {
         ensures new { self.new ≡ record self.old { inner = set_in name.now None self.old.inner } }
     {
         let number = self.names.number(name.as_bytes())?;
-        self.scopes.take(&Key::new(number))
+        self.scopes.take(&NameKey::new(number))
     }
 
     /// Sets what a name of the innermost layer stands for. After want of memory the layers are as before, and the variable
@@ -150,7 +167,7 @@ impl NamedScopes {
         ensures err { OnErr result (self.new ≡ self.old) }
     {
         let number = self.names.intern(name.as_bytes())?;
-        self.scopes.put(Key::new(number), variable)
+        self.scopes.put(NameKey::new(number), variable)
     }
 
     /// `name = value`, `name += value` or `name -= value`, whose operator stands at the position, where `beneath` is
@@ -175,7 +192,7 @@ impl NamedScopes {
     {
         let number = self.names.intern(name.as_bytes())?;
         self.scopes
-            .assign(alloc, &Key::new(number), op, value, position, beneath)
+            .assign(alloc, &NameKey::new(number), op, value, position, beneath)
     }
 
     /// `name[at] op= value` or `name.at op= value`, whose operator stands at the position, where `beneath` is what the
@@ -200,7 +217,14 @@ impl NamedScopes {
         ensures err { OnErr result (self.new ≡ self.old) }
     {
         let number = self.names.intern(name.as_bytes())?;
-        self.scopes
-            .assign_element(alloc, &Key::new(number), at, op, value, position, beneath)
+        self.scopes.assign_element(
+            alloc,
+            &NameKey::new(number),
+            at,
+            op,
+            value,
+            position,
+            beneath,
+        )
     }
 }

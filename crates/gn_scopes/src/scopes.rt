@@ -12,14 +12,14 @@ ghost use Rattle.gn_tree.specs.declared.position.Position.{Position};
 ghost use Rattle.gn_environment.specs.Unread.{reported};
 ghost use Rattle.gn_layers.specs.Errors.{refusal_of, element_refusal_of};
 ghost use Rattle.gn_scopes.specs.Reports.{scope_refusal_of, IsReport};
-ghost use Rattle.gn_scopes.specs.Found.{IsFound};
+ghost use Rattle.gn_scopes.specs.Whereabouts.{IsFound};
 ghost use Rattle.gn_layers.specs.Named.{key};
 ghost use Rattle.gn_environment.specs.Lending.{Ends};
 ghost use Rattle.gn_layers.specs.View.{variable_state};
 ghost use Rattle.gn_scopes.specs.contracts.scopes.Scopes.{the_row};
 
 use crate::error::ScopeError;
-use gn_layers::{AssignError, ElementAssignError, Key, Layer, Variable};
+use gn_layers::{AssignError, ElementAssignError, Layer, NameKey, Variable};
 use gn_text::Name;
 use gn_tree::{AssignOp, Position};
 use gn_values::Value;
@@ -30,7 +30,7 @@ use std::mem;
 
 /// Where a name is found: in the innermost layer, in the outer one of this number, or in none.
 #[derive(Clone, Copy)]
-pub(crate) enum Found {
+pub(crate) enum Whereabouts {
     Inner,
     Outer(usize),
     Nowhere,
@@ -127,7 +127,7 @@ impl Scopes {
     }
 
     /// Takes a name out of the innermost layer, and answers what it stood for there. It takes no memory.
-    pub(crate) fn take(&mut self, name: &Key) -> Option<Variable>
+    pub(crate) fn take(&mut self, name: &NameKey) -> Option<Variable>
         ensures value { option_map variable_state result ≡ variable_in name.now self.old.inner }
         ensures new { self.new ≡ record self.old { inner = set_in name.now None self.old.inner } }
     {
@@ -135,7 +135,7 @@ impl Scopes {
     }
 
     /// Sets what a name of the innermost layer stands for. After want of memory nothing is changed.
-    pub(crate) fn put(&mut self, name: Key, variable: Variable) -> Result<(), AllocError>
+    pub(crate) fn put(&mut self, name: NameKey, variable: Variable) -> Result<(), AllocError>
         ensures ok { OnOk result
             (self.new
             ≡ record self.old { inner = set_in name (Some (variable_state variable)) self.old.inner }) }
@@ -146,35 +146,35 @@ impl Scopes {
 
     /// A read of a name that the layers may have, and where it is. It takes no memory.
     #[tactic(auto, unfolding(gn_environment::specs::Chains::chain_read))]
-    pub(crate) fn mark(&mut self, name: &Key) -> Found
+    pub(crate) fn mark(&mut self, name: &NameKey) -> Whereabouts
         ensures new { self.new ≡ chain_read name.now self.old }
         ensures found { IsFound name.now self.new result }
     {
         if self.inner.mark(name) {
-            return Found::Inner;
+            return Whereabouts::Inner;
         }
         match mark_first(&mut self.outer, name) {
-            Some(i) => Found::Outer(i),
-            None => Found::Nowhere,
+            Some(i) => Whereabouts::Outer(i),
+            None => Whereabouts::Nowhere,
         }
     }
 
-    /// What a read finds at a name that is there.
+    /// What a name stands for that is there.
     #[tactic(auto, unfolding(gn_environment::specs::Chains::chain_variable))]
-    pub(crate) fn value_at(&self, name: &Key, found: Found) -> Option<&Value>
+    pub(crate) fn variable_at(&self, name: &NameKey, found: Whereabouts) -> Option<&Variable>
         requires { IsFound name.now self.now found }
-        ensures { option_map (λ v. val_of v.now) result ≡ chain_value name.now self.now }
+        ensures { option_map (λ v. variable_state v.now) result ≡ chain_variable name.now self.now }
     {
         match found {
-            Found::Inner => self.inner.shown(name),
-            Found::Outer(i) => self.outer[i].shown(name),
-            Found::Nowhere => None,
+            Whereabouts::Inner => self.inner.get(name),
+            Whereabouts::Outer(i) => self.outer[i].get(name),
+            Whereabouts::Nowhere => None,
         }
     }
 
     /// What a name stands for in the first layer that has it. None comes exactly where no layer has it. It takes no memory.
     #[tactic(auto, unfolding(gn_environment::specs::Chains::chain_variable))]
-    pub(crate) fn variable(&self, name: &Key) -> Option<&Variable>
+    pub(crate) fn variable(&self, name: &NameKey) -> Option<&Variable>
         ensures { option_map (λ v. variable_state v.now) result ≡ chain_variable name.now self.now }
     {
         match self.inner.get(name) {
@@ -190,9 +190,9 @@ impl Scopes {
             (λ chain. chain ≡ chain_read (key name) self.old)) }
         ensures value { option_map (λ v. val_of v.now) result ≡ chain_value (key name) self.old }
     {
-        let name = Key::new(name);
+        let name = NameKey::new(name);
         let found = self.mark(&name);
-        self.value_at(&name, found)
+        self.variable_at(&name, found)?.shown()
     }
 
     // A copy of the value that a read finds at a name further out than in the innermost scope, where `beneath` is what it
@@ -200,7 +200,7 @@ impl Scopes {
     fn copy_of_outer(
         &self,
         alloc: Global,
-        name: &Key,
+        name: &NameKey,
         beneath: Option<&Value>,
     ) -> Result<Option<Value>, AllocError>
         ensures { IfOk result (λ copy. option_map val_of copy
@@ -215,7 +215,7 @@ impl Scopes {
     // Assigns a name at which the innermost layer has nothing: it is read further out.
     fn put_inwards(
         &mut self,
-        name: &Key,
+        name: &NameKey,
         value: Value,
         position: Position,
     ) -> Result<(), AllocError>
@@ -233,7 +233,7 @@ impl Scopes {
     fn combine(
         &mut self,
         alloc: Global,
-        name: &Key,
+        name: &NameKey,
         op: AssignOp,
         value: Value,
         position: Position,
@@ -264,7 +264,7 @@ impl Scopes {
     fn combine_inwards(
         &mut self,
         alloc: Global,
-        name: &Key,
+        name: &NameKey,
         copy: Value,
         op: AssignOp,
         value: Value,
@@ -294,7 +294,7 @@ impl Scopes {
     pub(crate) fn assign(
         &mut self,
         alloc: Global,
-        name: &Key,
+        name: &NameKey,
         op: AssignOp,
         value: Value,
         position: Position,
@@ -324,7 +324,7 @@ impl Scopes {
     pub(crate) fn assign_element(
         &mut self,
         alloc: Global,
-        name: &Key,
+        name: &NameKey,
         at: &Value,
         op: AssignOp,
         value: Value,
@@ -359,7 +359,7 @@ impl Scopes {
     fn assign_element_inwards(
         &mut self,
         alloc: Global,
-        name: &Key,
+        name: &NameKey,
         copy: Value,
         at: &Value,
         op: AssignOp,
@@ -406,7 +406,7 @@ impl Scopes {
         ensures assigning { IfErr result (λ e. (n : ℕ) (p : Position) → e ≢ ScopeError.NoEffect n p) }
         ensures err { OnErr result (self.new ≡ self.old) }
     {
-        match self.assign(alloc, &Key::new(name), op, value, position, None) {
+        match self.assign(alloc, &NameKey::new(name), op, value, position, None) {
             Ok(()) => Ok(()),
             Err(error) => Err(ScopeError::of_assignment(error)),
         }
@@ -414,7 +414,7 @@ impl Scopes {
 }
 
 // The first layer that has a name.
-fn find(layers: &VecDeque<Layer>, name: &Key) -> Option<usize>
+fn find(layers: &VecDeque<Layer>, name: &NameKey) -> Option<usize>
     ensures some { IfSome result (λ i. IsFirstAt name.now layers.now.items i) }
     ensures none { IfNone result (variable_of name.now layers.now.items ≡ None) }
 {
@@ -427,7 +427,7 @@ fn find(layers: &VecDeque<Layer>, name: &Key) -> Option<usize>
 }
 
 // A read of a name that the layers may have, and the first that has it.
-fn mark_first(layers: &mut VecDeque<Layer>, name: &Key) -> Option<usize>
+fn mark_first(layers: &mut VecDeque<Layer>, name: &NameKey) -> Option<usize>
     ensures marked { layers.new.items ≡ marked name.now layers.old.items }
     ensures some { IfSome result (λ i. IsFirstAt name.now layers.new.items i) }
     ensures none { IfNone result (variable_of name.now layers.new.items ≡ None) }
@@ -440,7 +440,7 @@ fn mark_first(layers: &mut VecDeque<Layer>, name: &Key) -> Option<usize>
 }
 
 // What a name stands for in the first of the layers that has it.
-fn outer_variable<'a>(layers: &'a VecDeque<Layer>, name: &Key) -> Option<&'a Variable>
+fn outer_variable<'a>(layers: &'a VecDeque<Layer>, name: &NameKey) -> Option<&'a Variable>
     ensures { option_map (λ v. variable_state v.now) result ≡ variable_of name.now layers.now.items }
 {
     let i = find(layers, name)?;
@@ -450,7 +450,7 @@ fn outer_variable<'a>(layers: &'a VecDeque<Layer>, name: &Key) -> Option<&'a Var
 // What a read finds in the first of the layers that has a name, where `beneath` is what it has beneath them.
 fn outer_value<'a>(
     layers: &'a VecDeque<Layer>,
-    name: &Key,
+    name: &NameKey,
     beneath: Option<&'a Value>,
 ) -> Option<&'a Value>
     ensures { option_map (λ v. val_of v.now) result

@@ -2,7 +2,7 @@ use Rattle.std.proofs.Common.{◌≡◌, map}
 use Rattle.std.specs.VecDeque.Iter.{deque_iter_rest}
 use Rattle.gn_environment.specs.Layers.{LayerState}
 use Rattle.gn_environment.specs.Templates.{defaults_among}
-use Rattle.gn_env.proofs.templates.defaults_in_layers.Given as goal
+use Rattle.gn_kept.proofs.defaults.defaults_in_layers.Given as goal
 
 abbrev pub invariant-loop-layer : goal.invariant-loop-layer
 invariant-loop-layer l =

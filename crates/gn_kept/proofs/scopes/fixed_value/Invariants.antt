@@ -1,6 +1,6 @@
 use Rattle.std.proofs.Common.{◌≡◌, map, drop}
 use Rattle.gn_environment.specs.Environment.{fixed_value}
-use Rattle.gn_env.proofs.env.fixed_value.Given as goal
+use Rattle.gn_kept.proofs.scopes.fixed_value.Given as goal
 
 abbrev pub invariant-loop-scope : goal.invariant-loop-scope
 invariant-loop-scope l =

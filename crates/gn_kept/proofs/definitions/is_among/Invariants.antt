@@ -1,7 +1,7 @@
 use Rattle.std.proofs.Common.{◌≡◌, drop}
 use Rattle.std.specs.List.{list_any}
 use Rattle.gn_environment.specs.Templates.{same_place}
-use Rattle.gn_env.proofs.templates.is_among.Given as goal
+use Rattle.gn_kept.proofs.definitions.is_among.Given as goal
 
 abbrev pub invariant-loop-other : goal.invariant-loop-other
 invariant-loop-other l =

@@ -1,7 +1,7 @@
 use Rattle.std.proofs.Common.{◌≡◌, map, drop}
 use Rattle.gn_values.specs.Imported.{ScopeState}
 use Rattle.gn_environment.specs.Templates.{defaults_among}
-use Rattle.gn_env.proofs.templates.defaults_in_scopes.Given as goal
+use Rattle.gn_kept.proofs.defaults.defaults_in_scopes.Given as goal
 
 abbrev pub invariant-loop-scope : goal.invariant-loop-scope
 invariant-loop-scope l =
