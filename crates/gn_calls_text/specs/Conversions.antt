@@ -1,16 +1,16 @@
 -- What `read_file` makes of the content of a file, by the name of the conversion.
-use Rattle.std.specs.Prelude.{ℕ, ◌-◌, if◌then◌else◌, List, [], ◌∷◌, take, drop, length, Option, Some, None, codes}
+use Rattle.std.specs.Prelude.{ℕ, ◌-◌, Bool, true, false, if◌then◌else◌, List, [], ◌∷◌, take, drop, length, Option, Some, None, codes}
 use Rattle.std.specs.List.{filter, prefix_len, suffix_len}
 use Rattle.std.specs.Str.{bytes_eq}
 use Rattle.gn_calls_text.specs.declared.conversions.Conversion.{Conversion}
-use Rattle.gn_calls_text.specs.declared.conversions.Conversion.TheVariants.{Nothing, Of}
+use Rattle.gn_calls_text.specs.declared.conversions.Conversion.TheVariants.{Nothing, Of, Evaluated}
 use Rattle.gn_calls_text.specs.declared.conversions.Form.{Form}
 use Rattle.gn_calls_text.specs.declared.conversions.Form.TheVariants.{Whole, Trimmed, Lines, TrimmedLines}
 use Rattle.gn_calls_text.specs.Answers.{Settled, text_answer, list_answer}
 use Rattle.gn_calls_text.specs.Calls.{text_list}
 use Rattle.gn_calls_text.specs.Pieces.{is_white_space, is_filled, split_by}
 
--- the conversion of this name
+-- the conversion of this name. White space at the ends of an expression is no part of it, so to trim it first changes nothing
 unfoldable pub conversion_of : List ℕ → Option Conversion
 conversion_of name =
     if bytes_eq name (codes "") then Some Nothing
@@ -18,7 +18,15 @@ conversion_of name =
     else if bytes_eq name (codes "list lines") then Some (Of Lines)
     else if bytes_eq name (codes "trim string") then Some (Of Trimmed)
     else if bytes_eq name (codes "trim list lines") then Some (Of TrimmedLines)
+    else if bytes_eq name (codes "value") then Some Evaluated
+    else if bytes_eq name (codes "trim value") then Some Evaluated
     else None
+
+-- whether the content is evaluated
+abbrev pub is_evaluated : Conversion → Bool
+is_evaluated Nothing = false
+is_evaluated (Of form) = false
+is_evaluated Evaluated = true
 
 -- a text without the white space at its end, and without that at both its ends
 abbrev pub trimmed_behind : List ℕ → List ℕ

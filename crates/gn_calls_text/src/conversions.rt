@@ -7,7 +7,7 @@ ghost use Rattle.gn_values.specs.Val.{vstr, vlist, vals_of};
 ghost use Rattle.gn_values.specs.View.{val_of};
 ghost use Rattle.gn_calls_text.specs.Answers.{text_answer, list_answer};
 ghost use Rattle.gn_calls_text.specs.Calls.{text_list};
-ghost use Rattle.gn_calls_text.specs.Conversions.{conversion_of, trimmed_behind, trimmed, lines_in, lines_of, converted};
+ghost use Rattle.gn_calls_text.specs.Conversions.{conversion_of, is_evaluated, trimmed_behind, trimmed, lines_in, lines_of, converted};
 ghost use Rattle.gn_calls_text.specs.Pieces.{is_white_space, is_filled, cut};
 ghost use Rattle.gn_calls_text.specs.Views.{Settles, IsOver};
 
@@ -40,6 +40,8 @@ pub enum Conversion {
     Nothing,
     /// A value in this form.
     Of(Form),
+    /// `value` and `trim value`: what the expression comes to that it is. White space at its ends is no part of an expression.
+    Evaluated,
 }
 
 impl Conversion {
@@ -58,8 +60,22 @@ impl Conversion {
             Some(Conversion::Of(Form::Trimmed))
         } else if name == b"trim list lines".as_slice() {
             Some(Conversion::Of(Form::TrimmedLines))
+        } else if name == b"value".as_slice() {
+            Some(Conversion::Evaluated)
+        } else if name == b"trim value".as_slice() {
+            Some(Conversion::Evaluated)
         } else {
             None
+        }
+    }
+
+    /// Whether the content is evaluated. It takes no memory.
+    pub fn is_evaluated(self) -> bool
+        ensures { result ≡ is_evaluated self }
+    {
+        match self {
+            Conversion::Nothing | Conversion::Of(_) => false,
+            Conversion::Evaluated => true,
         }
     }
 }

@@ -9,10 +9,10 @@ use Rattle.gn_functions.specs.declared.function.TargetKind.{TargetKind}
 use Rattle.gn_functions.specs.declared.function.TargetKind.TheVariants.{Built, NotBuilt, NoKind}
 use Rattle.gn_functions.specs.declared.function.Named.{Named}
 use Rattle.gn_functions.specs.declared.function.Named.TheVariants.{Function as OfFunction, Excluded, Unknown}
-use Rattle.gn_functions.specs.declared.function.Function.TheVariants.{Plain as OfPlain, Changing, Opening, Defined, Foreach}
+use Rattle.gn_functions.specs.declared.function.Function.TheVariants.{Plain as OfPlain, Changing, Opening, Defined, Foreach, ReadFile}
 use Rattle.gn_functions.specs.declared.function.Plain.{Plain}
 use Rattle.gn_functions.specs.declared.function.Plain.TheVariants.{Assert, Print, WriteFile, Text, Path}
-use Rattle.gn_functions.specs.declared.function.Changing.TheVariants.{Import, Template, ForwardVariablesFrom, NotNeeded, ReadFile}
+use Rattle.gn_functions.specs.declared.function.Changing.TheVariants.{Import, Template, ForwardVariablesFrom, NotNeeded}
 use Rattle.gn_functions.specs.declared.function.Opening.TheVariants.{Item, Target, SetDefaults}
 
 -- the functions of GN that are left out: those that the profile leaves out for good, and those that aren't built yet
@@ -68,7 +68,7 @@ other_function_of name =
     else if bytes_eq name (codes "set_defaults") then OfFunction (Opening SetDefaults)
     else if bytes_eq name (codes "forward_variables_from") then OfFunction (Changing ForwardVariablesFrom)
     else if bytes_eq name (codes "not_needed") then OfFunction (Changing NotNeeded)
-    else if bytes_eq name (codes "read_file") then OfFunction (Changing ReadFile)
+    else if bytes_eq name (codes "read_file") then OfFunction ReadFile
     else if list_any (bytes_eq name) excluded_names then Excluded
     else Unknown
 

@@ -24,7 +24,7 @@ pub enum Plain {
     Path(PathCall),
 }
 
-/// A function that needs the values of its arguments and changes where it stands, or asks for the content of a file.
+/// A function that needs the values of its arguments and changes where it stands.
 #[derive(Clone, Copy, Debug, PartialEq, Eq)]
 pub enum Changing {
     /// `import`
@@ -35,8 +35,6 @@ pub enum Changing {
     ForwardVariablesFrom,
     /// `not_needed`
     NotNeeded,
-    /// `read_file`
-    ReadFile,
 }
 
 /// A function that opens a scope, in which its block runs.
@@ -55,7 +53,7 @@ pub enum Opening {
 pub enum Function {
     /// A function that needs nothing but the values of its arguments and where it stands.
     Plain(Plain),
-    /// A function that needs the values of its arguments and changes where it stands, or asks for the content of a file.
+    /// A function that needs the values of its arguments and changes where it stands.
     Changing(Changing),
     /// A function that opens a scope, in which its block runs.
     Opening(Opening),
@@ -63,6 +61,8 @@ pub enum Function {
     Defined,
     /// `foreach`, whose block runs for each item of a list
     Foreach,
+    /// `read_file`, which asks for the content of a file and may evaluate it
+    ReadFile,
 }
 
 /// What a name calls.
@@ -204,7 +204,7 @@ fn other_function_of(name: &[u8]) -> Named
     } else if name == b"not_needed".as_slice() {
         Named::Function(Function::Changing(Changing::NotNeeded))
     } else if name == b"read_file".as_slice() {
-        Named::Function(Function::Changing(Changing::ReadFile))
+        Named::Function(Function::ReadFile)
     } else if is_excluded(name) {
         Named::Excluded
     } else {

@@ -91,12 +91,12 @@ impl Function {
             Function::Changing(Changing::Template) => with_block(1, Allowed::Everywhere),
             Function::Changing(Changing::ForwardVariablesFrom) => without_block(2, Some(3)),
             Function::Changing(Changing::NotNeeded) => without_block(1, Some(3)),
-            Function::Changing(Changing::ReadFile) => without_block(2, Some(2)),
             Function::Opening(Opening::Item(_)) => with_block(1, Allowed::WhereItems),
             Function::Opening(Opening::Target) => with_block(2, Allowed::Everywhere),
             Function::Opening(Opening::SetDefaults) => with_block(1, Allowed::Everywhere),
             Function::Defined => without_block(1, Some(1)),
             Function::Foreach => with_block(2, Allowed::Everywhere),
+            Function::ReadFile => without_block(2, Some(2)),
         }
     }
 }

@@ -3,6 +3,7 @@ use Rattle.std.proofs.Common.{ℕ, ◌+◌, Bool, true, false, ◌&&◌, nat_lt,
 use Rattle.gn_tree.specs.declared.position.Position.{Position}
 use Rattle.gn_tree.specs.declared.tree.Call.{Call}
 use Rattle.gn_tree.specs.Counts.{expr_count}
+use Rattle.gn_tree.specs.Tree.{ExprTree}
 use Rattle.gn_values.specs.Imported.{DefinitionState}
 use Rattle.gn_runs.specs.Runs.{Answers}
 use Rattle.gn_environment.specs.Templates.{template_of}
@@ -15,13 +16,14 @@ use Rattle.gn_meaning.specs.OpeningCalls.{of_template, of_function}
 use Rattle.gn_meaning.specs.FunctionCalls.{allowed_here, ruled_runs, named_runs, accepted_runs, template_accepted_runs, Parts, given_runs, changing_runs, function_runs, built_in_runs, template_called_runs, template_or_built_in, called_runs}
 use Rattle.gn_functions.specs.declared.rule.Rule.{Rule}
 use Rattle.gn_functions.specs.declared.function.Function.{Function}
-use Rattle.gn_functions.specs.declared.function.Function.TheVariants.{Plain, Changing as OfChanging, Opening, Defined, Foreach}
+use Rattle.gn_functions.specs.declared.function.Function.TheVariants.{Plain, Changing as OfChanging, Opening, Defined, Foreach, ReadFile}
 use Rattle.gn_functions.specs.declared.function.Changing.{Changing}
 use Rattle.gn_functions.specs.declared.function.Named.{Named}
 use Rattle.gn_functions.specs.declared.function.Named.TheVariants.{Function as OfFunction, Excluded, Unknown}
 use Rattle.gn_meaning.proofs.Steps.{AreQuiet, AreTrees, tree_do, tree_ends, tree_fails, tree_if}
 use Rattle.gn_meaning.proofs.Templates.{opened_tree}
 use Rattle.gn_meaning.proofs.PlainTrees.{plain_tree}
+use Rattle.gn_meaning.proofs.Contents.{read_file_tree}
 use Rattle.gn_meaning.proofs.ChangingTrees.{changed_tree}
 use Rattle.gn_meaning.proofs.OpeningTrees.{BodiesAreTrees, opening_tree}
 
@@ -53,6 +55,7 @@ pub record PartsAreTrees (parts : Answers → Parts) : Type 0 where
   pub tests : AreTrees (λ a. (parts a).tests)
   pub loops : AreTrees (λ a. (parts a).loops)
   pub block : AreTrees (λ a. (parts a).block)
+  pub reads : (e : ExprTree) → AreTrees (λ a. (parts a).reads e)
 
 module _ (body : Answers → DefinitionState → Position → Steps (Unit {0})) (b : BodiesAreTrees body) (n inside : ℕ) (call : Call) (parts : Answers → Parts) (t : PartsAreTrees parts) where
   given_tree : (invoker : Bool) → AreTrees (λ a. given_runs invoker (parts a))
@@ -71,6 +74,8 @@ module _ (body : Answers → DefinitionState → Position → Steps (Unit {0})) 
   function_tree (Opening f) env out = opening_tree body b (λ a. (parts a).block) t.block (of_function f) n call (λ a. (parts a).values) t.values env out
   function_tree Defined env out = t.tests env out
   function_tree Foreach env out = t.loops env out
+  function_tree ReadFile env out =
+      tree_do _ _ (t.values env out) (λ vs env1 out1. read_file_tree (λ a. (parts a).reads) t.reads vs n call env1 out1)
 
   built_in_tree : AreTrees (λ a. built_in_runs a (body a) n inside call (parts a))
   unfolding built_in_runs

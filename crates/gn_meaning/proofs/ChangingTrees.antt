@@ -4,24 +4,23 @@ use Rattle.gn_tree.specs.declared.tree.Call.{Call}
 use Rattle.gn_tree.specs.Tree.{BlockTree}
 use Rattle.gn_values.specs.Val.{Val}
 use Rattle.gn_meaning.specs.Arguments.{at_argument}
-use Rattle.gn_meaning.specs.Selections.{Source}
+use Rattle.gn_meaning.specs.Selections.{FirstArgument}
 use Rattle.gn_meaning.specs.ChangingCalls.{source_and_rest, forwarding_runs, unneeded_runs, importing_runs, defining_runs, changed_runs}
 use Rattle.gn_functions.specs.declared.function.Changing.{Changing}
-use Rattle.gn_functions.specs.declared.function.Changing.TheVariants.{Import, Template, ForwardVariablesFrom, NotNeeded, ReadFile}
+use Rattle.gn_functions.specs.declared.function.Changing.TheVariants.{Import, Template, ForwardVariablesFrom, NotNeeded}
 use Rattle.gn_meaning.proofs.Steps.{AreQuiet, AreTrees, tree_fails}
 use Rattle.gn_meaning.proofs.Imports.{imported_tree}
-use Rattle.gn_meaning.proofs.Contents.{reading_tree}
 use Rattle.gn_meaning.proofs.Templates.{template_defined_tree}
 use Rattle.gn_meaning.proofs.Selections.{forwarded_tree, unneeded_one_tree, unneeded_two_tree, unneeded_three_tree}
 
-forwarding_tree : (given : Option (Source × List Val)) (call : Call) → AreQuiet (forwarding_runs given call)
+forwarding_tree : (given : Option (FirstArgument × List Val)) (call : Call) → AreQuiet (forwarding_runs given call)
 unfolding forwarding_runs
 forwarding_tree (Some (source, names ∷ [])) call env out = forwarded_tree source names None (at_argument call 0) (at_argument call 1) call.position call.name env out
 forwarding_tree (Some (source, names ∷ except ∷ [])) call env out =
     forwarded_tree source names (Some (except, at_argument call 2)) (at_argument call 0) (at_argument call 1) call.position call.name env out
 forwarding_tree given call env out = tree_fails _ out
 
-unneeded_tree : (given : Option (Source × List Val)) (call : Call) → AreQuiet (unneeded_runs given call)
+unneeded_tree : (given : Option (FirstArgument × List Val)) (call : Call) → AreQuiet (unneeded_runs given call)
 unfolding unneeded_runs
 unneeded_tree (Some (source, [])) call env out = unneeded_one_tree source (at_argument call 0) call.position call.name env out
 unneeded_tree (Some (source, v ∷ [])) call env out = unneeded_two_tree source v (at_argument call 0) (at_argument call 1) call.position call.name env out
@@ -44,4 +43,3 @@ changed_tree Import invoker vs call n env out = importing_tree vs call env out
 changed_tree Template invoker vs call n env out = defining_tree vs call.block call n env out
 changed_tree ForwardVariablesFrom invoker vs call n env out = forwarding_tree (source_and_rest invoker vs) call env out
 changed_tree NotNeeded invoker vs call n env out = unneeded_tree (source_and_rest invoker vs) call env out
-changed_tree ReadFile invoker vs call n env out = reading_tree vs call env out

@@ -12,7 +12,7 @@ use Rattle.gn_runs.specs.Runs.{Answers}
 use Rattle.gn_environment.specs.Environment.{Environment, entered}
 use Rattle.gn_meaning.specs.Steps.{Steps, deeper}
 use Rattle.gn_meaning.specs.Words.{operated}
-use Rattle.gn_meaning.specs.Meaning.{operator_runs, truth_runs, picked_runs, operators_in, call_in, expr_runs, values_run, others_run, call_runs, body_runs, defined_runs, foreach_runs, assignment_runs, statement_runs, condition_runs, otherwise_runs, block_runs, calls, world}
+use Rattle.gn_meaning.specs.Meaning.{operator_runs, truth_runs, picked_runs, operators_in, call_in, expr_runs, values_run, others_run, call_runs, body_runs, defined_runs, foreach_runs, assignment_runs, statement_runs, condition_runs, otherwise_runs, block_runs, calls, reads, world}
 use Rattle.gn_meaning.proofs.Steps.{IsTreeBehind, AreQuiet, AreTrees, tree_do, tree_ends, tree_fails}
 use Rattle.gn_meaning.proofs.Words.{value_tree, name_tree, element_tree, base_tree, negation_tree, boolean_tree, list_tree, scope_tree, string_tree, name_assigned_tree, element_changed_tree, pieces_tree}
 use Rattle.gn_meaning.proofs.Calls.{has_entry_tree, has_value_tree, loop_tree, call_value_tree}
@@ -37,12 +37,12 @@ picked_tree : (holds : Bool) (first second : Answers → Steps (Unit {0})) → A
 picked_tree true first second t u env out = t env out
 picked_tree false first second t u env out = u env out
 
--- Where so many calls of templates may open, and those that may open in them are trees
-module _ (room : ℕ) (c : BodiesAreTrees (calls room)) where
+-- Where so many calls may open, and those that may open in them are trees
+module _ (room : ℕ) (c : BodiesAreTrees (calls room)) (r : (e : ExprTree) → AreTrees (λ a. reads room a e)) where
   mutual
     unfolding expr_runs
 
-    expr_tree : (n : ℕ) (e : ExprTree) (env : Environment) (out : Effects) → IsTreeBehind out.asked (λ a. expr_runs (world room a) n e env out)
+    pub expr_tree : (n : ℕ) (e : ExprTree) (env : Environment) (out : Effects) → IsTreeBehind out.asked (λ a. expr_runs (world room a) n e env out)
     expr_tree n (name_expr p m) env out = name_tree m p env out
     expr_tree n (integer_expr p v) env out = tree_ends _ env out
     expr_tree n (string_expr p pieces) env out = tree_do _ _ (pieces_tree pieces [] env out) (λ text env1 out1. string_tree text p env1 out1)
@@ -75,6 +75,7 @@ module _ (room : ℕ) (c : BodiesAreTrees (calls room)) where
           tests = λ en ou. defined_tree (deeper n 1) es p name en ou;
           loops = λ en ou. foreach_tree (deeper n 1) es p name _ (λ e o. body_tree (deeper n 1) body e o) en ou;
           block = λ en ou. body_tree (deeper n 1) body en ou;
+          reads = r;
         }) env out
 
     body_tree : (n : ℕ) (body : BodyTree) (env : Environment) (out : Effects) → IsTreeBehind out.asked (λ a. body_runs (world room a) n body env out)
@@ -119,8 +120,14 @@ module _ (room : ℕ) (c : BodiesAreTrees (calls room)) where
     block_tree n no_statements env out = tree_ends tt env out
     block_tree n (statement_then s b) env out = tree_do _ _ (statement_tree n s env out) (λ _ env1 out1. block_tree n b env1 out1)
 
--- the bodies of templates, however many calls may still open
-pub calls_tree : (room : ℕ) → BodiesAreTrees (calls room)
-unfolding calls
-calls_tree zero definition p env out = tree_fails _ out
-calls_tree (suc room) definition p env out = block_tree room (calls_tree room) definition.nesting definition.block env out
+-- the bodies of templates and expressions that are read, however many calls may still open
+mutual
+  unfolding calls
+
+  pub calls_tree : (room : ℕ) → BodiesAreTrees (calls room)
+  calls_tree zero definition p env out = tree_fails _ out
+  calls_tree (suc room) definition p env out = block_tree room (calls_tree room) (reads_tree room) definition.nesting definition.block env out
+
+  pub reads_tree : (room : ℕ) (e : ExprTree) → AreTrees (λ a. reads room a e)
+  reads_tree zero e env out = tree_fails _ out
+  reads_tree (suc room) e env out = expr_tree room (calls_tree room) (reads_tree room) 0 e env out

@@ -26,8 +26,8 @@ use Rattle.gn_environment.specs.Environment.{Environment, value_of}
 use Rattle.gn_functions.specs.Functions.{excluded_names, excluded_kinds, plain_of, other_function_of, plain_or_other, function_of, target_kind_of}
 use Rattle.gn_meaning.specs.Items.{context_here, item_made, defined}
 use Rattle.gn_meaning.specs.ItemLaws.{may_be_strings, GroupsAreTheirDeps, CallsAreOfGroups, TargetsAreGroups}
-use Rattle.gn_functions.specs.declared.function.Changing.TheVariants.{Import, Template, ForwardVariablesFrom, NotNeeded, ReadFile}
-use Rattle.gn_functions.specs.declared.function.Function.TheVariants.{Changing, Opening, Defined, Foreach}
+use Rattle.gn_functions.specs.declared.function.Changing.TheVariants.{Import, Template, ForwardVariablesFrom, NotNeeded}
+use Rattle.gn_functions.specs.declared.function.Function.TheVariants.{Changing, Opening, Defined, Foreach, ReadFile}
 use Rattle.gn_functions.specs.declared.function.Named.TheVariants.{Function as OfFunction, Excluded, Unknown}
 use Rattle.gn_functions.specs.declared.function.Opening.TheVariants.{Item as ItemCall, Target, SetDefaults}
 use Rattle.gn_functions.specs.declared.function.Plain.{Plain as PlainCall}
@@ -71,7 +71,7 @@ called : (b1 b2 b3 b4 b5 b6 b7 b8 b9 b10 b11 : Bool) (kind : ItemKind)
     → (if b1 then OfFunction Defined else if b2 then OfFunction Foreach else if b3 then OfFunction (Opening (ItemCall Group))
     else if b4 then OfFunction (Changing Import) else if b5 then OfFunction (Changing Template) else if b6 then OfFunction (Opening Target)
     else if b7 then OfFunction (Opening SetDefaults) else if b8 then OfFunction (Changing ForwardVariablesFrom)
-    else if b9 then OfFunction (Changing NotNeeded) else if b10 then OfFunction (Changing ReadFile) else if b11 then Excluded else Unknown)
+    else if b9 then OfFunction (Changing NotNeeded) else if b10 then OfFunction ReadFile else if b11 then Excluded else Unknown)
     ≡ OfFunction (Opening (ItemCall kind)) → kind ≡ Group
 called true b2 b3 b4 b5 b6 b7 b8 b9 b10 b11 kind h = absurd cc
 called false true b3 b4 b5 b6 b7 b8 b9 b10 b11 kind h = absurd cc

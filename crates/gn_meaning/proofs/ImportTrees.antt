@@ -8,11 +8,11 @@ use Rattle.gn_meaning.specs.Meaning.{whole_block_runs, file_runs, import_file_ru
 use Rattle.gn_meaning.specs.Laws.{unasked, Evaluation, of_block, of_file, meaning_of, ImportsAreTrees}
 use Rattle.gn_meaning.proofs.Steps.{IsTreeBehind, whole_tree, tree_do, tree_ends}
 use Rattle.gn_meaning.proofs.Calls.{checked_tree}
-use Rattle.gn_meaning.proofs.Evaluations.{block_tree, calls_tree}
+use Rattle.gn_meaning.proofs.Evaluations.{block_tree, calls_tree, reads_tree}
 
 pub whole_block_tree : (b : BlockTree) (env : Environment) (out : Effects) → IsTreeBehind out.asked (λ a. whole_block_runs a b env out)
 unfolding whole_block_runs
-whole_block_tree b env out = block_tree max_evaluation_depth (calls_tree max_evaluation_depth) 0 b env out
+whole_block_tree b env out = block_tree max_evaluation_depth (calls_tree max_evaluation_depth) (reads_tree max_evaluation_depth) 0 b env out
 
 pub file_tree : (b : BlockTree) (env : Environment) (out : Effects) → IsTreeBehind out.asked (λ a. file_runs a b env out)
 unfolding file_runs

@@ -19,13 +19,14 @@ use Rattle.gn_meaning.specs.ChangingCalls.{begins_with_invoker}
 use Rattle.gn_meaning.specs.OpeningCalls.{of_template, of_function}
 use Rattle.gn_meaning.specs.FunctionCalls.{allowed_here, ruled_runs, named_runs, accepted_runs, template_accepted_runs, Parts, given_runs, changing_runs, function_runs, built_in_runs, template_called_runs, template_or_built_in, called_runs}
 use Rattle.gn_functions.specs.declared.function.Function.{Function}
-use Rattle.gn_functions.specs.declared.function.Function.TheVariants.{Plain, Changing as OfChanging, Opening, Defined, Foreach}
+use Rattle.gn_functions.specs.declared.function.Function.TheVariants.{Plain, Changing as OfChanging, Opening, Defined, Foreach, ReadFile}
 use Rattle.gn_functions.specs.declared.function.Changing.{Changing}
 use Rattle.gn_functions.specs.declared.function.Opening.TheVariants.{Item as ItemCall, Target, SetDefaults}
 use Rattle.gn_functions.specs.declared.function.Named.{Named}
 use Rattle.gn_functions.specs.declared.function.Named.TheVariants.{Function as OfFunction, Excluded, Unknown}
 use Rattle.gn_meaning.proofs.Ends.{Ends, Leaves, Keep, ends_do, moved, keep_do, fails_so, so_if}
 use Rattle.gn_meaning.proofs.KeptBySteps.{plain_keeps}
+use Rattle.gn_meaning.proofs.Contents.{read_file_keeps}
 use Rattle.gn_meaning.proofs.KeptBySelections.{changed_keeps}
 use Rattle.gn_meaning.proofs.KeptByOpenings.{Before, BodiesKeep, nothing_open, opening_leaves}
 
@@ -36,6 +37,7 @@ IsReady s (OfChanging f) env = surroundings env ≡ s
 IsReady s (Opening f) env = Before (of_function f) s env
 IsReady s Defined env = surroundings env ≡ s
 IsReady s Foreach env = surroundings env ≡ s
+IsReady s ReadFile env = surroundings env ≡ s
 
 abbrev pub IsAccepted : Environment → Left Function → Type 0
 IsAccepted s l = IsReady s l.value l.environment
@@ -49,6 +51,7 @@ allowed_is_ready (Opening Target) env h = refl
 allowed_is_ready (Opening SetDefaults) env h = refl
 allowed_is_ready Defined env h = refl
 allowed_is_ready Foreach env h = refl
+allowed_is_ready ReadFile env h = refl
 
 ruled_so : (f : Function) (n : ℕ) (call : Call) (env : Environment) (out : Effects) → Ends (IsAccepted (surroundings env)) (ruled_runs f (rule_of f) n call env out)
 unfolding ruled_runs
@@ -99,6 +102,7 @@ module _ (answers : Answers) (body : DefinitionState → Position → Steps (Uni
   function_leaves s (Opening f) env out r = opening_leaves body b parts.block t.block s (of_function f) n call parts.values t.values env out r
   function_leaves s Defined env out r = moved r (t.tests env out)
   function_leaves s Foreach env out r = moved r (t.loops env out)
+  function_leaves s ReadFile env out r = moved r (keep_do _ _ (t.values env out) (λ vs env1 out1. read_file_keeps answers parts.reads vs n call env1 out1))
 
   built_in_keeps : Keep (built_in_runs answers body n inside call parts)
   unfolding built_in_runs

@@ -9,7 +9,7 @@ use Rattle.gn_items.specs.declared.item.Item.{Item}
 use Rattle.gn_rows.specs.declared.kinds.ItemKind.{ItemKind}
 use Rattle.gn_rows.specs.declared.row.Row.{Row}
 use Rattle.gn_rows.specs.declared.variable.Variable.{Variable}
-use Rattle.gn_rows.specs.Names.{name_of}
+use Rattle.gn_rows.specs.Names.{variable_name}
 use Rattle.gn_rows.specs.Tables.{built_rows_of}
 use Rattle.gn_define.specs.declared.fault.ItemFault.{ItemFault}
 use Rattle.gn_define.specs.Held.{Held}
@@ -137,7 +137,7 @@ IsDefinedAround env r = IfOk r (λ d. surroundings d.1 ≡ surroundings env)
 
 rows_read_keep : (rows : List Row) (env : Environment) → surroundings (rows_read rows env) ≡ surroundings env
 rows_read_keep [] env = refl
-rows_read_keep (row ∷ rows) env = rows_read_keep rows (after_read (name_of row.variable) env) ∙ read_keeps (name_of row.variable) env
+rows_read_keep (row ∷ rows) env = rows_read_keep rows (after_read (variable_name row.variable) env) ∙ read_keeps (variable_name row.variable) env
 
 made_keeps : (kind : ItemKind) (name : List ℕ) (p : Position) (env : Environment) (r : Result (List (Variable × Held)) ItemFault) → IsDefinedAround env (item_made kind name p env r)
 made_keeps kind name p env (Ok fields) = rows_read_keep (built_rows_of kind) env

@@ -7,7 +7,7 @@ use Rattle.gn_environment.specs.Environment.{Environment}
 use Rattle.gn_environment.specs.Forwarding.{Origin, from_entries, from_invoker, names_forwarded}
 use Rattle.gn_environment.specs.Invoker.{forwards_outer_invoker, outer_invoker_entries}
 use Rattle.gn_meaning.specs.Steps.{Steps}
-use Rattle.gn_meaning.specs.Selections.{Source, the_invoker, a_value, Selection, every_name, listed_names, other_text, no_names, strings_of, selection_of, excepting_runs, excepted_runs, selected_runs, forwarded_to, names_forwarded_runs, outer_invoker_runs, outer_invoker_forwarded_runs, invoker_forwarded_runs, listed_forwarded_runs, origin_forwarded_runs, forwarded_runs, unneeded_here_runs, unneeded_at_invoker_runs, unneeded_in_value_runs, unneeded_one_runs, unneeded_two_runs, unneeded_three_runs}
+use Rattle.gn_meaning.specs.Selections.{FirstArgument, the_invoker, a_value, Selection, every_name, listed_names, other_text, no_names, strings_of, selection_of, excepting_runs, excepted_runs, selected_runs, forwarded_to, names_forwarded_runs, outer_invoker_runs, outer_invoker_forwarded_runs, invoker_forwarded_runs, listed_forwarded_runs, origin_forwarded_runs, forwarded_runs, unneeded_here_runs, unneeded_at_invoker_runs, unneeded_in_value_runs, unneeded_one_runs, unneeded_two_runs, unneeded_three_runs}
 use Rattle.gn_paths.specs.declared.error.PathFault.{PathFault}
 use Rattle.gn_paths.specs.Components.{is_system}
 use Rattle.gn_paths.specs.Resolve.{path_meant}
@@ -25,8 +25,7 @@ use Rattle.gn_meaning.specs.Imports.{merged_to, content_runs, path_runs, importe
 use Rattle.gn_meaning.specs.Templates.{template_defined_runs}
 use Rattle.gn_meaning.specs.ChangingCalls.{source_and_rest, forwarding_runs, unneeded_runs, importing_runs, defining_runs, changed_runs}
 use Rattle.gn_functions.specs.declared.function.Changing.{Changing}
-use Rattle.gn_functions.specs.declared.function.Changing.TheVariants.{Import, Template, ForwardVariablesFrom, NotNeeded, ReadFile}
-use Rattle.gn_meaning.proofs.Contents.{reading_keeps}
+use Rattle.gn_functions.specs.declared.function.Changing.TheVariants.{Import, Template, ForwardVariablesFrom, NotNeeded}
 use Rattle.gn_meaning.proofs.Ends.{Leaves, Keep, keep_do, keep_ends, fails_so, so_if, keep_asks_content, keep_asks_import}
 
 excepting_keeps : {A : Type 0} (names : Option (List (List ℕ))) (at : Position) (next : List (List ℕ) → Steps A) → ((except : List (List ℕ)) → Keep (next except)) → Keep (excepting_runs names at next)
@@ -75,7 +74,7 @@ origin_forwarded_keeps origin names last at p name env out =
     selected_keeps (selection_of names) last at p name _ _ (λ except env1 out1. keep_ends _ _ out1 (all_forwarded_keep origin except env1))
     (λ listed except env1 out1. listed_forwarded_keeps origin listed except p env1 out1) env out
 
-pub forwarded_keeps : (source : Source) (names : Val) (last : Option (Val × Position)) (source_at at p : Position) (name : List ℕ) → Keep (forwarded_runs source names last source_at at p name)
+pub forwarded_keeps : (source : FirstArgument) (names : Val) (last : Option (Val × Position)) (source_at at p : Position) (name : List ℕ) → Keep (forwarded_runs source names last source_at at p name)
 unfolding forwarded_runs
 forwarded_keeps the_invoker names last source_at at p name env out = origin_forwarded_keeps (from_invoker None) names last at p name env out
 forwarded_keeps (a_value (vscope bs)) names last source_at at p name env out = origin_forwarded_keeps (from_entries (entries_of bs)) names last at p name env out
@@ -95,19 +94,19 @@ in_value_keeps : (names : Val) (last : Option (Val × Position)) (at p : Positio
 in_value_keeps names last at p name env out =
     selected_keeps (selection_of names) last at p name _ _ (λ except env1 out1. keep_ends _ _ out1 refl) (λ listed except env1 out1. keep_ends _ _ out1 refl) env out
 
-pub unneeded_one_keeps : (source : Source) (at p : Position) (name : List ℕ) → Keep (unneeded_one_runs source at p name)
+pub unneeded_one_keeps : (source : FirstArgument) (at p : Position) (name : List ℕ) → Keep (unneeded_one_runs source at p name)
 unfolding unneeded_one_runs
 unneeded_one_keeps the_invoker at p name env out = fails_so _ out
 unneeded_one_keeps (a_value (vscope bs)) at p name env out = fails_so _ out
 unneeded_one_keeps (a_value v) at p name env out = here_keeps v None at p name env out
 
-pub unneeded_two_keeps : (source : Source) (second : Val) (first_at at p : Position) (name : List ℕ) → Keep (unneeded_two_runs source second first_at at p name)
+pub unneeded_two_keeps : (source : FirstArgument) (second : Val) (first_at at p : Position) (name : List ℕ) → Keep (unneeded_two_runs source second first_at at p name)
 unfolding unneeded_two_runs
 unneeded_two_keeps the_invoker second first_at at p name env out = at_invoker_keeps second None at p name env out
 unneeded_two_keeps (a_value (vscope bs)) second first_at at p name env out = in_value_keeps second None at p name env out
 unneeded_two_keeps (a_value v) second first_at at p name env out = here_keeps v (Some (second, at)) first_at p name env out
 
-pub unneeded_three_keeps : (source : Source) (names last : Val) (first_at at last_at p : Position) (name : List ℕ) → Keep (unneeded_three_runs source names last first_at at last_at p name)
+pub unneeded_three_keeps : (source : FirstArgument) (names last : Val) (first_at at last_at p : Position) (name : List ℕ) → Keep (unneeded_three_runs source names last first_at at last_at p name)
 unfolding unneeded_three_runs
 unneeded_three_keeps the_invoker names last first_at at last_at p name env out = at_invoker_keeps names (Some (last, last_at)) at p name env out
 unneeded_three_keeps (a_value (vscope bs)) names last first_at at last_at p name env out = in_value_keeps names (Some (last, last_at)) at p name env out
@@ -146,14 +145,14 @@ template_keeps v at p nesting block env out = fails_so _ out
 
 -- The calls
 
-forwarding_keeps : (given : Option (Source × List Val)) (call : Call) → Keep (forwarding_runs given call)
+forwarding_keeps : (given : Option (FirstArgument × List Val)) (call : Call) → Keep (forwarding_runs given call)
 unfolding forwarding_runs
 forwarding_keeps (Some (source, names ∷ [])) call env out = forwarded_keeps source names None (at_argument call 0) (at_argument call 1) call.position call.name env out
 forwarding_keeps (Some (source, names ∷ except ∷ [])) call env out =
     forwarded_keeps source names (Some (except, at_argument call 2)) (at_argument call 0) (at_argument call 1) call.position call.name env out
 forwarding_keeps given call env out = fails_so _ out
 
-unneeded_keeps : (given : Option (Source × List Val)) (call : Call) → Keep (unneeded_runs given call)
+unneeded_keeps : (given : Option (FirstArgument × List Val)) (call : Call) → Keep (unneeded_runs given call)
 unfolding unneeded_runs
 unneeded_keeps (Some (source, [])) call env out = unneeded_one_keeps source (at_argument call 0) call.position call.name env out
 unneeded_keeps (Some (source, v ∷ [])) call env out = unneeded_two_keeps source v (at_argument call 0) (at_argument call 1) call.position call.name env out
@@ -176,4 +175,3 @@ changed_keeps a Import invoker vs call n env out = importing_keeps a vs call env
 changed_keeps a Template invoker vs call n env out = defining_keeps vs call.block call n env out
 changed_keeps a ForwardVariablesFrom invoker vs call n env out = forwarding_keeps (source_and_rest invoker vs) call env out
 changed_keeps a NotNeeded invoker vs call n env out = unneeded_keeps (source_and_rest invoker vs) call env out
-changed_keeps a ReadFile invoker vs call n env out = reading_keeps a vs call env out

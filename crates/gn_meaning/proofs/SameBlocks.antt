@@ -10,7 +10,7 @@ use Rattle.gn_values.specs.Val.{Val, vbool, vlist, list_of}
 use Rattle.gn_runs.specs.Runs.{Answers}
 use Rattle.gn_environment.specs.Environment.{Environment, entered, restored, given}
 use Rattle.gn_meaning.specs.Steps.{Steps, World, deeper}
-use Rattle.gn_meaning.specs.Meaning.{operator_runs, picked_runs, operators_in, call_in, expr_runs, values_run, others_run, call_runs, body_runs, defined_runs, foreach_runs, assignment_runs, statement_runs, condition_runs, otherwise_runs, block_runs, calls, world}
+use Rattle.gn_meaning.specs.Meaning.{operator_runs, picked_runs, operators_in, call_in, expr_runs, values_run, others_run, call_runs, body_runs, defined_runs, foreach_runs, assignment_runs, statement_runs, condition_runs, otherwise_runs, block_runs, calls, reads, world}
 use Rattle.gn_values.specs.Imported.{DefinitionState}
 use Rattle.gn_environment.specs.Within.{IsWithin}
 use Rattle.gn_environment.proofs.Surroundings.{given_keeps, restored_keeps}
@@ -53,7 +53,7 @@ module _ (outermost inner : DefinitionState) (within : IsWithin outermost inner)
   -- Where so many calls of templates may open
   module _ (room : ℕ) (a : Answers) (others : DefinitionState → Position → Steps (Unit {0})) (same : AreTheSameBut outermost.place (calls room a) others) where
     abbrev there : World
-    there = record { answers = a; call = others }
+    there = record { answers = a; call = others; read = reads room a }
 
     abbrev here : World
     here = world room a
@@ -106,6 +106,7 @@ module _ (outermost inner : DefinitionState) (within : IsWithin outermost inner)
             tests = λ en ou e1. defined_same (deeper n 1) es p name en ou e1;
             loops = λ en ou e1. foreach_same (deeper n 1) es p name _ _ (λ en1 ou1. body_keeps room a (calls_keep room a) (deeper n 1) body en1 ou1) (λ en1 ou1 e2. body_same (deeper n 1) body en1 ou1 e2) en ou e1;
             block = λ en ou e1. body_same (deeper n 1) body en ou e1;
+            reads = refl;
           }) env out e
 
       body_same : (n : ℕ) (body : BodyTree) → Same (body_runs here n body) (body_runs there n body)

@@ -2,6 +2,7 @@
 use Rattle.std.proofs.Common.{◌≡◌, ℕ, Bool, true, false, nat_lt, List, [], ◌∷◌, Option, Some, None, refl, ap, ◌∙◌}
 use Rattle.gn_tree.specs.declared.position.Position.{Position}
 use Rattle.gn_tree.specs.declared.tree.Call.{Call}
+use Rattle.gn_tree.specs.Tree.{ExprTree}
 use Rattle.gn_values.specs.Val.{Val, vstr}
 use Rattle.gn_values.specs.Imported.{DefinitionState}
 use Rattle.gn_items.specs.Effects.{Effects}
@@ -19,11 +20,12 @@ use Rattle.gn_meaning.specs.Templates.{opened_depth, allows_items}
 use Rattle.gn_functions.specs.Functions.{target_kind_of}
 use Rattle.gn_meaning.specs.ChangingCalls.{begins_with_invoker, changed_runs}
 use Rattle.gn_meaning.specs.PlainCalls.{plain_runs}
+use Rattle.gn_meaning.specs.Contents.{read_file_runs}
 use Rattle.gn_meaning.specs.OpeningCalls.{Opener, of_template, of_function, Opened, opened_item, opened_template, opened_defaults, template_begun_runs, item_begun_runs, template_named_runs, item_named_runs, target_kind_runs, target_of_runs, target_runs, defaults_begun_runs, begun_runs, body_run, closed_runs, opened_call_runs, valued_runs, opening_runs}
 use Rattle.gn_meaning.specs.FunctionCalls.{accepted_runs, template_accepted_runs, Parts, given_runs, changing_runs, function_runs, built_in_runs, template_called_runs, template_or_built_in, called_runs}
 use Rattle.gn_meaning.specs.TemplateLaws.{AreTheSameBut}
 use Rattle.gn_functions.specs.declared.function.Function.{Function}
-use Rattle.gn_functions.specs.declared.function.Function.TheVariants.{Plain, Changing as OfChanging, Opening, Defined, Foreach}
+use Rattle.gn_functions.specs.declared.function.Function.TheVariants.{Plain, Changing as OfChanging, Opening, Defined, Foreach, ReadFile}
 use Rattle.gn_functions.specs.declared.function.Changing.{Changing}
 use Rattle.gn_functions.specs.declared.function.Opening.TheVariants.{Item as ItemCall, Target, SetDefaults}
 use Rattle.gn_functions.specs.declared.function.TargetKind.{TargetKind}
@@ -167,6 +169,7 @@ module _ (outermost inner : DefinitionState) (w : IsWithin outermost inner) wher
     pub tests : AreSame parts.tests parts1.tests
     pub loops : AreSame parts.loops parts1.loops
     pub block : AreSame parts.block parts1.block
+    pub reads : parts.reads ≡ parts1.reads
 
   -- one behind another
   pub follow : {A B : Type 0} (env : Environment) → env.body ≡ Some inner → (m n : Run (Left A)) (f g : A → Environment → Effects → Run (Left B)) → m ≡ n → Leaves (surroundings env) m → ((x : A) → AreSame (f x) (g x)) → then_do m f ≡ then_do n g
@@ -215,6 +218,9 @@ module _ (outermost inner : DefinitionState) (w : IsWithin outermost inner) wher
           opening_same parts.block parts1.block t.block s.block (of_function f) n call parts.values parts1.values t.values s.values env0 env out tt e r
       function_same Defined env0 env out e r = s.tests env out (body_around env0 env r ∙ e)
       function_same Foreach env0 env out e r = s.loops env out (body_around env0 env r ∙ e)
+      function_same ReadFile env0 env out e r =
+          ap (λ (m : Run (Left (List Val))). then_do m (λ vs env1 out1. read_file_runs answers parts.reads vs n call env1 out1)) (s.values env out (body_around env0 env r ∙ e))
+          ∙ ap (λ (reads : ExprTree → Steps Val). then_do (parts1.values env out) (λ vs env1 out1. read_file_runs answers reads vs n call env1 out1)) s.reads
 
       built_in_same : AreSame (built_in_runs answers bodies n inside call parts) (built_in_runs answers others n inside call parts1)
       unfolding built_in_runs

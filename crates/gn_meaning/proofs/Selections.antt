@@ -7,7 +7,7 @@ use Rattle.gn_environment.specs.Environment.{Environment}
 use Rattle.gn_environment.specs.Forwarding.{Origin, from_entries, from_invoker, names_forwarded}
 use Rattle.gn_environment.specs.Invoker.{forwards_outer_invoker, outer_invoker_entries}
 use Rattle.gn_meaning.specs.Steps.{Steps}
-use Rattle.gn_meaning.specs.Selections.{Source, the_invoker, a_value, Selection, every_name, listed_names, other_text, no_names, strings_of, selection_of, excepting_runs, excepted_runs, selected_runs, forwarded_to, names_forwarded_runs, outer_invoker_runs, outer_invoker_forwarded_runs, invoker_forwarded_runs, listed_forwarded_runs, origin_forwarded_runs, forwarded_runs, unneeded_here_runs, unneeded_at_invoker_runs, unneeded_in_value_runs, unneeded_one_runs, unneeded_two_runs, unneeded_three_runs}
+use Rattle.gn_meaning.specs.Selections.{FirstArgument, the_invoker, a_value, Selection, every_name, listed_names, other_text, no_names, strings_of, selection_of, excepting_runs, excepted_runs, selected_runs, forwarded_to, names_forwarded_runs, outer_invoker_runs, outer_invoker_forwarded_runs, invoker_forwarded_runs, listed_forwarded_runs, origin_forwarded_runs, forwarded_runs, unneeded_here_runs, unneeded_at_invoker_runs, unneeded_in_value_runs, unneeded_one_runs, unneeded_two_runs, unneeded_three_runs}
 use Rattle.gn_meaning.proofs.Steps.{AreQuiet, tree_do, tree_ends, tree_fails, tree_if}
 
 excepting_tree : {A : Type 0} (names : Option (List (List ℕ))) (at : Position) (next : List (List ℕ) → Steps A) → ((except : List (List ℕ)) → AreQuiet (next except)) → AreQuiet (excepting_runs names at next)
@@ -54,7 +54,7 @@ origin_forwarded_tree origin names last at p name env out =
     selected_tree (selection_of names) last at p name _ _ (λ except env1 out1. tree_ends _ _ out1)
     (λ listed except env1 out1. listed_forwarded_tree origin listed except p env1 out1) env out
 
-pub forwarded_tree : (source : Source) (names : Val) (last : Option (Val × Position)) (source_at at p : Position) (name : List ℕ) → AreQuiet (forwarded_runs source names last source_at at p name)
+pub forwarded_tree : (source : FirstArgument) (names : Val) (last : Option (Val × Position)) (source_at at p : Position) (name : List ℕ) → AreQuiet (forwarded_runs source names last source_at at p name)
 unfolding forwarded_runs
 forwarded_tree the_invoker names last source_at at p name env out = origin_forwarded_tree (from_invoker None) names last at p name env out
 forwarded_tree (a_value (vscope bs)) names last source_at at p name env out = origin_forwarded_tree (from_entries (entries_of bs)) names last at p name env out
@@ -74,19 +74,19 @@ in_value_tree : (names : Val) (last : Option (Val × Position)) (at p : Position
 in_value_tree names last at p name env out =
     selected_tree (selection_of names) last at p name _ _ (λ except env1 out1. tree_ends _ _ out1) (λ listed except env1 out1. tree_ends _ _ out1) env out
 
-pub unneeded_one_tree : (source : Source) (at p : Position) (name : List ℕ) → AreQuiet (unneeded_one_runs source at p name)
+pub unneeded_one_tree : (source : FirstArgument) (at p : Position) (name : List ℕ) → AreQuiet (unneeded_one_runs source at p name)
 unfolding unneeded_one_runs
 unneeded_one_tree the_invoker at p name env out = tree_fails _ out
 unneeded_one_tree (a_value (vscope bs)) at p name env out = tree_fails _ out
 unneeded_one_tree (a_value v) at p name env out = here_tree v None at p name env out
 
-pub unneeded_two_tree : (source : Source) (second : Val) (first_at at p : Position) (name : List ℕ) → AreQuiet (unneeded_two_runs source second first_at at p name)
+pub unneeded_two_tree : (source : FirstArgument) (second : Val) (first_at at p : Position) (name : List ℕ) → AreQuiet (unneeded_two_runs source second first_at at p name)
 unfolding unneeded_two_runs
 unneeded_two_tree the_invoker second first_at at p name env out = at_invoker_tree second None at p name env out
 unneeded_two_tree (a_value (vscope bs)) second first_at at p name env out = in_value_tree second None at p name env out
 unneeded_two_tree (a_value v) second first_at at p name env out = here_tree v (Some (second, at)) first_at p name env out
 
-pub unneeded_three_tree : (source : Source) (names last : Val) (first_at at last_at p : Position) (name : List ℕ) → AreQuiet (unneeded_three_runs source names last first_at at last_at p name)
+pub unneeded_three_tree : (source : FirstArgument) (names last : Val) (first_at at last_at p : Position) (name : List ℕ) → AreQuiet (unneeded_three_runs source names last first_at at last_at p name)
 unfolding unneeded_three_runs
 unneeded_three_tree the_invoker names last first_at at last_at p name env out = at_invoker_tree names (Some (last, last_at)) at p name env out
 unneeded_three_tree (a_value (vscope bs)) names last first_at at last_at p name env out = in_value_tree names (Some (last, last_at)) at p name env out

@@ -11,8 +11,8 @@ use Rattle.gn_environment.specs.Environment.{Environment}
 use Rattle.gn_meaning.specs.Steps.{Left, Steps, ends, breaks, onward, then_do, content_asked, import_asked}
 
 -- a run behind questions that were asked before
-abbrev pub behind : {A : Type 0} → List Question → Run A → Run A
-behind asked run = record { end = run.end; asked = asked ++ run.asked }
+abbrev pub asked_before : {A : Type 0} → List Question → Run A → Run A
+asked_before asked run = record { end = run.end; asked = asked ++ run.asked }
 
 -- what is left has asked all that was asked
 abbrev pub HasAsked : {A : Type 0} → List Question → End (Left A) → Type 0
@@ -24,7 +24,7 @@ HasAsked asked (needs question place) = Unit {0}
 -- a run over known answers is a tree of questions behind those that were asked before
 pub record IsTreeBehind {A : Type 0} (asked : List Question) (meaning : Answers → Run (Left A)) : Type 0 where
   pub tree : Tree (Left A)
-  pub same : (a : Answers) → meaning a ≡ behind asked (run_tree tree a)
+  pub same : (a : Answers) → meaning a ≡ asked_before asked (run_tree tree a)
   pub noted : (a : Answers) → HasAsked (asked ++ (run_tree tree a).asked) (run_tree tree a).end
 
 -- steps that ask nothing
@@ -41,8 +41,8 @@ whole_tree meaning t = (t.tree, t.same)
 
 -- One behind another
 
-module _ {A B : Type 0} (asked : List Question) (f : A → Environment → Effects → Run (Left B)) (n : Left A → Run (Left B)) (e : (l : Left A) → f l.value l.environment l.effects ≡ behind l.effects.asked (n l)) where
-  do_same : (end : End (Left A)) (more : List Question) → HasAsked (asked ++ more) end → onward end (asked ++ more) f ≡ behind asked (followed (record { end = end; asked = more }) n)
+module _ {A B : Type 0} (asked : List Question) (f : A → Environment → Effects → Run (Left B)) (n : Left A → Run (Left B)) (e : (l : Left A) → f l.value l.environment l.effects ≡ asked_before l.effects.asked (n l)) where
+  do_same : (end : End (Left A)) (more : List Question) → HasAsked (asked ++ more) end → onward end (asked ++ more) f ≡ asked_before asked (followed (record { end = end; asked = more }) n)
   do_same (ended l) more h =
       e l ∙ ap (λ (before : List Question). record { end = (n l).end; asked = before ++ (n l).asked }) h
       ∙ ap (λ (all : List Question). record { end = (n l).end; asked = all }) (append_assoc asked more (n l).asked)
@@ -67,7 +67,7 @@ tree_do {A} {B} {asked} m f t g =
       same = λ a.
           ap (λ (r : Run (Left A)). then_do r (f a)) (t.same a)
           ∙ do_same asked (f a) (λ l. run_tree (next l) a) (λ l. (g l.value l.environment l.effects).same a) (run_tree t.tree a).end (run_tree t.tree a).asked (t.noted a)
-          ∙ sym (ap (behind asked) (run_bind t.tree next a));
+          ∙ sym (ap (asked_before asked) (run_bind t.tree next a));
       noted = λ a.
           subst (λ (r : Run (Left B)). HasAsked (asked ++ r.asked) r.end) (sym (run_bind t.tree next a))
           (do_noted asked (λ l. run_tree (next l) a) (λ l. (g l.value l.environment l.effects).noted a) (run_tree t.tree a).end (run_tree t.tree a).asked (t.noted a));
@@ -91,7 +91,7 @@ tree_fails fault out = record {
 -- A question for the content of a file, and one for what an import leaves
 
 module _ {A : Type 0} (path : List ℕ) (place : Place) (out : Effects) where
-  content_same : (x : Option Content) (m : Content → Effects → Run (Left A)) (n : Content → Run (Left A)) → ((y : Content) → m y (with_asked (content_of path) out) ≡ behind (out.asked ++ content_of path ∷ []) (n y)) → content_asked x path place out m ≡ behind out.asked (asking_content x path place n)
+  content_same : (x : Option Content) (m : Content → Effects → Run (Left A)) (n : Content → Run (Left A)) → ((y : Content) → m y (with_asked (content_of path) out) ≡ asked_before (out.asked ++ content_of path ∷ []) (n y)) → content_asked x path place out m ≡ asked_before out.asked (asking_content x path place n)
   content_same None m n e = refl
   content_same (Some y) m n e = e y ∙ ap (λ (all : List Question). record { end = (n y).end; asked = all }) (append_assoc out.asked (content_of path ∷ []) (n y).asked)
 
@@ -99,7 +99,7 @@ module _ {A : Type 0} (path : List ℕ) (place : Place) (out : Effects) where
   content_noted None n e = tt
   content_noted (Some y) n e = subst (λ (all : List Question). HasAsked all (n y).end) (append_assoc out.asked (content_of path ∷ []) (n y).asked) (e y)
 
-  import_same : (x : Option Imported) (m : ImportState → Effects → Run (Left A)) (n : ImportState → Run (Left A)) → ((y : ImportState) → m y (with_asked (import_of path) out) ≡ behind (out.asked ++ import_of path ∷ []) (n y)) → import_asked x path place out m ≡ behind out.asked (asking_import x path place n)
+  import_same : (x : Option Imported) (m : ImportState → Effects → Run (Left A)) (n : ImportState → Run (Left A)) → ((y : ImportState) → m y (with_asked (import_of path) out) ≡ asked_before (out.asked ++ import_of path ∷ []) (n y)) → import_asked x path place out m ≡ asked_before out.asked (asking_import x path place n)
   import_same None m n e = refl
   import_same (Some is_unusable) m n e = refl
   import_same (Some (has_value y)) m n e = e y ∙ ap (λ (all : List Question). record { end = (n y).end; asked = all }) (append_assoc out.asked (import_of path ∷ []) (n y).asked)

@@ -1,5 +1,4 @@
--- Calls that need the values of their arguments and change the environment or ask for the content of a file: `import`, `template`,
--- `forward_variables_from`, `not_needed`, `read_file`.
+-- Calls that need the values of their arguments and change the environment: `import`, `template`, `forward_variables_from`, `not_needed`.
 use Rattle.std.specs.Prelude.{ℕ, Bool, true, false, ◌&&◌, List, [], ◌∷◌, Option, Some, None}
 use Rattle.gn_tree.specs.declared.tree.Call.{Call}
 use Rattle.gn_tree.specs.Tree.{ExprTrees, no_exprs, expr_then, BlockTree}
@@ -9,11 +8,10 @@ use Rattle.gn_environment.specs.Environment.{Environment}
 use Rattle.gn_meaning.specs.Steps.{Steps}
 use Rattle.gn_meaning.specs.Arguments.{at_argument, refused_runs}
 use Rattle.gn_meaning.specs.Imports.{imported_runs}
-use Rattle.gn_meaning.specs.Contents.{reading_runs}
 use Rattle.gn_meaning.specs.Templates.{template_defined_runs}
-use Rattle.gn_meaning.specs.Selections.{is_bare_invoker, Source, the_invoker, a_value, forwarded_runs, unneeded_one_runs, unneeded_two_runs, unneeded_three_runs}
+use Rattle.gn_meaning.specs.Selections.{is_bare_invoker, FirstArgument, the_invoker, a_value, forwarded_runs, unneeded_one_runs, unneeded_two_runs, unneeded_three_runs}
 use Rattle.gn_functions.specs.declared.function.Changing.{Changing}
-use Rattle.gn_functions.specs.declared.function.Changing.TheVariants.{Import, Template, ForwardVariablesFrom, NotNeeded, ReadFile}
+use Rattle.gn_functions.specs.declared.function.Changing.TheVariants.{Import, Template, ForwardVariablesFrom, NotNeeded}
 
 -- whether the first argument may be the invoker itself
 abbrev pub takes_invoker : Changing → Bool
@@ -21,7 +19,6 @@ takes_invoker Import = false
 takes_invoker Template = false
 takes_invoker ForwardVariablesFrom = true
 takes_invoker NotNeeded = true
-takes_invoker ReadFile = false
 
 -- whether the first argument is the invoker itself: then it isn't evaluated, and this is no read
 unfoldable pub begins_with_invoker : Changing → ExprTrees → Environment → Bool
@@ -29,13 +26,13 @@ begins_with_invoker f no_exprs env = false
 begins_with_invoker f (expr_then e es) env = takes_invoker f && is_bare_invoker e env
 
 -- the invoker or the first value, and the values behind it
-abbrev pub source_and_rest : Bool → List Val → Option (Source × List Val)
+abbrev pub source_and_rest : Bool → List Val → Option (FirstArgument × List Val)
 source_and_rest true vs = Some (the_invoker, vs)
 source_and_rest false (v ∷ vs) = Some (a_value v, vs)
 source_and_rest false [] = None
 
 -- `forward_variables_from(source, names)`, or with excepted names behind them
-unfoldable pub forwarding_runs : Option (Source × List Val) → Call → Steps (Option Val)
+unfoldable pub forwarding_runs : Option (FirstArgument × List Val) → Call → Steps (Option Val)
 forwarding_runs (Some (source, names ∷ [])) call env out =
     forwarded_runs source names None (at_argument call 0) (at_argument call 1) call.position call.name env out
 forwarding_runs (Some (source, names ∷ except ∷ [])) call env out =
@@ -43,7 +40,7 @@ forwarding_runs (Some (source, names ∷ except ∷ [])) call env out =
 forwarding_runs _ call env out = refused_runs call env out
 
 -- `not_needed` in its forms
-unfoldable pub unneeded_runs : Option (Source × List Val) → Call → Steps (Option Val)
+unfoldable pub unneeded_runs : Option (FirstArgument × List Val) → Call → Steps (Option Val)
 unneeded_runs (Some (source, [])) call env out = unneeded_one_runs source (at_argument call 0) call.position call.name env out
 unneeded_runs (Some (source, v ∷ [])) call env out = unneeded_two_runs source v (at_argument call 0) (at_argument call 1) call.position call.name env out
 unneeded_runs (Some (source, v ∷ u ∷ [])) call env out =
@@ -66,4 +63,3 @@ changed_runs answers Import invoker vs call nesting env out = importing_runs ans
 changed_runs answers Template invoker vs call nesting env out = defining_runs vs call.block call nesting env out
 changed_runs answers ForwardVariablesFrom invoker vs call nesting env out = forwarding_runs (source_and_rest invoker vs) call env out
 changed_runs answers NotNeeded invoker vs call nesting env out = unneeded_runs (source_and_rest invoker vs) call env out
-changed_runs answers ReadFile invoker vs call nesting env out = reading_runs answers vs call env out

@@ -3,6 +3,7 @@ use Rattle.std.specs.Prelude.{ℕ, ◌+◌, Bool, true, ◌&&◌, nat_lt, if◌t
 use Rattle.gn_tree.specs.declared.position.Position.{Position}
 use Rattle.gn_tree.specs.declared.tree.Call.{Call}
 use Rattle.gn_tree.specs.Counts.{expr_count}
+use Rattle.gn_tree.specs.Tree.{ExprTree}
 use Rattle.gn_values.specs.Val.{Val}
 use Rattle.gn_values.specs.Imported.{DefinitionState}
 use Rattle.gn_faults.specs.declared.code.Code.TheVariants as code
@@ -15,6 +16,7 @@ use Rattle.gn_meaning.specs.Arguments.{refused_runs}
 use Rattle.gn_meaning.specs.Imports.{max_import_nesting}
 use Rattle.gn_meaning.specs.Templates.{opened_runs, allows_items}
 use Rattle.gn_meaning.specs.PlainCalls.{plain_runs}
+use Rattle.gn_meaning.specs.Contents.{read_file_runs}
 use Rattle.gn_meaning.specs.ChangingCalls.{begins_with_invoker, changed_runs}
 use Rattle.gn_meaning.specs.OpeningCalls.{of_template, of_function, opening_runs}
 use Rattle.gn_functions.specs.Functions.{function_of}
@@ -23,7 +25,7 @@ use Rattle.gn_functions.specs.declared.rule.Rule.{Rule}
 use Rattle.gn_functions.specs.declared.rule.Allowed.{Allowed}
 use Rattle.gn_functions.specs.declared.rule.Allowed.TheVariants.{Everywhere, WhereItems}
 use Rattle.gn_functions.specs.declared.function.Function.{Function}
-use Rattle.gn_functions.specs.declared.function.Function.TheVariants.{Plain, Changing as OfChanging, Opening, Defined, Foreach}
+use Rattle.gn_functions.specs.declared.function.Function.TheVariants.{Plain, Changing as OfChanging, Opening, Defined, Foreach, ReadFile}
 use Rattle.gn_functions.specs.declared.function.Changing.{Changing}
 use Rattle.gn_functions.specs.declared.function.Named.{Named}
 use Rattle.gn_functions.specs.declared.function.Named.TheVariants.{Function as OfFunction, Excluded, Unknown}
@@ -59,13 +61,15 @@ template_accepted_runs nesting call env out =
 
 -- What it does then
 
--- the parts of a call, still to be run: the values of its arguments, those of all but the first, what `defined` and `foreach` do with them, and its block
+-- the parts of a call, still to be run: the values of its arguments, those of all but the first, what `defined` and `foreach` do with them, its block, and
+-- what expressions come to that it reads from files
 pub record Parts : Type 0 where
   pub values : Steps (List Val)
   pub others : Steps (List Val)
   pub tests : Steps (Option Val)
   pub loops : Steps (Option Val)
   pub block : Steps (Unit {0})
+  pub reads : ExprTree → Steps Val
 
 -- the values of the arguments that are evaluated
 abbrev pub given_runs : Bool → Parts → Steps (List Val)
@@ -83,6 +87,8 @@ function_runs answers body (OfChanging f) nesting inside call parts env out = ch
 function_runs answers body (Opening f) nesting inside call parts env out = opening_runs body (of_function f) nesting call parts.values parts.block env out
 function_runs answers body Defined nesting inside call parts env out = parts.tests env out
 function_runs answers body Foreach nesting inside call parts env out = parts.loops env out
+function_runs answers body ReadFile nesting inside call parts env out =
+    then_do (parts.values env out) (λ vs env1 out1. read_file_runs answers parts.reads vs nesting call env1 out1)
 
 unfoldable pub built_in_runs : Answers → (DefinitionState → Position → Steps (Unit {0})) → (nesting inside : ℕ) → Call → Parts → Steps (Option Val)
 built_in_runs answers body nesting inside call parts env out =

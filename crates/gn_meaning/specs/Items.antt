@@ -8,7 +8,7 @@ use Rattle.gn_faults.specs.declared.fault.Fault.{Fault}
 use Rattle.gn_rows.specs.declared.kinds.ItemKind.{ItemKind}
 use Rattle.gn_rows.specs.declared.row.Row.{Row}
 use Rattle.gn_rows.specs.declared.variable.Variable.{Variable}
-use Rattle.gn_rows.specs.Names.{name_of}
+use Rattle.gn_rows.specs.Names.{variable_name}
 use Rattle.gn_rows.specs.Tables.{built_rows_of}
 use Rattle.gn_define.specs.declared.fault.ItemFault.{ItemFault}
 use Rattle.gn_define.specs.declared.place.Where.{Where}
@@ -46,7 +46,7 @@ fields_here kind name env = block_defines (context_here env.setting kind) (built
 -- the environment in which the names of these rows count as read, one after the other
 abbrev pub rows_read : List Row → Environment → Environment
 rows_read [] env = env
-rows_read (row ∷ rows) env = rows_read rows (after_read (name_of row.variable) env)
+rows_read (row ∷ rows) env = rows_read rows (after_read (variable_name row.variable) env)
 
 -- the fault of an item at its call: it shows the text that it has
 abbrev pub texts_shown : Option (List ℕ) → List (List ℕ)

@@ -91,6 +91,7 @@ unfoldable mutual
         tests = defined_runs w (deeper n 1) es p name;
         loops = foreach_runs w (deeper n 1) es p name (body_runs w (deeper n 1) body);
         block = body_runs w (deeper n 1) body;
+        reads = w.read;
       }) env out
 
   -- the block behind a call, if there is one
@@ -137,16 +138,22 @@ unfoldable mutual
   block_runs w n no_statements env out = ends tt env out
   block_runs w n (statement_then s b) env out = then_do (statement_runs w n s env out) (λ _ env1 out1. block_runs w n b env1 out1)
 
--- the bodies of templates, where so many calls of templates may still open. Each call makes the evaluation deeper by one at least, so the greatest
--- depth decides before this number does
-unfoldable pub calls : ℕ → Answers → DefinitionState → Position → Steps (Unit {0})
-calls zero answers definition position env out = fails_at code.Nesting position [] env out
-calls (suc room) answers definition position env out =
-    block_runs (record { answers = answers; call = calls room answers }) definition.nesting definition.block env out
+-- the bodies of templates, and what expressions come to that are read from files, where so many calls may still open. Each makes the evaluation deeper by
+-- one at least, so the greatest depth decides before this number does
+unfoldable mutual
+  pub calls : ℕ → Answers → DefinitionState → Position → Steps (Unit {0})
+  calls zero answers definition position env out = fails_at code.Nesting position [] env out
+  calls (suc room) answers definition position env out =
+      block_runs (record { answers = answers; call = calls room answers; read = reads room answers }) definition.nesting definition.block env out
 
--- what a step may look at over these answers, where so many calls of templates may still open
+  pub reads : ℕ → Answers → ExprTree → Steps Val
+  reads zero answers expression env out = fails_at code.Nesting (first_position expression) [] env out
+  reads (suc room) answers expression env out =
+      expr_runs (record { answers = answers; call = calls room answers; read = reads room answers }) 0 expression env out
+
+-- what a step may look at over these answers, where so many calls may still open
 abbrev pub world : ℕ → Answers → World
-world room answers = record { answers = answers; call = calls room answers }
+world room answers = record { answers = answers; call = calls room answers; read = reads room answers }
 
 -- a block that nests nowhere
 unfoldable pub whole_block_runs : Answers → BlockTree → Steps (Unit {0})

@@ -20,9 +20,9 @@ is_bare_invoker (name_expr position name) env = names_invoker name env
 is_bare_invoker _ env = false
 
 -- an argument that may be the invoker: that, or a value
-pub data Source : Type 0 where
-  the_invoker : Source
-  a_value : Val → Source
+pub data FirstArgument : Type 0 where
+  the_invoker : FirstArgument
+  a_value : Val → FirstArgument
 
 -- which names an argument selects: all of them by `"*"`, or those of a list of strings; another string and any other value select none
 pub data Selection : Type 0 where
@@ -104,7 +104,7 @@ origin_forwarded_runs origin names last at position name env out =
     (λ listed except env1 out1. listed_forwarded_runs origin listed except position env1 out1) env out
 
 -- `forward_variables_from`: the source at its position, the names at theirs, and the excepted names, if there are any
-unfoldable pub forwarded_runs : Source → Val → Option (Val × Position) → (source_at at position : Position) → List ℕ → Steps (Option Val)
+unfoldable pub forwarded_runs : FirstArgument → Val → Option (Val × Position) → (source_at at position : Position) → List ℕ → Steps (Option Val)
 forwarded_runs the_invoker names last source_at at position name env out = origin_forwarded_runs (from_invoker None) names last at position name env out
 forwarded_runs (a_value (vscope bs)) names last source_at at position name env out = origin_forwarded_runs (from_entries (entries_of bs)) names last at position name env out
 forwarded_runs (a_value _) names last source_at at position name env out = fails_at code.BadTypes source_at [] env out
@@ -129,19 +129,19 @@ unneeded_in_value_runs names last at position name env out =
     selected_runs (selection_of names) last at position name (λ except env1 out1. ends None env1 out1) (λ listed except env1 out1. ends None env1 out1) env out
 
 -- with one argument: names; a scope alone selects none
-unfoldable pub unneeded_one_runs : Source → (at position : Position) → List ℕ → Steps (Option Val)
+unfoldable pub unneeded_one_runs : FirstArgument → (at position : Position) → List ℕ → Steps (Option Val)
 unneeded_one_runs the_invoker at position name env out = fails_at code.BadArguments position (name ∷ []) env out
 unneeded_one_runs (a_value (vscope bs)) at position name env out = fails_at code.BadArguments position (name ∷ []) env out
 unneeded_one_runs (a_value v) at position name env out = unneeded_here_runs v None at position name env out
 
 -- with two arguments the type of the first one decides the form: names of a scope, or names and excepted names
-unfoldable pub unneeded_two_runs : Source → Val → (first_at at position : Position) → List ℕ → Steps (Option Val)
+unfoldable pub unneeded_two_runs : FirstArgument → Val → (first_at at position : Position) → List ℕ → Steps (Option Val)
 unneeded_two_runs the_invoker second first_at at position name env out = unneeded_at_invoker_runs second None at position name env out
 unneeded_two_runs (a_value (vscope bs)) second first_at at position name env out = unneeded_in_value_runs second None at position name env out
 unneeded_two_runs (a_value v) second first_at at position name env out = unneeded_here_runs v (Some (second, at)) first_at position name env out
 
 -- with three arguments: names of a scope, and excepted names
-unfoldable pub unneeded_three_runs : Source → Val → Val → (first_at at last_at position : Position) → List ℕ → Steps (Option Val)
+unfoldable pub unneeded_three_runs : FirstArgument → Val → Val → (first_at at last_at position : Position) → List ℕ → Steps (Option Val)
 unneeded_three_runs the_invoker names last first_at at last_at position name env out = unneeded_at_invoker_runs names (Some (last, last_at)) at position name env out
 unneeded_three_runs (a_value (vscope bs)) names last first_at at last_at position name env out = unneeded_in_value_runs names (Some (last, last_at)) at position name env out
 unneeded_three_runs (a_value _) names last first_at at last_at position name env out = fails_at code.BadTypes first_at [] env out

@@ -2,6 +2,8 @@
 use Rattle.std.specs.Prelude.{ℕ, ◌+◌, min, List, [], ◌∷◌, ◌++◌, Option, Some, None}
 use Rattle.gn_paths.specs.declared.place.Place.{Place}
 use Rattle.gn_tree.specs.declared.position.Position.{Position}
+use Rattle.gn_tree.specs.Tree.{ExprTree}
+use Rattle.gn_values.specs.Val.{Val}
 use Rattle.gn_values.specs.Imported.{DefinitionState, ImportState}
 use Rattle.gn_faults.specs.declared.fault.Fault.{Fault}
 use Rattle.gn_items.specs.Effects.{Effects, with_asked}
@@ -47,10 +49,12 @@ import_asked None path place out next = record { end = needs (import_of path) pl
 import_asked (Some is_unusable) path place out next = record { end = spoiled path place; asked = out.asked ++ import_of path ∷ [] }
 import_asked (Some (has_value value)) path place out next = next value (with_asked (import_of path) out)
 
--- what a step may look at beside the environment: the known answers, and the bodies of templates, as far as calls may still open
+-- what a step may look at beside the environment: the known answers, and, as far as calls may still open, the bodies of templates and what expressions
+-- come to that are read from files
 pub record World : Type 0 where
   pub answers : Answers
   pub call : DefinitionState → Position → Steps (Unit {0})
+  pub read : ExprTree → Steps Val
 
 -- the greatest depth of an evaluation
 abbrev pub max_evaluation_depth : ℕ

@@ -19,7 +19,7 @@ pub fn lists_are_the_values_of_their_items()
 
 /// In the body of a template, and in that of a template that is defined there, however deep, nothing calls the template: what
 /// a block does there, with all blocks of calls in it, is the same whatever the template's body would do, as long as the bodies
-/// of all other templates do the same.
+/// of all other templates do the same, and the expressions come to the same that are read from files: they are no part of the body.
 pub fn bodies_never_call_their_templates()
     ensures { BodiesDontCallTheirTemplates }
 {}
