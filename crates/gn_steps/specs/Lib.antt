@@ -1,9 +1,2 @@
 pub mod Ends
-pub mod Definitions
-pub mod Texts
-pub mod Selected
-pub mod Resolved
-pub mod Answers
-pub mod Contents
 pub mod Evaluated
-pub mod Openings

@@ -51,7 +51,7 @@ fn takes_invoker(changing: Changing) -> bool
     ensures { result ≡ takes_invoker changing }
 {
     match changing {
-        Changing::Import | Changing::Template | Changing::ReadFile => false,
+        Changing::Import | Changing::Template => false,
         Changing::ForwardVariablesFrom | Changing::NotNeeded => true,
     }
 }

@@ -90,8 +90,9 @@ fn fault_elsewhere(
     Ok(fault)
 }
 
-/// The end of an evaluation at a name that nothing read, at a position of another file.
-pub(crate) fn no_effect_in(
+/// The end of an evaluation at a name that nothing read and whose last assignment stands at a position of another file: `NoEffect`
+/// there, with the name as its detail; or want of memory.
+pub fn no_effect_in(
     alloc: Global,
     env: &Env,
     file: &Text,
@@ -121,8 +122,9 @@ fn code_of(error: ValueError) -> Code
     }
 }
 
-/// The end of an evaluation whose operator refuses, at its position.
-pub(crate) fn refused(alloc: Global, env: &Env, error: ValueError, position: Position) -> StepEnd
+/// The end of an evaluation whose operator refuses, at its position: a fault with the code of what it refuses, without details;
+/// or want of memory, where that is what the operator answers.
+pub fn refused(alloc: Global, env: &Env, error: ValueError, position: Position) -> StepEnd
     ensures { IsRefusal error result (fault_in env.now.setting position (code_of error) []) }
 {
     match error {
@@ -141,8 +143,9 @@ fn absent(alloc: Global, env: &Env, at: &Value, position: Position) -> StepEnd
     }
 }
 
-/// The end of an evaluation whose subscript finds no element, at the position of the subscript.
-pub(crate) fn refused_element(
+/// The end of an evaluation whose subscript finds no element, at the position of the subscript: a fault with the code of what is
+/// refused, whose detail, where the scope has no such entry, is the text of the subscript; or want of memory.
+pub fn refused_element(
     alloc: Global,
     env: &Env,
     error: ValueError,

@@ -1,0 +1,4 @@
+pub mod Definitions
+pub mod Selected
+pub mod Resolved
+pub mod Openings

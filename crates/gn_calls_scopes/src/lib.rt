@@ -1,0 +1,18 @@
+//! Calls that change the scopes where they stand, or open one in which their block runs; and what is judged of a call
+//! before its arguments.
+#![tactic(auto)]
+
+mod acceptance;
+mod definer;
+mod imports;
+mod items;
+mod openings;
+mod selections;
+mod templates;
+
+pub use acceptance::{accept, accept_template};
+pub use definer::{DefineError, Definer};
+pub use imports::{merge_import, resolve_import};
+pub use openings::{Opened, Opener, begin_call, end_call};
+pub use selections::{forward_variables, mark_not_needed};
+pub use templates::define_template;

@@ -1,5 +1,0 @@
-use Rattle.gn_value_model.proofs.Equality.{test_from_answer}
-use Rattle.gn_steps.proofs.operators.equal.Goals as goal
-
-pub returns : goal.returns
-returns c = test_from_answer _ _ _ c.same.ensures
