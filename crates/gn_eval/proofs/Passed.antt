@@ -11,11 +11,11 @@ use Rattle.gn_eval.specs.Library.{Need, LibraryState, Includes, GoesOn}
 use Rattle.gn_eval.specs.Ends.{end_of_step, lifted, Covers, IsFailure, IsRun, Claims, Evaluates}
 use Rattle.gn_eval.specs.declared.ending.EvalEnd.{EvalEnd}
 use Rattle.gn_eval.specs.declared.ending.EvalEnd.TheVariants.{Wrong, Spoiled, Stopped, Memory}
-use Rattle.gn_eval.proofs.Covered.{covered, goes_on_further, then_failed}
+use Rattle.gn_eval.proofs.Covered.{covered, told_before, goes_on_further, then_failed}
 
 -- a library goes on that isn't asked
 pub goes_on_still : (state : LibraryState) → GoesOn state state
-goes_on_still state = record { seat = refl; later = omega arith; grows = λ a h. h }
+goes_on_still state = record { told = refl; later = omega arith }
 
 -- of which answers something is claimed depends on the error alone
 covers_error : (T U : Type 0) (told : Option Answers) (e : EvalEnd) (a : Answers) → Covers {T = T} told (Err e) a → Covers {T = U} told (Err e) a
@@ -66,7 +66,7 @@ failed_claims {T = T} U view step_view before later (Err y) e env out run next i
 pub ended_claims : {A B T : Type 0} (view : T → B) (before mid later : LibraryState) (result : Result T EvalEnd) (env : Environment) (out : Effects) (run : Answers → Run (Left A)) (next : Answers → A → Environment → Effects → Run (Left B)) (x : A) (env1 : Environment) (out1 : Effects) → ((a : Answers) → Includes mid.told a → run a ≡ ends x env1 out1) → GoesOn before mid → Evaluates view mid later result env out (λ a. next a x env1 out1) → Evaluates view before later result env out (λ a. then_do (run a) (next a))
 ended_claims {A} {B} view before mid later result env out run next x env1 out1 first goes h = record {
   runs = λ a told.
-      subst (λ (r : Run (Left A)). IsRun view later.need result env out (then_do r (next a))) (sym (first a (h.goes.grows a (covered later.told result a told)))) (h.runs a told);
+      subst (λ (r : Run (Left A)). IsRun view later.need result env out (then_do r (next a))) (sym (first a (told_before h.goes a (covered later.told result a told)))) (h.runs a told);
   goes = goes_on_further before mid later goes h.goes;
   rose = λ e. omega (arith, goes.later, h.rose e);
 }

@@ -1,5 +1,6 @@
 -- What contracts see of a library.
 use Rattle.std.specs.Prelude.{◌≡◌, ◌⊎◌, ◌≤◌, ℕ, List, length, Option, Some, None}
+use Rattle.gn_value_model.specs.Limits.{max_bytes}
 use Rattle.gn_paths.specs.declared.place.Place.{Place}
 use Rattle.gn_runs.specs.Runs.{Question, content_of, import_of, Content, has_bytes, is_absent, is_too_big, has_value, is_unusable, Answers}
 use Rattle.gn_runs.specs.Laws.{Below}
@@ -13,23 +14,21 @@ pub record Need : Type 0 where
   pub question : Question
   pub place : Place
 
--- the answers that a library tells, if it does, what it noted last, its count of stops, and what names it
+-- the answers that a library tells, if it does, what it noted last, and its count of stops
 pub record LibraryState : Type 0 where
   pub told : Option Answers
   pub need : Need
   pub stops : ℕ
-  pub seat : List ℕ
 
 -- what is told is among these answers; of a library that tells nothing nothing is claimed
 abbrev pub Includes : Option Answers → Answers → Type 0
 Includes None a = ⊥
 Includes (Some told) a = Below told a
 
--- the same library later: it tells no less
+-- the same library later: it tells the same
 pub record GoesOn (before after : LibraryState) : Type 0 where
-  pub seat : after.seat ≡ before.seat
+  pub told : after.told ≡ before.told
   pub later : before.stops ≤ after.stops
-  pub grows : (a : Answers) → Includes after.told a → Includes before.told a
 
 -- there is a file at the path, as far as is known
 abbrev pub IsThere : Option Content → Type 0
@@ -61,6 +60,6 @@ ContentLacks path place a need = (a.contents path ≡ None) × (need ≡ record 
 
 -- no more bytes than a file may have
 abbrev pub IsWithinLimit : Found → Type 0
-IsWithinLimit (Bytes bytes) = length bytes ≤ 16777216
+IsWithinLimit (Bytes bytes) = length bytes ≤ max_bytes
 IsWithinLimit NoFile = Unit {0}
 IsWithinLimit TooBig = Unit {0}

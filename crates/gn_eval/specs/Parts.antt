@@ -14,4 +14,5 @@ parts w n call = record {
   tests = defined_runs w (deeper n 1) call.arguments call.position call.name;
   loops = foreach_runs w (deeper n 1) call.arguments call.position call.name (body_runs w (deeper n 1) (body_of call.block));
   block = body_runs w (deeper n 1) (body_of call.block);
+  reads = w.read;
 }

@@ -1,7 +1,7 @@
 // Calls.
 
 ghost use Rattle.std.specs.Prelude.{◌≡◌, ◌≤◌, [], map, option_map, Some, None};
-ghost use Rattle.gn_tree.specs.Depth.{max_depth, call_depth, body_depth};
+ghost use Rattle.gn_tree.specs.Depth.{max_tree_depth, call_depth, body_depth};
 ghost use Rattle.gn_tree.specs.Views.{call_of, body_of};
 ghost use Rattle.gn_values.specs.View.{val_of};
 ghost use Rattle.gn_environment.specs.Templates.{body_begins};
@@ -10,7 +10,7 @@ ghost use Rattle.gn_meaning.specs.PlainCalls.{plain_runs};
 ghost use Rattle.gn_meaning.specs.OpeningCalls.{body_run, opened_call_runs, valued_runs, opening_runs};
 ghost use Rattle.gn_meaning.specs.FunctionCalls.{changing_runs, function_runs, built_in_runs, template_called_runs};
 ghost use Rattle.gn_meaning.specs.Meaning.{world, calls, call_runs, body_runs, values_run};
-ghost use Rattle.gn_steps.specs.Openings.{opener_view, opened_view};
+ghost use Rattle.gn_calls_scopes.specs.Openings.{opener_view, opened_view};
 ghost use Rattle.gn_eval.specs.Ends.{Evaluates};
 ghost use Rattle.gn_eval.specs.Parts.{parts};
 
@@ -19,17 +19,17 @@ use crate::ending::EvalEnd;
 use crate::expressions::eval_values;
 use crate::level::Level;
 use crate::library::Library;
+use crate::reading::run_read_file;
 use crate::special_calls::{run_defined, run_foreach};
 use crate::statements::run_statements;
+use gn_calls_plain::apply_plain;
+use gn_calls_scopes::{Definer, Opened, Opener, accept, accept_template, begin_call, end_call};
 use gn_env::Env;
 use gn_faults::Code;
 use gn_functions::{Changing, Function, Plain};
 use gn_items::Outcome;
 use gn_paths::Text;
-use gn_steps::{
-    Definer, Opened, Opener, accept, accept_template, apply_plain, begin_call, begins_with_invoker,
-    end_call, evaluated, wrong,
-};
+use gn_steps::{begins_with_invoker, evaluated, wrong};
 use gn_tree::{Block, Call, Position};
 use gn_values::{Definition, Value};
 use std::alloc::Global;
@@ -46,7 +46,7 @@ pub(crate) fn run_call<L: Library + Definer>(
     out: &mut Outcome,
     library: &mut L,
 ) -> Result<Option<Value>, EvalEnd>
-    requires shallow { call_depth (call_of call.now) ≤ max_depth }
+    requires shallow { call_depth (call_of call.now) ≤ max_tree_depth }
     ensures { Evaluates (option_map val_of) (L.state library.old) (L.state library.new) result env.new out.new (λ a. call_runs (world level.room a) level.nesting (call_of call.now) env.old out.old) }
 {
     match env.template(&call.name)? {
@@ -67,7 +67,7 @@ fn run_template<L: Library + Definer>(
     out: &mut Outcome,
     library: &mut L,
 ) -> Result<Option<Value>, EvalEnd>
-    requires shallow { call_depth (call_of call.now) ≤ max_depth }
+    requires shallow { call_depth (call_of call.now) ≤ max_tree_depth }
     ensures { Evaluates (option_map val_of) (L.state library.old) (L.state library.new) result env.new out.new (λ a. template_called_runs (calls level.room a) definition.value level.nesting call.now (parts (world level.room a) level.nesting call.now) env.old out.old) }
 {
     let depth = accept_template(alloc, level.nesting, call, env)?;
@@ -86,7 +86,7 @@ fn run_built_in<L: Library + Definer>(
     out: &mut Outcome,
     library: &mut L,
 ) -> Result<Option<Value>, EvalEnd>
-    requires shallow { call_depth (call_of call.now) ≤ max_depth }
+    requires shallow { call_depth (call_of call.now) ≤ max_tree_depth }
     ensures { Evaluates (option_map val_of) (L.state library.old) (L.state library.new) result env.new out.new (λ a. built_in_runs a (calls level.room a) level.nesting (deeper level.nesting 1) call.now (parts (world level.room a) level.nesting call.now) env.old out.old) }
 {
     let function = accept(alloc, level.nesting, call, env)?;
@@ -105,7 +105,7 @@ fn run_function<L: Library + Definer>(
     out: &mut Outcome,
     library: &mut L,
 ) -> Result<Option<Value>, EvalEnd>
-    requires shallow { call_depth (call_of call.now) ≤ max_depth }
+    requires shallow { call_depth (call_of call.now) ≤ max_tree_depth }
     ensures { Evaluates (option_map val_of) (L.state library.old) (L.state library.new) result env.new out.new (λ a. function_runs a (calls level.room a) function level.nesting (deeper level.nesting 1) call.now (parts (world level.room a) level.nesting call.now) env.old out.old) }
 {
     match function {
@@ -119,6 +119,7 @@ fn run_function<L: Library + Definer>(
         }
         Function::Defined => run_defined(alloc, level.deeper(1), call, env, out, library),
         Function::Foreach => run_foreach(alloc, level.deeper(1), call, env, out, library),
+        Function::ReadFile => run_read_file(alloc, level, call, env, out, library),
     }
 }
 
@@ -133,7 +134,7 @@ fn run_plain<L: Library + Definer>(
     out: &mut Outcome,
     library: &mut L,
 ) -> Result<Option<Value>, EvalEnd>
-    requires shallow { call_depth (call_of call.now) ≤ max_depth }
+    requires shallow { call_depth (call_of call.now) ≤ max_tree_depth }
     ensures { Evaluates (option_map val_of) (L.state library.old) (L.state library.new) result env.new out.new (λ a. then_do (values_run (world level.room a) (deeper level.nesting 1) call.now.arguments [] env.old out.old) (λ vs env1 out1. plain_runs plain vs call.now env1 out1)) }
 {
     let arguments = call.arguments.as_slice();
@@ -153,7 +154,7 @@ fn run_changing<L: Library + Definer>(
     out: &mut Outcome,
     library: &mut L,
 ) -> Result<Option<Value>, EvalEnd>
-    requires shallow { call_depth (call_of call.now) ≤ max_depth }
+    requires shallow { call_depth (call_of call.now) ≤ max_tree_depth }
     ensures { Evaluates (option_map val_of) (L.state library.old) (L.state library.new) result env.new out.new (λ a. changing_runs a changing (deeper level.nesting 1) call.now (parts (world level.room a) level.nesting call.now) env.old out.old) }
 {
     let inside = level.deeper(1);
@@ -185,7 +186,7 @@ fn run_opening<L: Library + Definer>(
     out: &mut Outcome,
     library: &mut L,
 ) -> Result<Option<Value>, EvalEnd>
-    requires shallow { call_depth (call_of call.now) ≤ max_depth }
+    requires shallow { call_depth (call_of call.now) ≤ max_tree_depth }
     ensures { Evaluates (option_map val_of) (L.state library.old) (L.state library.new) result env.new out.new (λ a. opening_runs (calls level.room a) (opener_view opener) level.nesting call.now (parts (world level.room a) level.nesting call.now).values (parts (world level.room a) level.nesting call.now).block env.old out.old) }
 {
     let arguments = call.arguments.as_slice();
@@ -206,7 +207,7 @@ fn run_valued<L: Library + Definer>(
     out: &mut Outcome,
     library: &mut L,
 ) -> Result<Option<Value>, EvalEnd>
-    requires shallow { call_depth (call_of call.now) ≤ max_depth }
+    requires shallow { call_depth (call_of call.now) ≤ max_tree_depth }
     ensures { Evaluates (option_map val_of) (L.state library.old) (L.state library.new) result env.new out.new (λ a. valued_runs (calls level.room a) (opener_view opener) (map val_of values.now) level.nesting call.now (parts (world level.room a) level.nesting call.now).block env.old out.old) }
 {
     let opened = begin_call(alloc, opener, values, level.nesting, call, env)?;
@@ -225,7 +226,7 @@ fn run_opened<L: Library + Definer>(
     out: &mut Outcome,
     library: &mut L,
 ) -> Result<Option<Value>, EvalEnd>
-    requires shallow { call_depth (call_of call.now) ≤ max_depth }
+    requires shallow { call_depth (call_of call.now) ≤ max_tree_depth }
     ensures { Evaluates (option_map val_of) (L.state library.old) (L.state library.new) result env.new out.new (λ a. opened_call_runs (calls level.room a) (opened_view opened) call.now.position (parts (world level.room a) level.nesting call.now).block env.old out.old) }
 {
     run_block_of(alloc, level.deeper(1), &call.block, env, out, library)?;
@@ -244,7 +245,7 @@ pub(crate) fn run_block_of<L: Library + Definer>(
     out: &mut Outcome,
     library: &mut L,
 ) -> Result<(), EvalEnd>
-    requires shallow { body_depth (body_of block.now) ≤ max_depth }
+    requires shallow { body_depth (body_of block.now) ≤ max_tree_depth }
     ensures { Evaluates (λ u. u) (L.state library.old) (L.state library.new) result env.new out.new (λ a. body_runs (world level.room a) level.nesting (body_of block.now) env.old out.old) }
 {
     match block {

@@ -1,31 +1,28 @@
-// The calls that change where they stand or ask for the content of a file, once their arguments are evaluated.
+// The calls that change where they stand, once their arguments are evaluated.
 
-ghost use Rattle.std.specs.Prelude.{◌≡◌, ◌≤◌, [], ◌∷◌, OnOk, map, option_map};
+ghost use Rattle.std.specs.Prelude.{◌≡◌, ◌≤◌, OnOk, map, option_map};
 ghost use Rattle.gn_items.specs.Effects.{with_asked};
 ghost use Rattle.gn_runs.specs.Runs.{content_of, import_of};
 ghost use Rattle.gn_values.specs.View.{val_of};
-ghost use Rattle.gn_tree.specs.Depth.{max_depth, call_depth};
+ghost use Rattle.gn_tree.specs.Depth.{max_tree_depth, call_depth};
 ghost use Rattle.gn_tree.specs.Views.{call_of};
-ghost use Rattle.gn_environment.specs.Faults.{fault_in};
 ghost use Rattle.gn_meaning.specs.Arguments.{at_argument};
 ghost use Rattle.gn_meaning.specs.Imports.{imported_runs};
-ghost use Rattle.gn_meaning.specs.Contents.{content_read, reading_runs};
 ghost use Rattle.gn_meaning.specs.ChangingCalls.{importing_runs, changed_runs};
-ghost use Rattle.gn_steps.specs.Ends.{IsFault};
-ghost use Rattle.gn_steps.specs.Resolved.{path_asked};
+ghost use Rattle.gn_calls_scopes.specs.Resolved.{path_asked};
 ghost use Rattle.gn_eval.specs.Ends.{Evaluates};
 
 use crate::ending::{EvalEnd, lift};
-use crate::library::{Found, Imported, LibStop, Library};
+use crate::library::{Imported, LibStop, Library};
+use gn_calls_scopes::{
+    define_template, forward_variables, mark_not_needed, merge_import, resolve_import,
+};
 use gn_env::Env;
 use gn_faults::Code;
 use gn_functions::Changing;
 use gn_items::Outcome;
 use gn_paths::Path;
-use gn_steps::{
-    Reading, StepEnd, argument_position, begin_reading, define_template, forward_variables,
-    mark_not_needed, merge_import, place_here, refuse, resolve_import, settle_content, wrong_with,
-};
+use gn_steps::{argument_position, place_here, refuse, wrong_with};
 use gn_tree::{Call, Position};
 use gn_values::Value;
 use std::alloc::{AllocError, Global};
@@ -44,7 +41,7 @@ pub(crate) fn change<L: Library>(
     out: &mut Outcome,
     library: &mut L,
 ) -> Result<Option<Value>, EvalEnd>
-    requires shallow { call_depth (call_of call.now) ≤ max_depth }
+    requires shallow { call_depth (call_of call.now) ≤ max_tree_depth }
     ensures { Evaluates (option_map val_of) (L.state library.old) (L.state library.new) result env.new out.new (λ a. changed_runs a changing invoker (map val_of values.items) call.now nesting env.old out.old) }
 {
     match changing {
@@ -54,7 +51,6 @@ pub(crate) fn change<L: Library>(
             lift(forward_variables(alloc, invoker, &values, call, env))
         }
         Changing::NotNeeded => lift(mark_not_needed(alloc, invoker, &values, call, env)),
-        Changing::ReadFile => read_file(alloc, &values, call, env, out, library),
     }
 }
 
@@ -131,57 +127,4 @@ fn note_import(path: &Path, out: &mut Outcome) -> Result<(), AllocError>
 {
     out.ask_content(path)?;
     out.ask_import(path)
-}
-
-// `read_file(path, conversion)`
-fn read_file<L: Library>(
-    alloc: Global,
-    values: &[Value],
-    call: &Call,
-    env: &Env,
-    out: &mut Outcome,
-    library: &mut L,
-) -> Result<Option<Value>, EvalEnd>
-    ensures { Evaluates (option_map val_of) (L.state library.old) (L.state library.new) result env.now out.new (λ a. reading_runs a (map val_of values.now) call.now env.now out.old) }
-{
-    let reading = begin_reading(alloc, values, call, env)?;
-    read_content(alloc, &reading, call, env, out, library)
-}
-
-// The content of the file that is asked for, and what is made of it. What is asked for is noted.
-#[tactic(auto, unfolding(gn_meaning::specs::PlainCalls::settled_runs))]
-fn read_content<L: Library>(
-    alloc: Global,
-    reading: &Reading,
-    call: &Call,
-    env: &Env,
-    out: &mut Outcome,
-    library: &mut L,
-) -> Result<Option<Value>, EvalEnd>
-    ensures { Evaluates (option_map val_of) (L.state library.old) (L.state library.new) result env.now out.new (λ a. content_read reading.now.conversion reading.now.path a call.now env.now out.old) }
-{
-    let place = place_here(alloc, call.position, env)?;
-    match library.bytes(alloc, &reading.path, &place) {
-        Ok(Found::Bytes(bytes)) => {
-            out.ask_content(&reading.path)?;
-            Ok(settle_content(alloc, reading.conversion, bytes.as_bytes(), call, env, out)?)
-        }
-        Ok(Found::Absent) => {
-            out.ask_content(&reading.path)?;
-            Err(no_content(alloc, Code::NoFile, &reading.path, call, env).into())
-        }
-        Ok(Found::TooBig) => {
-            out.ask_content(&reading.path)?;
-            Err(no_content(alloc, Code::FileTooBig, &reading.path, call, env).into())
-        }
-        Err(LibStop::Stopped) => Err(EvalEnd::Stopped),
-        Err(LibStop::Memory) => Err(EvalEnd::Memory),
-    }
-}
-
-// The end of an evaluation at a file whose content can't be had: the fault with this code stands at the path.
-fn no_content(alloc: Global, code: Code, path: &Path, call: &Call, env: &Env) -> StepEnd
-    ensures { IsFault result (fault_in env.now.setting (at_argument call.now 0) code (path.now ∷ [])) }
-{
-    wrong_with(alloc, env, code, argument_position(call, 0), path.as_text())
 }

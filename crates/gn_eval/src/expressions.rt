@@ -1,7 +1,7 @@
 // Expressions.
 
 ghost use Rattle.std.specs.Prelude.{◌≡◌, ◌<◌, ◌≤◌, OnOk, [], false, map};
-ghost use Rattle.gn_tree.specs.Depth.{max_depth, expr_depth, exprs_depth, call_depth, block_depth};
+ghost use Rattle.gn_tree.specs.Depth.{max_tree_depth, expr_depth, exprs_depth, call_depth, block_depth};
 ghost use Rattle.gn_tree.specs.Views.{expr_of, exprs_of, call_of};
 ghost use Rattle.gn_values.specs.View.{val_of};
 ghost use Rattle.gn_environment.specs.Environment.{entered};
@@ -18,14 +18,16 @@ use crate::level::Level;
 use crate::library::Library;
 use crate::operations::{Operation, left_operand, operators_in};
 use crate::statements::run_statements;
+use gn_calls_scopes::Definer;
 use gn_env::Env;
+use gn_expressions::{
+    add_value, boolean, end_scope, expand, make_list, negate, operate, read_base, read_element,
+    read_entry, read_name, value_of_call,
+};
 use gn_faults::Code;
 use gn_items::Outcome;
 use gn_paths::Text;
-use gn_steps::{
-    Definer, add_value, boolean, end_scope, expand, make_list, negate, operate, read_base,
-    read_element, read_entry, read_name, value_of_call, wrong,
-};
+use gn_steps::wrong;
 use gn_tree::{BinaryOp, Block, Call, Expr, Exprs, Position, SubExpr};
 use gn_values::Value;
 use std::alloc::Global;
@@ -40,7 +42,7 @@ pub(crate) fn eval_expr<L: Library + Definer>(
     out: &mut Outcome,
     library: &mut L,
 ) -> Result<Value, EvalEnd>
-    requires shallow { expr_depth (expr_of expr.now) ≤ max_depth }
+    requires shallow { expr_depth (expr_of expr.now) ≤ max_tree_depth }
     ensures { Evaluates val_of (L.state library.old) (L.state library.new) result env.new out.new (λ a. expr_runs (world level.room a) level.nesting (expr_of expr.now) env.old out.old) }
 {
     let (leftmost, mut operations) = left_operand(alloc, expr)?;
@@ -65,7 +67,7 @@ fn eval_operand<L: Library + Definer>(
     library: &mut L,
 ) -> Result<Value, EvalEnd>
     requires operand { IsOperand (expr_of expr.now) }
-    requires shallow { expr_depth (expr_of expr.now) ≤ max_depth }
+    requires shallow { expr_depth (expr_of expr.now) ≤ max_tree_depth }
     ensures { Evaluates val_of (L.state library.old) (L.state library.new) result env.new out.new (λ a. expr_runs (world level.room a) level.nesting (expr_of expr.now) env.old out.old) }
 {
     match expr {
@@ -134,7 +136,7 @@ fn eval_call<L: Library + Definer>(
     out: &mut Outcome,
     library: &mut L,
 ) -> Result<Value, EvalEnd>
-    requires shallow { call_depth (call_of call.now) ≤ max_depth }
+    requires shallow { call_depth (call_of call.now) ≤ max_tree_depth }
     ensures { Evaluates val_of (L.state library.old) (L.state library.new) result env.new out.new (λ a. then_do (call_runs (world level.room a) level.nesting (call_of call.now) env.old out.old) (λ v env1 out1. call_value_runs v call.now.position env1 out1)) }
 {
     let value = run_call(alloc, level, call, env, out, library)?;
@@ -154,7 +156,7 @@ fn eval_item<L: Library + Definer>(
     out: &mut Outcome,
     library: &mut L,
 ) -> Result<Value, EvalEnd>
-    requires shallow { expr_depth index.now ≤ max_depth }
+    requires shallow { expr_depth index.now ≤ max_tree_depth }
     ensures { Evaluates val_of (L.state library.old) (L.state library.new) result env.new out.new (λ a. then_do (base_runs base.now position env.old out.old) (λ _ env1 out1. then_do (expr_runs (world level.room a) (deeper level.nesting 1) index.now env1 out1) (λ at env2 out2. element_runs base.now position at bracket env2 out2))) }
 {
     read_base(alloc, base, position, env)?;
@@ -174,7 +176,7 @@ fn apply<L: Library + Definer>(
     out: &mut Outcome,
     library: &mut L,
 ) -> Result<Value, EvalEnd>
-    requires shallow { expr_depth operation.right.now ≤ max_depth }
+    requires shallow { expr_depth operation.right.now ≤ max_tree_depth }
     ensures { Evaluates val_of (L.state library.old) (L.state library.new) result env.new out.new (λ a. operator_runs operation.entry.operator (val_of left) (expr_runs (world level.room a) level.nesting operation.entry.right.now) operation.entry.position env.old out.old) }
 {
     let Operation {
@@ -217,7 +219,7 @@ fn eval_scope<L: Library + Definer>(
     out: &mut Outcome,
     library: &mut L,
 ) -> Result<Value, EvalEnd>
-    requires shallow { block_depth block.now ≤ max_depth }
+    requires shallow { block_depth block.now ≤ max_tree_depth }
     ensures { Evaluates val_of (L.state library.old) (L.state library.new) result env.new out.new (λ a. then_do (block_runs (world level.room a) level.nesting block.now (entered false env.old) out.old) (λ _ env1 out1. scope_runs position env1 out1)) }
 {
     env.enter(false)?;
@@ -237,7 +239,7 @@ fn eval_list<L: Library + Definer>(
     out: &mut Outcome,
     library: &mut L,
 ) -> Result<Value, EvalEnd>
-    requires shallow { exprs_depth items.now ≤ max_depth }
+    requires shallow { exprs_depth items.now ≤ max_tree_depth }
     ensures { Evaluates val_of (L.state library.old) (L.state library.new) result env.new out.new (λ a. then_do (values_run (world level.room a) level.nesting items.now [] env.old out.old) (λ vs env1 out1. list_runs vs position env1 out1)) }
 {
     let values = eval_values(alloc, level, items.as_slice(), env, out, library)?;
@@ -255,7 +257,7 @@ pub(crate) fn eval_values<L: Library + Definer>(
     out: &mut Outcome,
     library: &mut L,
 ) -> Result<Vec<Value>, EvalEnd>
-    requires shallow { exprs_depth (exprs_of arguments.now) ≤ max_depth }
+    requires shallow { exprs_depth (exprs_of arguments.now) ≤ max_tree_depth }
     ensures { Evaluates (λ vs. map val_of vs.items) (L.state library.old) (L.state library.new) result env.new out.new (λ a. values_run (world level.room a) level.nesting (exprs_of arguments.now) [] env.old out.old) }
 {
     let mut values = Vec::new(alloc);

@@ -3,10 +3,10 @@
 ghost use Rattle.std.specs.Prelude.{◌≡◌, ◌+◌, IfSome, IfNone};
 ghost use Rattle.gn_meaning.specs.Steps.{deeper};
 
-/// How many calls of templates may still open, and how deep a part nests in its file.
+/// How many calls of templates and evaluations of what was read may still open, and how deep a part nests in its file.
 #[derive(Clone, Copy)]
 pub(crate) struct Level {
-    /// How many calls of templates may still open.
+    /// How many may still open.
     pub(crate) room: usize,
     /// How deep the part nests.
     pub(crate) nesting: u32,
@@ -36,8 +36,8 @@ impl Level {
         }
     }
 
-    /// The level of the body of a template that is called, whose block nests so deep. None comes exactly where no further
-    /// call may open.
+    /// The level of the body of a template that is called, whose block nests so deep, or of an expression that was read. None
+    /// comes exactly where no further one may open.
     pub(crate) fn called(self, nesting: u32) -> Option<Level>
         ensures some { IfSome result (λ l. (l.room + 1 ≡ self.room) × (l.nesting ≡ nesting)) }
         ensures none { IfNone result (self.room ≡ 0) }

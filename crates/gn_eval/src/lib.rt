@@ -9,10 +9,11 @@ mod expressions;
 mod level;
 mod library;
 mod operations;
+mod reading;
 mod special_calls;
 mod statements;
 
 pub use blocks::{run_block, run_file, run_import_file};
 pub use ending::EvalEnd;
-pub use gn_steps::{DefineError, Definer};
+pub use gn_calls_scopes::{DefineError, Definer};
 pub use library::{Found, Imported, LibStop, Library};

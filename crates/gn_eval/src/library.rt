@@ -39,7 +39,7 @@ pub enum Found {
     TooBig,
 }
 
-/// Answers what an evaluation asks, as far as it has the answers. It doesn't evaluate. What it tells only grows. Where it
+/// Answers what an evaluation asks, as far as it has the answers. It doesn't evaluate, and no call changes what it tells. Where it
 /// lacks an answer it notes what is needed and where the call stands, counts a stop, and answers `Stopped`; its owner
 /// then brings the answer, and evaluates from the start again.
 pub trait Library {

@@ -1,7 +1,7 @@
 // `defined` and `foreach`, which don't evaluate their first argument.
 
 ghost use Rattle.std.specs.Prelude.{◌≡◌, ◌≤◌, map, option_map};
-ghost use Rattle.gn_tree.specs.Depth.{max_depth, call_depth, expr_depth, body_depth};
+ghost use Rattle.gn_tree.specs.Depth.{max_tree_depth, call_depth, expr_depth, body_depth};
 ghost use Rattle.gn_tree.specs.Views.{call_of, body_of};
 ghost use Rattle.gn_values.specs.View.{val_of};
 ghost use Rattle.gn_meaning.specs.Steps.{deeper, then_do};
@@ -15,11 +15,13 @@ use crate::ending::EvalEnd;
 use crate::expressions::eval_expr;
 use crate::level::Level;
 use crate::library::Library;
+use gn_calls_scopes::Definer;
 use gn_env::Env;
+use gn_expressions::{has_element, has_entry, has_value, read_base};
 use gn_faults::Code;
 use gn_items::Outcome;
 use gn_paths::Text;
-use gn_steps::{Definer, has_element, has_entry, has_value, read_base, refuse, wrong};
+use gn_steps::{refuse, wrong};
 use gn_tree::{Block, Call, Expr, Position, SubExpr};
 use gn_values::Value;
 use std::alloc::Global;
@@ -36,7 +38,7 @@ pub(crate) fn run_defined<L: Library + Definer>(
     out: &mut Outcome,
     library: &mut L,
 ) -> Result<Option<Value>, EvalEnd>
-    requires shallow { call_depth (call_of call.now) ≤ max_depth }
+    requires shallow { call_depth (call_of call.now) ≤ max_tree_depth }
     ensures { Evaluates (option_map val_of) (L.state library.old) (L.state library.new) result env.new out.new (λ a. defined_runs (world level.room a) level.nesting call.now.arguments call.now.position call.now.name env.old out.old) }
 {
     let [argument] = call.arguments.as_slice() else {
@@ -75,7 +77,7 @@ fn has_item<L: Library + Definer>(
     out: &mut Outcome,
     library: &mut L,
 ) -> Result<Option<Value>, EvalEnd>
-    requires shallow { expr_depth index.now ≤ max_depth }
+    requires shallow { expr_depth index.now ≤ max_tree_depth }
     ensures { Evaluates (option_map val_of) (L.state library.old) (L.state library.new) result env.new out.new (λ a. then_do (base_runs base.now position env.old out.old) (λ _ env1 out1. then_do (expr_runs (world level.room a) (deeper level.nesting 1) index.now env1 out1) (λ at env2 out2. has_entry_runs base.now at position env2 out2))) }
 {
     read_base(alloc, base, position, env)?;
@@ -94,7 +96,7 @@ pub(crate) fn run_foreach<L: Library + Definer>(
     out: &mut Outcome,
     library: &mut L,
 ) -> Result<Option<Value>, EvalEnd>
-    requires shallow { call_depth (call_of call.now) ≤ max_depth }
+    requires shallow { call_depth (call_of call.now) ≤ max_tree_depth }
     ensures { Evaluates (option_map val_of) (L.state library.old) (L.state library.new) result env.new out.new (λ a. foreach_runs (world level.room a) level.nesting call.now.arguments call.now.position call.now.name (body_runs (world level.room a) level.nesting (body_of call.now.block)) env.old out.old) }
 {
     let [variable, list] = call.arguments.as_slice() else {
@@ -132,7 +134,7 @@ fn run_loop<L: Library + Definer>(
     out: &mut Outcome,
     library: &mut L,
 ) -> Result<Option<Value>, EvalEnd>
-    requires shallow { body_depth (body_of block.now) ≤ max_depth }
+    requires shallow { body_depth (body_of block.now) ≤ max_tree_depth }
     ensures { Evaluates (option_map val_of) (L.state library.old) (L.state library.new) result env.new out.new (λ a. loop_runs name.now (val_of list) at (body_runs (world level.room a) level.nesting (body_of block.now)) env.old out.old) }
 {
     match list {
@@ -159,7 +161,7 @@ fn run_rounds<L: Library + Definer>(
     out: &mut Outcome,
     library: &mut L,
 ) -> Result<(), EvalEnd>
-    requires shallow { body_depth (body_of block.now) ≤ max_depth }
+    requires shallow { body_depth (body_of block.now) ≤ max_tree_depth }
     ensures { Evaluates (λ u. u) (L.state library.old) (L.state library.new) result env.new out.new (λ a. turns_run name.now (body_runs (world level.room a) level.nesting (body_of block.now)) (map val_of items.items) env.old out.old) }
 {
     'rounds: for item in items {

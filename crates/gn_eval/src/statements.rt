@@ -1,7 +1,7 @@
 // Statements and blocks.
 
 ghost use Rattle.std.specs.Prelude.{◌≡◌, ◌<◌, ◌≤◌, OnOk};
-ghost use Rattle.gn_tree.specs.Depth.{max_depth, target_depth, statement_depth, condition_depth, otherwise_depth, block_depth};
+ghost use Rattle.gn_tree.specs.Depth.{max_tree_depth, target_depth, statement_depth, condition_depth, otherwise_depth, block_depth};
 ghost use Rattle.gn_tree.specs.Views.{target_of, statement_of, condition_of, otherwise_of};
 ghost use Rattle.gn_values.specs.View.{val_of};
 ghost use Rattle.gn_meaning.specs.Meaning.{world, assignment_runs, statement_runs, condition_runs, otherwise_runs, block_runs};
@@ -12,9 +12,10 @@ use crate::ending::EvalEnd;
 use crate::expressions::eval_expr;
 use crate::level::Level;
 use crate::library::Library;
+use gn_calls_scopes::Definer;
 use gn_env::Env;
+use gn_expressions::{assign_element, assign_name, truth};
 use gn_items::Outcome;
-use gn_steps::{Definer, assign_element, assign_name, truth};
 use gn_tree::{AssignOp, Block, Condition, Otherwise, Position, Statement, Target};
 use gn_values::Value;
 use std::alloc::Global;
@@ -30,7 +31,7 @@ pub(crate) fn run_statements<L: Library + Definer>(
     out: &mut Outcome,
     library: &mut L,
 ) -> Result<(), EvalEnd>
-    requires shallow { block_depth block.now ≤ max_depth }
+    requires shallow { block_depth block.now ≤ max_tree_depth }
     ensures { Evaluates (λ u. u) (L.state library.old) (L.state library.new) result env.new out.new (λ a. block_runs (world level.room a) level.nesting block.now env.old out.old) }
 {
     for statement in block.statements() {
@@ -50,7 +51,7 @@ fn run_statement<L: Library + Definer>(
     out: &mut Outcome,
     library: &mut L,
 ) -> Result<(), EvalEnd>
-    requires shallow { statement_depth (statement_of statement.now) ≤ max_depth }
+    requires shallow { statement_depth (statement_of statement.now) ≤ max_tree_depth }
     ensures { Evaluates (λ u. u) (L.state library.old) (L.state library.new) result env.new out.new (λ a. statement_runs (world level.room a) level.nesting (statement_of statement.now) env.old out.old) }
 {
     match statement {
@@ -89,7 +90,7 @@ fn assign<L: Library + Definer>(
     out: &mut Outcome,
     library: &mut L,
 ) -> Result<(), EvalEnd>
-    requires shallow { target_depth (target_of target.now) ≤ max_depth }
+    requires shallow { target_depth (target_of target.now) ≤ max_tree_depth }
     ensures { Evaluates (λ u. u) (L.state library.old) (L.state library.new) result env.new out.new (λ a. assignment_runs (world level.room a) level.nesting (target_of target.now) operator position (val_of value) env.old out.old) }
 {
     match target {
@@ -135,7 +136,7 @@ fn run_condition<L: Library + Definer>(
     out: &mut Outcome,
     library: &mut L,
 ) -> Result<(), EvalEnd>
-    requires shallow { condition_depth (condition_of condition.now) ≤ max_depth }
+    requires shallow { condition_depth (condition_of condition.now) ≤ max_tree_depth }
     ensures { Evaluates (λ u. u) (L.state library.old) (L.state library.new) result env.new out.new (λ a. condition_runs (world level.room a) level.nesting (condition_of condition.now) env.old out.old) }
 {
     let value = eval_expr(alloc, level.deeper(1), &condition.test, env, out, library)?;
@@ -158,7 +159,7 @@ fn run_otherwise<L: Library + Definer>(
     out: &mut Outcome,
     library: &mut L,
 ) -> Result<(), EvalEnd>
-    requires shallow { otherwise_depth (otherwise_of otherwise.now) ≤ max_depth }
+    requires shallow { otherwise_depth (otherwise_of otherwise.now) ≤ max_tree_depth }
     ensures { Evaluates (λ u. u) (L.state library.old) (L.state library.new) result env.new out.new (λ a. otherwise_runs (world level.room a) level.nesting (otherwise_of otherwise.now) env.old out.old) }
 {
     match otherwise {

@@ -4,21 +4,25 @@ use Rattle.std.specs.declared.sync.Arc.{Arc}
 use Rattle.gn_environment.specs.Environment.{Environment}
 use Rattle.gn_environment.specs.Templates.{body_begins, template_of}
 use Rattle.gn_eval.proofs.CallParts.{called_body, called_built_in, called_template, defined_item, foreach_two, one_expr, two_exprs, values_next}
-use Rattle.gn_eval.proofs.Covered.{covered, goes_on_further, then_failed}
+use Rattle.gn_eval.proofs.Covered.{covered, goes_on_further, then_failed, told_before}
 use Rattle.gn_eval.proofs.Joined.{joined_ended, joined_failed, operand_within, operation_done, operation_failed, operations_run, right_depth, right_depth-more, rights_within}
 use Rattle.gn_eval.proofs.Passed.{ended_claims, failed, failed_claims, goes_on_still, same_claims, step_claims}
+use Rattle.gn_eval.proofs.ReadValues.{read_claims, read_inside}
 use Rattle.gn_eval.specs.Ends.{Evaluates, IsFailure, end_of_step}
 use Rattle.gn_eval.specs.Parts.{parts}
 use Rattle.gn_eval.specs.declared.level.Level.{Level}
 use Rattle.gn_meaning.specs.Calls.{has_entry_runs, loop_runs}
+use Rattle.gn_meaning.specs.Contents.{evaluated_runs, read_ends}
 use Rattle.gn_meaning.specs.FunctionCalls.{built_in_runs, template_called_runs}
-use Rattle.gn_meaning.specs.Meaning.{block_runs, body_runs, call_runs, calls, defined_runs, expr_runs, foreach_runs, operators_in, values_run, world}
+use Rattle.gn_meaning.specs.Meaning.{block_runs, body_runs, call_runs, calls, defined_runs, expr_runs, foreach_runs, operators_in, reads, values_run, world}
 use Rattle.gn_meaning.specs.OpeningCalls.{begun_runs, opened_call_runs, valued_runs}
 use Rattle.gn_meaning.specs.Steps.{deeper, then_do}
 use Rattle.gn_meaning.specs.Words.{base_runs}
-use Rattle.gn_steps.specs.Openings.{opened_view, opener_view}
-use Rattle.gn_steps.specs.declared.openings.Opened.{Opened}
-use Rattle.gn_tree.specs.Depth.{expr_depth, max_depth}
+use Rattle.gn_calls_plain.specs.Contents.{read_view}
+use Rattle.gn_calls_scopes.specs.Openings.{opened_view, opener_view}
+use Rattle.gn_calls_plain.specs.declared.contents.Read.{Read}
+use Rattle.gn_calls_scopes.specs.declared.openings.Opened.{Opened}
+use Rattle.gn_tree.specs.Depth.{expr_depth, max_tree_depth}
 use Rattle.gn_tree.specs.FirstPosition.{first_position}
 use Rattle.gn_tree.specs.Tree.{BlockTree, ExprTree, expr_then, item_expr, name_expr, no_exprs}
 use Rattle.gn_tree.specs.Views.{body_of, call_of, expr_of, exprs_of}
@@ -32,7 +36,7 @@ use Rattle.gn_eval.proofs.+eval.Goals as goal
 pub expressions::eval_expr-eval_operand-requires : goal.expressions::eval_expr-eval_operand-requires
 expressions::eval_expr-eval_operand-requires g t c κs within =
     let less : expr_depth (expr_of c.in_ok-leftmost.leftmost.now) ≤ expr_depth (expr_of c.args.expr.now) = subst (λ (x : ExprTree). expr_depth (expr_of c.in_ok-leftmost.leftmost.now) ≤ expr_depth x) (sym c.in_ok-leftmost.ensures.whole) (operand_within (expr_of c.in_ok-leftmost.leftmost.now) c.in_ok-leftmost.operations.items) in
-    let shallow : expr_depth (expr_of c.in_ok-leftmost.leftmost.now) ≤ max_depth = omega (arith, less, c.requires.shallow) in
+    let shallow : expr_depth (expr_of c.in_ok-leftmost.leftmost.now) ≤ max_tree_depth = omega (arith, less, c.requires.shallow) in
     (search rules, (search rules, (c.in_ok-leftmost.ensures.operand, shallow)))
 
 pub expressions::eval_expr-returns-in_err-value : goal.expressions::eval_expr-returns-in_err-value
@@ -75,7 +79,7 @@ expressions::eval_expr-apply-requires g t c κs within =
     let small = c.operators.invariant.small in
     let room = c.operators.invariant.room in
     let less : expr_depth c.in-Some.operation.right.now + 1 ≤ expr_depth (expr_of c.args.expr.now) = omega arith in
-    let shallow : expr_depth c.in-Some.operation.right.now ≤ max_depth = omega (arith, less, c.requires.shallow) in
+    let shallow : expr_depth c.in-Some.operation.right.now ≤ max_tree_depth = omega (arith, less, c.requires.shallow) in
     (search rules, (search rules, shallow))
 
 pub expressions::eval_expr-returns-in_err-value-2 : goal.expressions::eval_expr-returns-in_err-value-2
@@ -89,7 +93,7 @@ expressions::eval_expr-returns-in_err-value-2 g t c =
       runs = λ a h.
           let w = world c.operators.inner.room a in
           let whole = expr_runs (world c.args.level.room a) c.args.level.nesting (expr_of c.args.expr.now) c.args.env.now c.args.out.now in
-          let before = c.operators.invariant.runs a (c.apply.ensures.goes.grows a (covered told c.from_residual-in_err-value-2.result a h)) in
+          let before = c.operators.invariant.runs a (told_before c.apply.ensures.goes a (covered told c.from_residual-in_err-value-2.result a h)) in
           failed Value val_of told need c.from_residual-in_err-value-2.result c.in_err-value-2.field-0.0 a c.apply.new.env c.apply.new.out whole c.from_residual-in_err-value-2.ensures.1
           (λ k. operation_failed w n whole c.operators.operations.items rest o (val_of c.operators.value) c.operators.env c.operators.out c.operators.invariant.capped before c.in-Some.ensures.items need c.in_err-value-2.field-0.0 c.apply.new.out (c.in_err-value-2.ensures.runs a k)) h;
       goes = goes_on_further _ _ _ c.operators.invariant.goes c.apply.ensures.goes;
@@ -108,7 +112,7 @@ expressions::eval_expr-operators-preserved g t c =
       runs = λ a h.
           let w = world c.operators.inner.room a in
           let whole = expr_runs (world c.args.level.room a) c.args.level.nesting (expr_of c.args.expr.now) c.args.env.now c.args.out.now in
-          operation_done w n whole c.operators.operations.items rest o (val_of c.operators.value) c.operators.env c.operators.out c.operators.invariant.capped (c.operators.invariant.runs a (c.apply.ensures.goes.grows a h)) c.in-Some.ensures.items (val_of c.in_ok-value-2.value) c.apply.new.env c.apply.new.out (c.in_ok-value-2.ensures.runs a h)
+          operation_done w n whole c.operators.operations.items rest o (val_of c.operators.value) c.operators.env c.operators.out c.operators.invariant.capped (c.operators.invariant.runs a (told_before c.apply.ensures.goes a h)) c.in-Some.ensures.items (val_of c.in_ok-value-2.value) c.apply.new.env c.apply.new.out (c.in_ok-value-2.ensures.runs a h)
           ∙ ap (λ (k : ℕ). operations_run w k rest (val_of c.in_ok-value-2.value) c.apply.new.env c.apply.new.out) (sym at)
           ∙ ap (λ (l : Level). operations_run (world l.room a) l.nesting rest (val_of c.in_ok-value-2.value) c.apply.new.env c.apply.new.out) (sym c.deeper-inner-in-Some.ensures);
       goes = goes_on_further _ _ _ c.operators.invariant.goes c.apply.ensures.goes;
@@ -152,7 +156,7 @@ expressions::eval_values-returns-in_err-value g t c =
     record {
       runs = λ a h.
           let w = world c.args.level.room a in
-          let before = c.loop-argument.invariant.runs a (c.eval_expr.ensures.goes.grows a (covered told c.from_residual.result a h)) in
+          let before = c.loop-argument.invariant.runs a (told_before c.eval_expr.ensures.goes a (covered told c.from_residual.result a h)) in
           let whole = before ∙ values_next w n es i c.argument-item.result vs c.loop-argument.env c.loop-argument.out c.loop-argument-test.true c.argument-item.is in
           failed Value view told need c.from_residual.result e a c.eval_expr.new.env c.eval_expr.new.out (values_run w n (exprs_of es) [] c.args.env.now c.args.out.now) c.from_residual.ensures.1
           (λ k. subst (λ r. IsFailure need e c.eval_expr.new.out r) (sym whole)
@@ -238,3 +242,35 @@ calls::run_template_body-returns g t c =
     ∙ ap (λ (b : BlockTree). block_runs (world inside.room a) inside.nesting b (body_begins definition c.args.name.now c.args.env.now) out) block
     ∙ ap (λ (e : Environment). block_runs (world inside.room a) inside.nesting c.block.result.now e out) begun)
     c.run_statements.ensures
+
+pub reading::eval_read-returns : goal.reading::eval_read-returns
+reading::eval_read-returns g t c =
+    let inside = c.in-Some.inside in
+    let expression = c.args.expression.now in
+    let nesting : inside.nesting ≡ 0 = c.in-Some.ensures.some.1 in
+    let room : inside.room + 1 ≡ c.args.level.room = c.in-Some.ensures.some.0 in
+    same_claims val_of (g.L.Library.state c.args.library.now) (g.L.Library.state c.eval_expr.new.library) c.eval_expr.result c.eval_expr.new.env c.eval_expr.new.out
+    (λ a. reads c.args.level.room a expression c.args.env.now c.args.out.now)
+    (λ a. expr_runs (world inside.room a) inside.nesting (expr_of c.get-expression.result.now) c.args.env.now c.args.out.now)
+    (λ a. read_inside c.args.level.room inside.room a expression c.args.env.now c.args.out.now room
+    ∙ ap (λ (n : ℕ). expr_runs (world inside.room a) n expression c.args.env.now c.args.out.now) (sym nesting)
+    ∙ ap (λ (e : ExprTree). expr_runs (world inside.room a) inside.nesting e c.args.env.now c.args.out.now) (sym c.get-expression.ensures))
+    c.eval_expr.ensures
+
+pub reading::end_read-returns-in_ok-begun-in-Expression : goal.reading::end_read-returns-in_ok-begun-in-Expression
+unfolding read_ends
+reading::end_read-returns-in_ok-begun-in-Expression g t c =
+    let before = g.L.Library.state c.args.library.now in
+    let after = g.L.Library.state c.eval_read-value.new.library in
+    let nesting = c.args.level.nesting in
+    let call = c.args.call.now in
+    let env = c.args.env.now in
+    let out = c.args.out.now in
+    let expression = c.in-Expression.expression in
+    let begun = c.in_ok-begun-in-Expression.begun in
+    same_claims (option_map val_of) before after c.end_expression.result env c.eval_read-value.new.out
+    (λ a. read_ends (reads c.args.level.room a) (read_view c.args.read) nesting call env out)
+    (λ a. evaluated_runs (reads c.args.level.room a expression begun out) call env)
+    (λ a. ap (λ (r : Read). read_ends (reads c.args.level.room a) (read_view r) nesting call env out) c.in-Expression.is
+    ∙ ap (λ (e : Environment). evaluated_runs (reads c.args.level.room a expression e out) call env) (sym c.in_ok-begun-in-Expression.ensures))
+    (read_claims call env before after c.eval_read-value.new.env c.eval_read-value.new.out (λ a. reads c.args.level.room a expression begun out) c.eval_read-value.result c.end_expression.result c.end_expression.ensures c.eval_read-value.ensures)

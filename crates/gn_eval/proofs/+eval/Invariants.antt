@@ -10,7 +10,7 @@ use Rattle.gn_eval.specs.Library.{Includes, GoesOn}
 use Rattle.gn_eval.proofs.Joined.{operations_run, right_depth}
 use Rattle.gn_eval.proofs.+eval.Given as goal
 
--- The calls of templates that may still open, then ten times the depth, and then a rank for calls at one depth.
+-- The calls of templates and evaluations of what was read that may still open, then ten times the depth, and then a rank for calls at one depth.
 
 abbrev pub decreases-expressions::eval_expr : goal.decreases-expressions::eval_expr
 decreases-expressions::eval_expr g l = l.level.room * 4294967296 + (10 * expr_depth (expr_of l.expr.now) + 5)
@@ -71,6 +71,15 @@ decreases-calls::run_template_body g l = l.level.room * 4294967296
 
 abbrev pub decreases-calls::run_opened : goal.decreases-calls::run_opened
 decreases-calls::run_opened g l = l.level.room * 4294967296 + 10 * call_depth (call_of l.call.now)
+
+abbrev pub decreases-reading::run_read_file : goal.decreases-reading::run_read_file
+decreases-reading::run_read_file g l = l.level.room * 4294967296 + (10 * call_depth (call_of l.call.now) + 2)
+
+abbrev pub decreases-reading::end_read : goal.decreases-reading::end_read
+decreases-reading::end_read g l = l.level.room * 4294967296 + 1
+
+abbrev pub decreases-reading::eval_read : goal.decreases-reading::eval_read
+decreases-reading::eval_read g l = l.level.room * 4294967296
 
 abbrev pub decreases-special_calls::run_defined : goal.decreases-special_calls::run_defined
 decreases-special_calls::run_defined g l = l.level.room * 4294967296 + (10 * call_depth (call_of l.call.now) + 2)
