@@ -84,12 +84,15 @@ covered told (Err (Spoiled path place)) a h = h
 covered told (Err Stopped) a h = subst (λ (t : Option Answers). Includes t a) (sym h) (below_itself a)
 covered told (Err Memory) a h = absurd h
 
+-- answers that include what is told later include what was told before
+pub told_before : {s t : LibraryState} → GoesOn s t → (a : Answers) → Includes t.told a → Includes s.told a
+told_before goes a h = subst (λ (x : Option Answers). Includes x a) goes.told h
+
 -- a library that goes on, and on from there
 pub goes_on_further : (s t u : LibraryState) → GoesOn s t → GoesOn t u → GoesOn s u
 goes_on_further s t u first second = record {
-  seat = second.seat ∙ first.seat;
+  told = second.told ∙ first.told;
   later = omega (arith, first.later, second.later);
-  grows = λ a h. first.grows a (second.grows a h);
 }
 
 -- how a build file ends that has run

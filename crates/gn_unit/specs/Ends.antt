@@ -5,13 +5,16 @@ use Rattle.gn_items.specs.Effects.{Effects}
 use Rattle.gn_items.specs.declared.key.Key.{Key}
 use Rattle.gn_items.specs.declared.key.Key.TheVariants.{Import as ImportKey, Load as LoadKey}
 use Rattle.gn_items.specs.Questions.{question_of}
-use Rattle.gn_runs.specs.Runs.{Question, Answers, End, ended, wrong, spoiled, needs}
+use Rattle.gn_runs.specs.Runs.{Question, Answers, End, ended, wrong, spoiled, needs, Run}
 use Rattle.gn_environment.specs.Environment.{Environment}
 use Rattle.gn_meaning.specs.Steps.{Left}
 use Rattle.gn_eval.specs.Library.{Need}
+use Rattle.gn_eval.specs.Ends.{asked_until}
 use Rattle.gn_executions.specs.Units.{import_execution, load_execution}
 use Rattle.gn_unit.specs.declared.unit.Unit.{Unit as Evaluated}
 use Rattle.gn_unit.specs.declared.unit.Unit.TheVariants.{Load, Import, Wrong, Spoiled}
+use Rattle.gn_unit.specs.declared.unit.EvalStop.{EvalStop}
+use Rattle.gn_unit.specs.declared.unit.EvalStop.TheVariants.{Stopped, Memory}
 use Rattle.gn_executions.specs.Base.{BaseState}
 
 -- an execution has ended with this value and these effects, whatever its environment is then
@@ -42,14 +45,19 @@ IsUnitOf base (ImportKey when toolchain path) unit answers = IsImportOf unit (im
 IsUnitOf base (LoadKey directory toolchain) unit answers = IsLoadOf unit (load_execution base directory toolchain answers).end
 IsUnitOf base _ unit answers = ⊥
 
--- over these answers an execution needs what was noted
-abbrev pub IsNeeded : {A : Type 0} → Need → End A → Type 0
-IsNeeded need end = end ≡ needs need.question need.place
+-- over these answers an execution needs what was noted, and has asked these questions before
+abbrev pub IsNeeded : {A : Type 0} → Need → List Question → Run A → Type 0
+IsNeeded need asked run = run ≡ record { end = needs need.question need.place; asked = asked_until need.question asked }
 
-abbrev pub IsNeedOf : BaseState → Key → Need → Answers → Type 0
-IsNeedOf base (ImportKey when toolchain path) need answers = IsNeeded need (import_execution base when toolchain path answers).end
-IsNeedOf base (LoadKey directory toolchain) need answers = IsNeeded need (load_execution base directory toolchain answers).end
-IsNeedOf base _ need answers = ⊥
+abbrev pub IsNeedOf : BaseState → Key → Need → List Question → Answers → Type 0
+IsNeedOf base (ImportKey when toolchain path) need asked answers = IsNeeded need asked (import_execution base when toolchain path answers)
+IsNeedOf base (LoadKey directory toolchain) need asked answers = IsNeeded need asked (load_execution base directory toolchain answers)
+IsNeedOf base _ need asked answers = ⊥
+
+-- where the library has stopped, a fact of the questions asked before
+abbrev pub WhereStopped : EvalStop → (List Question → Type 0) → Type 0
+WhereStopped (Stopped asked) P = P (map question_of asked.items)
+WhereStopped Memory P = Unit {0}
 
 -- the questions that were asked, as is answered for a key
 abbrev pub asked_of : Evaluated → List Question

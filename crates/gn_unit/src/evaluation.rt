@@ -1,9 +1,9 @@
 // The evaluation of what a key names.
 
-ghost use Rattle.std.specs.Prelude.{◌≡◌, ◌<◌, Err, IfOk, IfErr, Some};
+ghost use Rattle.std.specs.Prelude.{◌≡◌, ◌<◌, IfOk, IfErr, Some};
 ghost use Rattle.gn_runs.specs.Runs.{Answers};
 ghost use Rattle.gn_eval.specs.Library.{Includes, GoesOn};
-ghost use Rattle.gn_unit.specs.Ends.{IsExecuted, IsLoadOf, IsImportOf, IsUnitOf, IsNeeded, IsNeedOf, asked_of, HasAskedOf};
+ghost use Rattle.gn_unit.specs.Ends.{IsExecuted, IsLoadOf, IsImportOf, IsUnitOf, IsNeeded, IsNeedOf, WhereStopped, asked_of, HasAskedOf};
 ghost use Rattle.gn_executions.specs.Units.{load_execution, import_execution};
 
 use crate::base::Base;
@@ -24,16 +24,16 @@ fn load_unit<L: Library + Definer>(
 ) -> Result<Unit, EvalStop>
     ensures unit { IfOk result (λ unit. (a : Answers) → Includes (L.state library.new).told a → IsLoadOf unit (load_execution base.now directory.now toolchain.now a).end) }
     ensures asked { IfOk result (λ unit. (a : Answers) → Includes (L.state library.new).told a → (load_execution base.now directory.now toolchain.now a).asked ≡ asked_of unit) }
-    ensures need { result ≡ Err EvalStop.Stopped → (a : Answers) → (L.state library.new).told ≡ Some a → IsNeeded (L.state library.new).need (load_execution base.now directory.now toolchain.now a).end }
+    ensures need { IfErr result (λ stop. WhereStopped stop (λ asked. (a : Answers) → (L.state library.new).told ≡ Some a → IsNeeded (L.state library.new).need asked (load_execution base.now directory.now toolchain.now a))) }
     ensures goes { GoesOn (L.state library.old) (L.state library.new) }
-    ensures rose { result ≡ Err EvalStop.Stopped → (L.state library.old).stops < (L.state library.new).stops }
+    ensures rose { IfErr result (λ stop. WhereStopped stop (λ asked. (L.state library.old).stops < (L.state library.new).stops)) }
 {
     let mut out = Outcome::new(alloc);
     match execute_load(alloc, base, directory, toolchain, &mut out, library) {
         Ok(()) => Ok(Unit::Load(out)),
         Err(EvalEnd::Wrong(fault)) => Ok(Unit::Wrong(fault, out.into_asked())),
         Err(EvalEnd::Spoiled(path, place)) => Ok(Unit::Spoiled(path, place, out.into_asked())),
-        Err(EvalEnd::Stopped) => Err(EvalStop::Stopped),
+        Err(EvalEnd::Stopped) => Err(EvalStop::Stopped(out.into_asked())),
         Err(EvalEnd::Memory) => Err(EvalStop::Memory),
     }
 }
@@ -49,16 +49,16 @@ fn import_unit<L: Library + Definer>(
 ) -> Result<Unit, EvalStop>
     ensures unit { IfOk result (λ unit. (a : Answers) → Includes (L.state library.new).told a → IsImportOf unit (import_execution base.now when toolchain.now path.now a).end) }
     ensures asked { IfOk result (λ unit. (a : Answers) → Includes (L.state library.new).told a → (import_execution base.now when toolchain.now path.now a).asked ≡ asked_of unit) }
-    ensures need { result ≡ Err EvalStop.Stopped → (a : Answers) → (L.state library.new).told ≡ Some a → IsNeeded (L.state library.new).need (import_execution base.now when toolchain.now path.now a).end }
+    ensures need { IfErr result (λ stop. WhereStopped stop (λ asked. (a : Answers) → (L.state library.new).told ≡ Some a → IsNeeded (L.state library.new).need asked (import_execution base.now when toolchain.now path.now a))) }
     ensures goes { GoesOn (L.state library.old) (L.state library.new) }
-    ensures rose { result ≡ Err EvalStop.Stopped → (L.state library.old).stops < (L.state library.new).stops }
+    ensures rose { IfErr result (λ stop. WhereStopped stop (λ asked. (L.state library.old).stops < (L.state library.new).stops)) }
 {
     let mut out = Outcome::new(alloc);
     match execute_import(alloc, base, when, toolchain, path, &mut out, library) {
         Ok(value) => Ok(Unit::Import(value, out)),
         Err(EvalEnd::Wrong(fault)) => Ok(Unit::Wrong(fault, out.into_asked())),
         Err(EvalEnd::Spoiled(path, place)) => Ok(Unit::Spoiled(path, place, out.into_asked())),
-        Err(EvalEnd::Stopped) => Err(EvalStop::Stopped),
+        Err(EvalEnd::Stopped) => Err(EvalStop::Stopped(out.into_asked())),
         Err(EvalEnd::Memory) => Err(EvalStop::Memory),
     }
 }
@@ -73,9 +73,9 @@ fn unit_of<L: Library + Definer>(
     requires { IsExecuted key.now }
     ensures unit { IfOk result (λ unit. (a : Answers) → Includes (L.state library.new).told a → IsUnitOf base.now key.now unit a) }
     ensures asked { IfOk result (λ unit. (a : Answers) → Includes (L.state library.new).told a → HasAskedOf base.now key.now unit a) }
-    ensures need { result ≡ Err EvalStop.Stopped → (a : Answers) → (L.state library.new).told ≡ Some a → IsNeedOf base.now key.now (L.state library.new).need a }
+    ensures need { IfErr result (λ stop. WhereStopped stop (λ asked. (a : Answers) → (L.state library.new).told ≡ Some a → IsNeedOf base.now key.now (L.state library.new).need asked a)) }
     ensures goes { GoesOn (L.state library.old) (L.state library.new) }
-    ensures rose { result ≡ Err EvalStop.Stopped → (L.state library.old).stops < (L.state library.new).stops }
+    ensures rose { IfErr result (λ stop. WhereStopped stop (λ asked. (L.state library.old).stops < (L.state library.new).stops)) }
 {
     match key {
         Key::Load(directory, toolchain) => load_unit(alloc, base, directory, toolchain, library),
@@ -89,7 +89,7 @@ fn unit_of<L: Library + Definer>(
 /// Executes the file that the key of a claim names, under the toolchain of the key, from its start, over a base and what the
 /// library tells. The claim comes back. What is answered is how that execution ends over all answers that include those
 /// told, and what it asked. `Stopped` comes where the library lacks an answer: over just what it tells, the execution needs
-/// the one that it has noted. The base is that of the evaluations under this toolchain: what its context says is taken.
+/// the one that it has noted, and asks it behind the questions that come back. The base is that of the evaluations under this toolchain: what its context says is taken.
 pub fn evaluate<L: Library + Definer>(
     alloc: Global,
     claim: Claim,
@@ -101,9 +101,9 @@ pub fn evaluate<L: Library + Definer>(
     ensures claim_back { IfErr result (λ r. r.0 ≡ claim) }
     ensures unit { IfOk result (λ r. (a : Answers) → Includes (L.state library.new).told a → IsUnitOf base.now claim.key r.1 a) }
     ensures asked { IfOk result (λ r. (a : Answers) → Includes (L.state library.new).told a → HasAskedOf base.now claim.key r.1 a) }
-    ensures need { IfErr result (λ r. r.1 ≡ EvalStop.Stopped → (a : Answers) → (L.state library.new).told ≡ Some a → IsNeedOf base.now claim.key (L.state library.new).need a) }
+    ensures need { IfErr result (λ r. WhereStopped r.1 (λ asked. (a : Answers) → (L.state library.new).told ≡ Some a → IsNeedOf base.now claim.key (L.state library.new).need asked a)) }
     ensures goes { GoesOn (L.state library.old) (L.state library.new) }
-    ensures rose { IfErr result (λ r. r.1 ≡ EvalStop.Stopped → (L.state library.old).stops < (L.state library.new).stops) }
+    ensures rose { IfErr result (λ r. WhereStopped r.1 (λ asked. (L.state library.old).stops < (L.state library.new).stops)) }
 {
     match unit_of(alloc, base, &claim.key, library) {
         Ok(unit) => Ok((claim, unit)),

@@ -1,6 +1,7 @@
 // The execution of a whole file.
 
 ghost use Rattle.std.specs.Prelude.{◌≡◌, ◌≢◌, ◌≤◌, [], true, false, Err, IfOk, length};
+ghost use Rattle.gn_value_model.specs.Limits.{max_bytes};
 ghost use Rattle.gn_tree.specs.Depth.{IsShallow};
 ghost use Rattle.gn_faults.specs.declared.file_kind.FileKind.{FileKind as Kind};
 ghost use Rattle.gn_items.specs.Effects.{Effects};
@@ -66,7 +67,7 @@ fn environment(
 
 // What the bytes of the file at a path are read as: their tree, or the fault of their first error.
 fn parsed(alloc: Global, base: &Base, path: &Path, bytes: &[u8]) -> Result<Parsed, EvalEnd>
-    requires { length bytes.now ≤ 16777216 }
+    requires { length bytes.now ≤ max_bytes }
     ensures tree { (kind : Kind) (env : Environment) (need : Need) (out : Effects) → env.setting ≡ setting_of base.now kind path.now → IsRun (λ t. t) need result env out (reading_runs bytes.now (reading bytes.now) env out) }
     ensures reads { result ≢ Err EvalEnd.Stopped }
     ensures shallow { IfOk result (λ tree. IsShallow tree) }

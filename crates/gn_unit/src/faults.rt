@@ -1,6 +1,7 @@
 // The faults of a file that are found before it runs.
 
 ghost use Rattle.std.specs.Prelude.{◌≡◌, ◌≤◌, Some, length, IfOk, MatchOption};
+ghost use Rattle.gn_value_model.specs.Limits.{max_bytes};
 ghost use Rattle.gn_grammar.specs.Position.{position_of};
 ghost use Rattle.gn_syntax.specs.Reading.{fault_of};
 ghost use Rattle.gn_faults.specs.declared.file_kind.FileKind.{FileKind as Kind};
@@ -70,7 +71,7 @@ pub(crate) fn syntax_fault(
     bytes: &[u8],
     error: SyntaxError,
 ) -> Result<Fault, AllocError>
-    requires { length bytes.now ≤ 16777216 }
+    requires { length bytes.now ≤ max_bytes }
     ensures { IfOk result (λ f. MatchOption (fault_of error) ⊥ (λ found.
         (kind : Kind) → f ≡ syntax_fault (setting_of base.now kind path.now) bytes.now found)) }
 {
@@ -89,7 +90,7 @@ pub(crate) fn syntax_fault(
 
 // The line and column of an offset. One behind the end of the file counts as the end.
 fn position_of(bytes: &[u8], offset: usize) -> Position
-    requires { length bytes.now ≤ 16777216 }
+    requires { length bytes.now ≤ max_bytes }
     ensures { result ≡ position_of bytes.now offset }
 {
     let (line, column) = place_of(bytes, offset.min(bytes.len()));

@@ -20,10 +20,10 @@ pub enum Unit {
 }
 
 /// Why an evaluation has no end yet.
-#[derive(Debug, Drop)]
+#[derive(Drop)]
 pub enum EvalStop {
-    /// The library has stopped: it lacks the answer that it has noted.
-    Stopped,
+    /// The library has stopped: it lacks the answer that it has noted; and the questions asked before, in order.
+    Stopped(Vec<Question>),
     /// Want of memory.
     Memory,
 }

@@ -4,7 +4,7 @@ use Rattle.gn_syntax.specs.declared.file.Parsed.{Parsed}
 use Rattle.gn_faults.specs.declared.file_kind.FileKind.TheVariants.{Import}
 use Rattle.gn_meaning.specs.Meaning.{import_file_runs}
 use Rattle.gn_executions.specs.Units.{tree_runs, import_begins, import_runs}
-use Rattle.gn_unit.proofs.Executions.{import_set, covered, goes_on_further, then_goes, then_fails}
+use Rattle.gn_unit.proofs.Executions.{import_set, covered, told_before, goes_on_further, then_goes, then_fails}
 use Rattle.gn_unit.proofs.execution.execute_import.Goals as goal
 
 pub returns-in_err-parsed : goal.returns-in_err-parsed
@@ -30,7 +30,7 @@ returns g c =
     record {
       runs = λ a h.
           then_goes (λ tree env1 out1. import_file_runs a tree env1 out1) need (λ u. u) (tree_runs a begins c.args.out.now) c.in_ok-parsed.parsed c.block.result.now begins c.tree_at.new.out c.run_imported.new.out c.run_imported.result
-          (c.in_ok-parsed.ensures.evaluates.runs a (c.run_imported.ensures.goes.grows a (covered told c.run_imported.result a h)) Import begins (import_set c.args.base.now c.args.when c.args.toolchain.now c.args.path.now)) c.block.ensures (c.run_imported.ensures.runs a h);
+          (c.in_ok-parsed.ensures.evaluates.runs a (told_before c.run_imported.ensures.goes a (covered told c.run_imported.result a h)) Import begins (import_set c.args.base.now c.args.when c.args.toolchain.now c.args.path.now)) c.block.ensures (c.run_imported.ensures.runs a h);
       goes = goes_on_further _ _ _ c.in_ok-parsed.ensures.evaluates.goes c.run_imported.ensures.goes;
       rose = λ e. omega (arith, c.in_ok-parsed.ensures.evaluates.goes.later, c.run_imported.ensures.rose e);
     }
