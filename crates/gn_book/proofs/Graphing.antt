@@ -22,7 +22,7 @@ use Rattle.gn_book.specs.Logs.{Log, opening, state_of, with_event, with_key}
 use Rattle.gn_book.specs.Books.{log_in, IsWhole}
 use Rattle.gn_book.specs.Rosters.{Table, with_number, with_key as with_more}
 use Rattle.gn_book.specs.NextLaws.{HasNumber}
-use Rattle.gn_book.specs.Graphs.{is_unit, with_told, with_answer, IsNew, IsGraphOf, UnitsHaveNumbers, HasMoreKeys, with_fact, Looked, none, more, AreNumbered, IsGraphed}
+use Rattle.gn_book.specs.Graphs.{is_unit, with_told, with_answer, IsNew, IsGraphOf, UnitsHaveNumbers, HasMoreKeys, OnlyUnitsAreNew, with_fact, Looked, none, more, AreNumbered, IsGraphed}
 use Rattle.gn_book.proofs.Keeping.{replay_push}
 use Rattle.gn_book.proofs.Numbering.{get_more, get_last, found as has_number, number_step}
 use Rattle.gn_book.proofs.Rostering.{got_within, at_end}
@@ -231,6 +231,7 @@ module _ (seats remaining : ℕ) (stop : Option Reason) (es : List Logged) (used
     now : Log
     view_is : log_in seats t.keys t.standings es ≡ now
     more_keys : HasMoreKeys old now
+    only : OnlyUnitsAreNew old now
     numbered : AreNumbered t.keys g n
 
   kept_other : (n m : ℕ) (t u : Table) (s : Step) → slice_get g.found n ≡ Some s → ((k : Unit_key) → s ≡ is_reached k → ⊥) → m ≡ n + 1 → u ≡ t → Kept n t → Kept m u
@@ -240,6 +241,7 @@ module _ (seats remaining : ℕ) (stop : Option Reason) (es : List Logged) (used
         now = kept.now;
         view_is = kept.view_is;
         more_keys = kept.more_keys;
+        only = kept.only;
         numbered = numbered_other t.keys g n (got_within g.found n s at) (λ k e. let one : Some s ≡ Some (is_reached k) = sym at ∙ e in apart k (cc one)) kept.numbered;
       }))
 
@@ -256,6 +258,7 @@ module _ (seats remaining : ℕ) (stop : Option Reason) (es : List Logged) (used
           keys = more_then old.keys kept.now.keys (with_key kept.now (Unit_of k)).keys kept.more_keys.keys (one_more (list_any (same_key (Unit_of k)) kept.now.keys) kept.now.keys);
           events = kept.more_keys.events;
         };
+        only = λ i q e. only_one (list_any (same_key (Unit_of k)) kept.now.keys) kept.now.keys i q kept.only e;
         numbered = subst (λ (z : List Key). AreNumbered z g (n + 1)) (sym keys)
             (numbered_fact t.keys g n k (got_within g.found n (is_reached k) at) at ((whole (Is_reached k)).0 (in_list g.found n (is_reached k) at)) kept.numbered (list_any (same_key (Unit_of k)) t.keys) refl);
       })
@@ -263,6 +266,10 @@ module _ (seats remaining : ℕ) (stop : Option Reason) (es : List Logged) (used
       keys_of : (b : Bool) → (if b then t else with_more t (Unit_of k)).keys ≡ (if b then t.keys else t.keys ++ Unit_of k ∷ [])
       keys_of true = refl
       keys_of false = refl
+
+      only_one : (b : Bool) (ks : List Key) (i : ℕ) (q : Key) → ((j : ℕ) (r : Key) → slice_get ks j ≡ Some r → (slice_get old.keys j ≡ Some r) ⊎ (is_unit r ≡ true)) → slice_get (if b then ks else ks ++ Unit_of k ∷ []) i ≡ Some q → (slice_get old.keys i ≡ Some q) ⊎ (is_unit q ≡ true)
+      only_one true ks i q only e = only i q e
+      only_one false ks i q only e = elim (get_last ks (Unit_of k) q i e) [ inl a ↦ only i q a | inr a ↦ inr (ap is_unit a.1) ]
 
       one_more : (b : Bool) (ks : List Key) → IsMore ks (if b then ks else ks ++ Unit_of k ∷ [])
       one_more true ks = more_none ks
@@ -285,12 +292,14 @@ module _ (seats remaining : ℕ) (stop : Option Reason) (es : List Logged) (used
   pub looked_at : (t0 t : Table) (from n : ℕ) → IsWhole seats remaining stop t0.keys t0.standings es used capacity → log_in seats t0.keys t0.standings es ≡ old
       → IsGraphed (log_in seats t0.keys t0.standings es) g from → Looked g.found from t0 n t
       → IsWhole seats remaining stop t.keys t.standings es used capacity × IsGraphed (log_in seats t.keys t.standings es) g n × HasMoreKeys old (log_in seats t.keys t.standings es)
+      × OnlyUnitsAreNew old (log_in seats t.keys t.standings es)
   looked_at t0 t from n is_whole view_is graphed looked =
       let kept = kept_looked from t0 (record {
         is_whole = is_whole;
         now = old;
         view_is = view_is;
         more_keys = record { seats = refl; keys = more_none old.keys; events = refl };
+        only = λ i k e. inl e;
         numbered = graphed.1;
       }) n t looked in
       let more : HasMoreKeys old (log_in seats t.keys t.standings es) = subst (λ (z : Log). HasMoreKeys old z) (sym kept.view_is) kept.more_keys in
@@ -298,6 +307,7 @@ module _ (seats remaining : ℕ) (stop : Option Reason) (es : List Logged) (used
         kept.is_whole,
         (subst (λ (z : List Event). IsGraphOf g.replies (replay opening z).filed) (sym more.events) over, kept.numbered),
         more,
+        subst (λ (z : Log). OnlyUnitsAreNew old z) (sym kept.view_is) kept.only,
       )
 
   -- and all of them

@@ -1,5 +1,5 @@
 -- The graph of a book: it is over the answers of units that are filed, and the units that it reaches have numbers.
-use Rattle.std.specs.Prelude.{◌≡◌, ℕ, ◌<◌, ◌≤◌, ◌+◌, List, [], ◌∷◌, ◌++◌, length, Option, Some, None, slice_get, ◌↔◌, Bool, true, false}
+use Rattle.std.specs.Prelude.{◌≡◌, ◌⊎◌, ℕ, ◌<◌, ◌≤◌, ◌+◌, List, [], ◌∷◌, ◌++◌, length, Option, Some, None, slice_get, ◌↔◌, Bool, true, false}
 use Rattle.gn_closure.specs.Reach.{Unit_key, Done, Is_reached, Is_wanted, Is_generated, Holds}
 use Rattle.gn_closure.specs.Ground.{Step, Holding, Asked, Used, Defined, Set_up}
 use Rattle.gn_closure.specs.Computed.{is_reached}
@@ -65,6 +65,10 @@ pub record HasMoreKeys (old new : Log) : Type 0 where
   pub seats : new.seats ≡ old.seats
   pub keys : IsMore old.keys new.keys
   pub events : new.events ≡ old.events
+
+-- only units have got numbers
+abbrev pub OnlyUnitsAreNew : Log → Log → Type 0
+OnlyUnitsAreNew old new = (i : ℕ) (k : Key) → slice_get new.keys i ≡ Some k → (slice_get old.keys i ≡ Some k) ⊎ (is_unit k ≡ true)
 
 -- the keys after a fact was looked at: a unit that is reached gets a number
 abbrev pub with_fact : Table → Step → Table

@@ -23,6 +23,10 @@ opening = record { filed = λ k. None; claims = λ k. None; blocks = λ k. None;
 abbrev pub state_of : Log → State
 state_of l = replay opening l.events
 
+-- no key has two numbers
+abbrev pub KeysDiffer : Log → Type 0
+KeysDiffer l = (i j : ℕ) (k : Key) → slice_get l.keys i ≡ Some k → slice_get l.keys j ≡ Some k → i ≡ j
+
 -- one more event
 abbrev pub with_event : Log → Event → Log
 with_event l e = record { seats = l.seats; keys = l.keys; events = l.events ++ e ∷ [] }

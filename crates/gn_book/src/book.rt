@@ -6,9 +6,9 @@ ghost use Rattle.gn_book.specs.declared.book.Claim.{Claim};
 ghost use Rattle.gn_book.specs.declared.book.Blocked.TheVariants.{Work, Wait, Cyclic};
 ghost use Rattle.gn_book.specs.Blocks.{LeadsBack, BlocksAs};
 ghost use Rattle.gn_book.specs.Keys.{key_of};
-ghost use Rattle.gn_book.specs.Logs.{Log, state_of, with_key, with_event, block_event, key_at, events_by, IsFree, cause_in, HasKeys, has_stopped, earlier, first_cause};
+ghost use Rattle.gn_book.specs.Logs.{Log, KeysDiffer, state_of, with_key, with_event, block_event, key_at, events_by, IsFree, cause_in, HasKeys, has_stopped, earlier, first_cause};
 ghost use Rattle.gn_book.specs.Next.{HasNoClaim, NextIs};
-ghost use Rattle.gn_book.specs.Graphs.{is_unit, IsNew, with_answer, UnitsHaveNumbers, HasMoreKeys};
+ghost use Rattle.gn_book.specs.Graphs.{is_unit, IsNew, with_answer, UnitsHaveNumbers, HasMoreKeys, OnlyUnitsAreNew};
 ghost use Rattle.gn_closure.specs.Computed.{is_too_large};
 ghost use Rattle.gn_core.specs.Keys.{units};
 ghost use Rattle.gn_graph.specs.Needs.{home};
@@ -181,6 +181,14 @@ impl<A: Answer> Book<A> {
         self.roster.key(key)
     }
 
+    /// No key has two numbers. It does nothing.
+    pub fn keys_differ(&self)
+        ensures { KeysDiffer self.now }
+    {
+        // Looking inside brings what holds of every book.
+        let _seats = self.seats;
+    }
+
     /// The answer of the key of a number. None comes exactly where none is filed. It takes no memory.
     pub fn answer(&self, key: KeyId) -> Option<&A>
         requires { key < length self.now.keys }
@@ -249,6 +257,7 @@ impl<A: Answer> Book<A> {
     pub fn number_reached(&mut self) -> Result<(), AllocError>
         ensures ok { OnOk result (UnitsHaveNumbers self.new) }
         ensures keys { HasMoreKeys self.old self.new }
+        ensures units { OnlyUnitsAreNew self.old self.new }
     {
         number_facts(self.alloc, &mut self.roster, &self.graph, &mut self.seen)
     }

@@ -11,7 +11,6 @@ use Rattle.gn_values.specs.Imported.{ImportState}
 use Rattle.gn_runs.specs.Runs.{Question, content_of, import_of, End, ended, wrong, spoiled, needs, Run}
 use Rattle.gn_runs.specs.Laws.{IsAsked}
 use Rattle.gn_imports.specs.Rounds.{Project}
-use Rattle.gn_imports.specs.Causes.{outcome}
 use Rattle.gn_imports.specs.Asked.{asked_by, all_asked, imports_asked, in_path_order}
 use Rattle.gn_imports.specs.Loading.{IsOneOf, IsProject}
 use Rattle.gn_imports.proofs.Final.{final_run}
@@ -26,8 +25,8 @@ use Rattle.gn_closure.proofs.Closed.{same_equiv, member_first, member_more, memb
 use Rattle.gn_closure.proofs.Opened.{in_flat, flat_in}
 use Rattle.gn_closure.proofs.SameStep.{step_tested}
 use Rattle.gn_closure.proofs.Least.{limits_exact, computed_sound, computed_least}
-use Rattle.gn_core.specs.Keys.{Layer, Key, Read, Import, Unit_of, Answer, layer_of, key_of, units, same_key}
-use Rattle.gn_core.specs.Worlds.{World, project, import_as, all_meanings}
+use Rattle.gn_core.specs.Keys.{Layer, Key, Read, Import, Unit_of, Answer, layer_of, key_of, units, same_key, Leaving, seen}
+use Rattle.gn_core.specs.Worlds.{World, project, last_run, import_as, all_meanings}
 use Rattle.gn_core.specs.Layered.{IsLayered}
 use Rattle.gn_core.specs.Machine.{import_limit, read_limit, asked_in, IsNeeded, by_unit, by_import, NeededBy, itself, through, HasMore, IsImport, Exceeds}
 use Rattle.gn_core.specs.Counted.{imports_needed, unit_asks, unit_in_step, units_reached, is_large, has_large_import, files_of, files_read, LimitsAreComputed}
@@ -148,7 +147,7 @@ module _ (f : List ℕ → Key) (exact : (p q : List ℕ) → f p ≡ f q → p 
 
 -- What is needed is what is asked
 
-as_asked : (end : End ImportState) (asked : List Question) → asked_in (Some (import_as end asked)) ≡ asked
+as_asked : (end : End (Leaving ImportState)) (asked : List Question) → asked_in (Some (import_as end asked)) ≡ asked
 as_asked (ended x) asked = refl
 as_asked (wrong fault) asked = refl
 as_asked (spoiled path place) asked = refl
@@ -187,11 +186,11 @@ module _ (w : World) (l : IsLayered w) where
   is_project m = l.is.projects (all_meanings w) m
 
   asked_is : (m : Layer) (path : List ℕ) → asked_in (all_meanings w (Import m path)) ≡ asked_by (layer_project m) path
-  unfolding outcome
+  unfolding last_run
   asked_is m path =
       ap (λ (v : Answer). asked_in (Some v)) (true_fixed w l (Import m path))
-      ∙ as_asked (outcome (layer_project m) path).end (outcome (layer_project m) path).asked
-      ∙ sym (ap (λ (r : Run ImportState). r.asked) (final_run (layer_project m) ((layer_project m).execute path) ((is_project m).trees path)))
+      ∙ as_asked (last_run w (all_meanings w) m path).end (last_run w (all_meanings w) m path).asked
+      ∙ sym (ap (λ (r : Run (Leaving ImportState)). r.asked) (final_run (layer_project m) (w.import_run m (all_meanings w) path) (l.is.imports (all_meanings w) m path)))
 
   asked_there : (m : Layer) (path : List ℕ) (q : Question) → IsAsked (asked_in (all_meanings w (Import m path))) q → IsAsked (asked_by (layer_project m) path) q
   asked_there m path q i = subst (λ (z : List Question). IsAsked z q) (asked_is m path) i
@@ -244,7 +243,7 @@ module _ (w : World) (l : IsLayered w) where
     there_large h = counted_more (Import m) (import_exact m) Needs needed_paths needs_to needs_from import_limit ((Decides-ltb import_limit (length (imports_needed w m path))).0 h)
 
   -- by a unit
-  unit_needed : (k : Key) → IsNeeded w (all_meanings w) k → (u : Unit_key) × Holds w.home (units (all_meanings w)) (Is_reached u) × (q : Question) × (k ≡ key_of (layer_of u) q) × IsAsked (unit_asks w u) q
+  pub unit_needed : (k : Key) → IsNeeded w (all_meanings w) k → (u : Unit_key) × Holds w.home (units (all_meanings w)) (Is_reached u) × (q : Question) × (k ≡ key_of (layer_of u) q) × IsAsked (unit_asks w u) q
   unfolding unit_asks
   unit_needed k (by_unit u q h i) = (u, h, q, refl, all_asked_given (layer_project (layer_of u)) (asked_in (all_meanings w (Unit_of u))) q i)
   unit_needed k (by_import m path q h i) =
@@ -259,7 +258,7 @@ module _ (w : World) (l : IsLayered w) where
             (subst (λ z. IsAsked (asked_by (layer_project z) path) q) e.1 (asked_there m path q i)),
       )
 
-  needed_unit : (u : Unit_key) → Holds w.home (units (all_meanings w)) (Is_reached u) → (q : Question) → IsAsked (unit_asks w u) q → IsNeeded w (all_meanings w) (key_of (layer_of u) q)
+  pub needed_unit : (u : Unit_key) → Holds w.home (units (all_meanings w)) (Is_reached u) → (q : Question) → IsAsked (unit_asks w u) q → IsNeeded w (all_meanings w) (key_of (layer_of u) q)
   unfolding unit_asks
   needed_unit u h q a =
       all_asked_least (layer_project (layer_of u)) (λ r. IsNeeded w (all_meanings w) (key_of (layer_of u) r))

@@ -4,19 +4,24 @@ use mathlib.Core.Path.{fun_ext}
 use Rattle.gn_faults.specs.declared.fault.Fault.{Fault}
 use Rattle.gn_runs.specs.Runs.{is_absent, Answers, Run, leaves, fails, IsTree}
 use Rattle.gn_runs.proofs.Trees.{tree_leaves, tree_fails}
+use Rattle.gn_items.specs.Effects.{no_effects}
 use Rattle.gn_closure.specs.Reach.{Unit_key, Setup, Load, Done}
-use Rattle.gn_core.specs.Keys.{Layer, early, usual, Key, Read, Import, Unit_of, Resolve, Answer, Filed, layer_of, unit_in, units}
+use Rattle.gn_core.specs.Keys.{Layer, early, usual, Key, Read, Import, Unit_of, Resolve, Answer, Filed, layer_of, unit_in, units, Leaving}
 use Rattle.gn_core.specs.Worlds.{World}
 use Rattle.gn_core.specs.Layered.{IsPart, HasLayer, IsLayered}
 use Rattle.gn_core.proofs.Based.{units_part}
 
-abbrev left : Fault → Option (Option Done) → Run Done
+-- a unit that has no items
+abbrev nothing_more : Done → Leaving Done
+nothing_more d = record { value = d; effects = no_effects }
+
+abbrev left : Fault → Option (Option Done) → Run (Leaving Done)
 left fault None = fails fault
 left fault (Some None) = fails fault
-left fault (Some (Some d)) = leaves d
+left fault (Some (Some d)) = leaves (nothing_more d)
 
-abbrev unit_run : Fault → Done → Unit_key → Filed → Answers → Run Done
-unit_run fault d (Setup t) b a = leaves d
+abbrev unit_run : Fault → Done → Unit_key → Filed → Answers → Run (Leaving Done)
+unit_run fault d (Setup t) b a = leaves (nothing_more d)
 unit_run fault d (Load dir t) b a = left fault (units b (Setup []))
 
 abbrev stage_of : Key → ℕ
@@ -41,10 +46,10 @@ example fault d = record {
 left_tree : (fault : Fault) (x : Option (Option Done)) → IsTree (λ (a : Answers). left fault x)
 left_tree fault None = tree_fails fault
 left_tree fault (Some None) = tree_fails fault
-left_tree fault (Some (Some d)) = tree_leaves d
+left_tree fault (Some (Some d)) = tree_leaves (nothing_more d)
 
 unit_trees : (fault : Fault) (d : Done) (b : Filed) (k : Unit_key) → IsTree (unit_run fault d k b)
-unit_trees fault d b (Setup t) = tree_leaves d
+unit_trees fault d b (Setup t) = tree_leaves (nothing_more d)
 unit_trees fault d b (Load dir t) = left_tree fault (units b (Setup []))
 
 unit_sees : (fault : Fault) (d : Done) (k : Unit_key) (b c : Filed) → ((q : Key) → stage_of q < stage_of (Unit_of k) → b q ≡ c q) → unit_run fault d k b ≡ unit_run fault d k c
@@ -67,6 +72,7 @@ pub example_layered : (fault : Fault) (d : Done) → IsLayered (example fault d)
 example_layered fault d = record {
   is = record {
     projects = λ b l. record { trees = λ path. tree_fails fault; listed = λ path. inl refl; absent = λ path a h. tt };
+    imports = λ b l path. tree_fails fault;
     trees = unit_trees fault d;
   };
   imports_see = λ l path b c h. refl;

@@ -5,12 +5,11 @@ use Rattle.gn_paths.specs.declared.place.Place.{Place}
 use Rattle.gn_values.specs.Imported.{ImportState}
 use Rattle.gn_runs.specs.Runs.{Answers, needs, Run}
 use Rattle.gn_runs.specs.Laws.{IsSettled}
-use Rattle.gn_imports.specs.Rounds.{Project, final}
-use Rattle.gn_imports.specs.Causes.{outcome}
+use Rattle.gn_imports.specs.Rounds.{Project, knowing, values, final}
 use Rattle.gn_labels.specs.declared.label.Label.{Label}
 use Rattle.gn_closure.specs.Reach.{Done}
-use Rattle.gn_core.specs.Keys.{Layer, Key, Read, Import, Unit_of, Resolve, Answer, found, unit_is, record_is, Filed, layer_of, shown, put}
-use Rattle.gn_core.specs.Worlds.{World, project, import_answer, meaning, below, true_meaning, all_meanings}
+use Rattle.gn_core.specs.Keys.{Layer, Key, Read, Import, Unit_of, Resolve, Answer, found, unit_is, record_is, Filed, layer_of, shown, put, Leaving, seen}
+use Rattle.gn_core.specs.Worlds.{World, project, last_run, import_answer, meaning, below, true_meaning, all_meanings}
 use Rattle.gn_core.specs.Machine.{State, Event, Claim, Block, File, Stop, happens, replay, NeedsAt, IsRightImport, IsRight, IsFiled, AllowedOver, Allowed, Runs, IsOver, IsOpening}
 use Rattle.gn_core.specs.Layered.{IsPart, IsBased, IsLayered}
 use Rattle.gn_core.proofs.Based.{based_grows, reached_based, layer_based, import_layer, unit_layer}
@@ -22,16 +21,18 @@ use Rattle.gn_core.proofs.Kept.{Inv, event_kept}
 module _ (w : World) (l : IsLayered w) (b c : Filed) (s : ℕ) (same : (q : Key) → w.stage q < s → b q ≡ c q) where
   layer_same : (m : Layer) → ((path : List ℕ) → w.stage (Import m path) ≤ s) → project w b m ≡ project w c m
   layer_same m low =
-      ap (λ (f : List ℕ → Answers → Run ImportState). record { content = w.content; paths = w.paths; execute = f })
+      ap (λ (f : List ℕ → Answers → Run (Leaving ImportState)). record { content = w.content; paths = w.paths; execute = λ path answers. seen (f path answers) })
       (fun_ext (λ path. l.imports_see m path b c (λ q h. same q (omega (arith, h, low path)))))
 
   meaning_same : (k : Key) → w.stage k ≤ s → meaning w b k ≡ meaning w c k
+  unfolding last_run
   meaning_same (Read path) low = refl
   meaning_same (Import m path) low =
-      ap (λ (p : Project). import_answer (outcome p path)) (layer_same m (λ q. omega (arith, l.one_stage m q path, low)))
+      let same_project : project w b m ≡ project w c m = layer_same m (λ q. omega (arith, l.one_stage m q path, low)) in
+      ap import_answer (λ i. l.imports_see m path b c (λ q h. same q (omega (arith, h, low))) i (knowing (same_project i) (values (same_project i))))
   meaning_same (Unit_of k) low =
       ap (λ (p : Project). unit_is (w.unit_run k b (final p))) (layer_same (layer_of k) (λ q. omega (arith, l.asks_low k q, low)))
-      ∙ ap (λ (f : Answers → Run Done). unit_is (f (final (project w c (layer_of k))))) (l.units_see k b c (λ q h. same q (omega (arith, h, low))))
+      ∙ ap (λ (f : Answers → Run (Leaving Done)). unit_is (f (final (project w c (layer_of k))))) (l.units_see k b c (λ q h. same q (omega (arith, h, low))))
   meaning_same (Resolve m) low = ap record_is (l.records_see m b c (λ q h. same q (omega (arith, h, low))))
 
 below_same : (w : World) → IsLayered w → (n m : ℕ) (q : Key) → w.stage q < n → w.stage q < m → below w n q ≡ below w m q
@@ -58,17 +59,17 @@ module _ (w : World) (l : IsLayered w) (s : State) (inv : Inv w (all_meanings w)
   needs_lowered : (k on : Key) (p : Place) (seat : ℕ) → s.claims k ≡ Some seat → NeedsAt w s.filed s.filed k on p → NeedsAt w (all_meanings w) s.filed k on p
   needs_lowered (Read path) on p seat claimed h = h
   needs_lowered (Import m path) on p seat claimed h =
-      (h.0, h.1, subst (λ (f : Answers → Run ImportState). (f (shown s.filed m)).end ≡ needs h.0 p) (sym (l.imports_based m path s.filed (all_meanings w) (import_layer w s.filed m path (bases.claimed (Import m path) seat claimed)) under)) h.2)
+      (h.0, h.1, subst (λ (f : Answers → Run (Leaving ImportState)). (f (shown s.filed m)).end ≡ needs h.0 p) (sym (l.imports_based m path s.filed (all_meanings w) (import_layer w s.filed m path (bases.claimed (Import m path) seat claimed)) under)) h.2)
   needs_lowered (Unit_of k) on p seat claimed h =
-      (h.0, h.1, subst (λ (f : Answers → Run Done). (f (shown s.filed (layer_of k))).end ≡ needs h.0 p) (sym (l.units_based k s.filed (all_meanings w) (unit_layer w s.filed k (bases.claimed (Unit_of k) seat claimed)) under)) h.2)
+      (h.0, h.1, subst (λ (f : Answers → Run (Leaving Done)). (f (shown s.filed (layer_of k))).end ≡ needs h.0 p) (sym (l.units_based k s.filed (all_meanings w) (unit_layer w s.filed k (bases.claimed (Unit_of k) seat claimed)) under)) h.2)
   needs_lowered (Resolve m) on p seat claimed h = h
 
   right_lowered : (k : Key) (seat : ℕ) (v : Answer) → s.claims k ≡ Some seat → IsRight w s.filed s k v → IsRight w (all_meanings w) s k v
   right_lowered (Read path) seat v claimed r = r
   right_lowered (Import m path) seat v claimed r =
-      subst (λ (f : Answers → Run ImportState). IsRightImport s m path (f (shown s.filed m)) (f (shown s.filed m)).end v) (sym (l.imports_based m path s.filed (all_meanings w) (import_layer w s.filed m path (bases.claimed (Import m path) seat claimed)) under)) r
+      subst (λ (f : Answers → Run (Leaving ImportState)). IsRightImport s m path (f (shown s.filed m)) (f (shown s.filed m)).end v) (sym (l.imports_based m path s.filed (all_meanings w) (import_layer w s.filed m path (bases.claimed (Import m path) seat claimed)) under)) r
   right_lowered (Unit_of k) seat v claimed r =
-      subst (λ (f : Answers → Run Done). IsSettled (f (shown s.filed (layer_of k))).end × (v ≡ unit_is (f (shown s.filed (layer_of k))))) (sym (l.units_based k s.filed (all_meanings w) (unit_layer w s.filed k (bases.claimed (Unit_of k) seat claimed)) under)) r
+      subst (λ (f : Answers → Run (Leaving Done)). IsSettled (f (shown s.filed (layer_of k))).end × (v ≡ unit_is (f (shown s.filed (layer_of k))))) (sym (l.units_based k s.filed (all_meanings w) (unit_layer w s.filed k (bases.claimed (Unit_of k) seat claimed)) under)) r
   right_lowered (Resolve m) seat v claimed r = r ∙ ap record_is (sym (l.records_based m s.filed (all_meanings w) (bases.claimed (Resolve m) seat claimed) under))
 
   pub lowered : (known : List ℕ → Bool) (e : Event) → Allowed w known s e → AllowedOver w (all_meanings w) known s e

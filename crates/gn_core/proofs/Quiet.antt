@@ -6,7 +6,6 @@ use Rattle.gn_runs.specs.Runs.{Question, content_of, import_of, Answers, End, en
 use Rattle.gn_runs.specs.Laws.{IsSettled, IsAsked, IsUnknown}
 use Rattle.gn_runs.proofs.TreeLaws.{tree_asks_known, tree_asks_more}
 use Rattle.gn_imports.specs.Rounds.{final}
-use Rattle.gn_imports.specs.Causes.{outcome}
 use Rattle.gn_imports.specs.Laws.{spoiled_at_need}
 use Rattle.gn_imports.proofs.Final.{final_run}
 use Rattle.gn_imports.proofs.AskedFor.{same_need}
@@ -14,8 +13,8 @@ use Rattle.gn_labels.specs.declared.label.Label.{Label}
 use Rattle.gn_closure.specs.Reach.{Unit_key, Setup, Load, Target, Done, Fact, Is_reached, Is_generated, Holds}
 use Rattle.gn_closure.proofs.GroundRules.{holds_grows, holds_back}
 use Rattle.gn_closure.proofs.Least.{first_held}
-use Rattle.gn_core.specs.Keys.{Layer, Key, Read, Import, Unit_of, Resolve, Answer, found, import_is, no_value, unit_is, record_is, Filed, layer_of, key_of, shown, unit_in, units, same_key, put}
-use Rattle.gn_core.specs.Worlds.{World, project, import_as, import_answer, all_meanings}
+use Rattle.gn_core.specs.Keys.{Layer, Key, Read, Import, Unit_of, Resolve, Answer, found, import_is, no_value, unit_is, record_is, Filed, layer_of, key_of, shown, unit_in, units, same_key, put, Leaving, seen}
+use Rattle.gn_core.specs.Worlds.{World, project, last_run, import_as, import_answer, all_meanings}
 use Rattle.gn_core.specs.Machine.{Blocked, State, Event, Claim, Block, File, Stop, happens, replay, NeedsAt, spoiled_as, ClosesCycle, IsRightImport, IsRight, IsLoaded, IsDone, Defines, HasTools, IsFiled, IsReachedKey, IsReady, asked_in, IsNeeded, by_unit, by_import, AllowedOver, Allowed, Runs, IsOverEvent, IsOver, IsQuiet, IsOpening}
 use Rattle.gn_core.specs.Layered.{IsPart, IsLayered}
 use Rattle.gn_core.specs.Statements.{Resolvable, resolvable, Wanted, ClaimedAreWanted, QuietIsWhole, QuietAgree}
@@ -60,7 +59,7 @@ known_stays s (Stop seat c) k (inr h) = inr h
 
 -- What answers ask
 
-spoiled_asked : (x : Option Answer) (q : List ℕ) (p : Place) (run : Run ImportState) → asked_in (Some (spoiled_as x q p run)) ≡ run.asked
+spoiled_asked : (x : Option Answer) (q : List ℕ) (p : Place) (run : Run (Leaving ImportState)) → asked_in (Some (spoiled_as x q p run)) ≡ run.asked
 spoiled_asked None q p run = refl
 spoiled_asked (Some (found c)) q p run = refl
 spoiled_asked (Some (import_is r)) q p run = refl
@@ -165,7 +164,7 @@ module _ (w : World) (l : IsLayered w) (first s : State) (inv : Inv w (all_meani
           let on : b.0.on ≡ Import m r = closing_on w l.is (all_meanings w) s inv m path r p e b.0 b.1 b.2 in
           subst (IsKnown s) (on ∙ ap (key_of m) same) (sc.blocked (Import m path) b.0 b.1)
 
-  import_known : (m : Layer) (path : List ℕ) (v : Answer) (end : End ImportState) → (w.import_run m (all_meanings w) path (shown s.filed m)).end ≡ end
+  import_known : (m : Layer) (path : List ℕ) (v : Answer) (end : End (Leaving ImportState)) → (w.import_run m (all_meanings w) path (shown s.filed m)).end ≡ end
       → IsRightImport s m path (w.import_run m (all_meanings w) path (shown s.filed m)) end v → (q : Question) → IsAsked (asked_in (Some v)) q → IsKnown s (key_of m q)
   import_known m path v (ended x) e r q i =
       settled_known m (w.import_run m (all_meanings w) path) (import_tree w l.is (all_meanings w) m path) (subst IsSettled (sym e) tt) q (subst (λ (z : Answer). IsAsked (asked_in (Some z)) q) r i)
@@ -196,10 +195,10 @@ module _ (w : World) (l : IsLayered w) (first s : State) (inv : Inv w (all_meani
   asks_same a b (Resolve m) on e h = h
 
   -- what is asked over what is filed is asked by the meaning
-  meaning_asked : (run : Run ImportState) → asked_in (Some (import_answer run)) ≡ run.asked
+  meaning_asked : (run : Run (Leaving ImportState)) → asked_in (Some (import_answer run)) ≡ run.asked
   meaning_asked run = go run.end
     where
-      go : (end : End ImportState) → asked_in (Some (import_as end run.asked)) ≡ run.asked
+      go : (end : End (Leaving ImportState)) → asked_in (Some (import_as end run.asked)) ≡ run.asked
       go (ended x) = refl
       go (wrong x) = refl
       go (spoiled path place) = refl
@@ -207,13 +206,13 @@ module _ (w : World) (l : IsLayered w) (first s : State) (inv : Inv w (all_meani
       go (needs (import_of path) place) = refl
 
   asks_above : (k on : Key) → AsksAt w (all_meanings w) s.filed k on → Asks (all_meanings w) k on
-  unfolding outcome
+  unfolding last_run
   asks_above (Read path) on h = h
   asks_above (Import m path) on h =
       let more = tree_asks_more (w.import_run m (all_meanings w) path) (import_tree w l.is (all_meanings w) m path) (shown s.filed m) (final (project w (all_meanings w) m)) h.0 (shown_below w l.is (all_meanings w) s.filed inv.right m) h.2 in
-      let last : w.import_run m (all_meanings w) path (final (project w (all_meanings w) m)) ≡ spoiled_at_need (outcome (project w (all_meanings w) m) path) = final_run (project w (all_meanings w) m) (w.import_run m (all_meanings w) path) (import_tree w l.is (all_meanings w) m path) in
-      let asked : IsAsked (outcome (project w (all_meanings w) m) path).asked h.0 = subst (λ (r : Run ImportState). IsAsked r.asked h.0) last more in
-      (h.0, h.1, subst (λ (v : Answer). IsAsked (asked_in (Some v)) h.0) (sym (true_fixed w l (Import m path))) (subst (λ (z : List Question). IsAsked z h.0) (sym (meaning_asked (outcome (project w (all_meanings w) m) path))) asked))
+      let last : w.import_run m (all_meanings w) path (final (project w (all_meanings w) m)) ≡ spoiled_at_need (last_run w (all_meanings w) m path) = final_run (project w (all_meanings w) m) (w.import_run m (all_meanings w) path) (import_tree w l.is (all_meanings w) m path) in
+      let asked : IsAsked (last_run w (all_meanings w) m path).asked h.0 = subst (λ (r : Run (Leaving ImportState)). IsAsked r.asked h.0) last more in
+      (h.0, h.1, subst (λ (v : Answer). IsAsked (asked_in (Some v)) h.0) (sym (true_fixed w l (Import m path))) (subst (λ (z : List Question). IsAsked z h.0) (sym (meaning_asked (last_run w (all_meanings w) m path))) asked))
   asks_above (Unit_of k) on h =
       let more = tree_asks_more (w.unit_run k (all_meanings w)) (l.is.trees (all_meanings w) k) (shown s.filed (layer_of k)) (final (project w (all_meanings w) (layer_of k))) h.0 (shown_below w l.is (all_meanings w) s.filed inv.right (layer_of k)) h.2 in
       (h.0, h.1, subst (λ (v : Answer). IsAsked (asked_in (Some v)) h.0) (sym (true_fixed w l (Unit_of k))) more)

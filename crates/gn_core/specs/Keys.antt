@@ -5,6 +5,7 @@ use Rattle.gn_paths.specs.declared.place.Place.{Place}
 use Rattle.gn_values.specs.Imported.{ImportState}
 use Rattle.gn_runs.specs.Runs.{Question, content_of, import_of, Content, Imported, is_unusable, Answers, End, ended, wrong, spoiled, needs, Run}
 use Rattle.gn_imports.specs.Rounds.{imported_of}
+use Rattle.gn_items.specs.Effects.{Effects}
 use Rattle.gn_labels.specs.declared.label.Label.{Label}
 use Rattle.gn_closure.specs.Reach.{Unit_key, Setup, Load, Done, Units}
 use Rattle.gn_closure.specs.Computed.{same_unit, same_label}
@@ -21,13 +22,28 @@ pub data Key : Type 0 where
   Unit_of : (unit : Unit_key) → Key
   Resolve : (label : Label) → Key
 
+-- what an execution leaves: a value, and its items, the lines that it prints and what it asks
+pub record Leaving (A : Type 0) : Type 0 where
+  pub value : A
+  pub effects : Effects
+
+-- the value alone
+abbrev pub seen_end : {A : Type 0} → End (Leaving A) → End A
+seen_end (ended left) = ended left.value
+seen_end (wrong fault) = wrong fault
+seen_end (spoiled path place) = spoiled path place
+seen_end (needs question place) = needs question place
+
+abbrev pub seen : {A : Type 0} → Run (Leaving A) → Run A
+seen run = record { end = seen_end run.end; asked = run.asked }
+
 -- the answers of keys. An import has a run that has ended, is wrong or is spoiled, or it has no value; what a record holds is left open
 pub data Answer : Type 0 where
   found : Content → Answer
-  import_is : Run ImportState → Answer
+  import_is : Run (Leaving ImportState) → Answer
   -- the first import without value that it asks for, the place of that call, and what it asked
   no_value : (path : List ℕ) (place : Place) (asked : List Question) → Answer
-  unit_is : Run Done → Answer
+  unit_is : Run (Leaving Done) → Answer
   record_is : List ℕ → Answer
 
 -- the answers that are known
@@ -50,7 +66,7 @@ content_in (Some (found c)) = Some c
 content_in _ = None
 
 abbrev pub imported_in : Option Answer → Option Imported
-imported_in (Some (import_is run)) = imported_of run.end
+imported_in (Some (import_is run)) = imported_of (seen_end run.end)
 imported_in (Some (no_value path place asked)) = Some is_unusable
 imported_in _ = None
 
@@ -58,8 +74,8 @@ imported_in _ = None
 abbrev pub shown : Filed → Layer → Answers
 shown filed l = record { contents = λ path. content_in (filed (Read path)); imports = λ path. imported_in (filed (Import l path)) }
 
-abbrev pub done_in : End Done → Option Done
-done_in (ended d) = Some d
+abbrev pub done_in : End (Leaving Done) → Option Done
+done_in (ended left) = Some left.value
 done_in (wrong f) = None
 done_in (spoiled path place) = None
 done_in (needs q place) = None

@@ -9,7 +9,7 @@ use Rattle.gn_closure.specs.Closure.{In}
 use Rattle.gn_labels.specs.declared.label.Label.{Label}
 use Rattle.gn_closure.specs.Reach.{Unit_key, Setup, Load, Target, Toolchain, Done, Units, Is_reached, Is_generated, needed, Holds}
 use Rattle.gn_closure.specs.Least.{IsTooLarge}
-use Rattle.gn_core.specs.Keys.{Layer, Key, Read, Import, Unit_of, Resolve, Answer, found, import_is, no_value, unit_is, record_is, Filed, layer_of, key_of, shown, units, same_key, put}
+use Rattle.gn_core.specs.Keys.{Layer, Key, Read, Import, Unit_of, Resolve, Answer, found, import_is, no_value, unit_is, record_is, Filed, layer_of, key_of, shown, units, same_key, put, Leaving}
 use Rattle.gn_core.specs.Worlds.{World}
 
 -- a key waits for another, which a call at this place asked for; and whether that closes a cycle
@@ -68,7 +68,7 @@ NeedsAt w base filed (Unit_of k) on p = (q : Question) × (on ≡ key_of (layer_
 NeedsAt w base filed (Resolve l) on p = ⊥
 
 -- an import that is spoiled at an import without value has no value itself
-abbrev pub spoiled_as : Option Answer → List ℕ → Place → Run ImportState → Answer
+abbrev pub spoiled_as : Option Answer → List ℕ → Place → Run (Leaving ImportState) → Answer
 spoiled_as (Some (no_value f r m)) q p run = no_value q p run.asked
 spoiled_as _ q p run = import_is run
 
@@ -78,7 +78,7 @@ ClosesCycle s k = (b : Blocked) × (s.blocks k ≡ Some b) × (b.closes ≡ true
 
 -- The right answer of an import, by how its run over what is filed ends. One that needs another import has no value only where its own block closes a
 -- cycle
-abbrev pub IsRightImport : State → Layer → List ℕ → Run ImportState → End ImportState → Answer → Type 0
+abbrev pub IsRightImport : State → Layer → List ℕ → Run (Leaving ImportState) → End (Leaving ImportState) → Answer → Type 0
 IsRightImport s l path run (ended x) v = v ≡ import_is run
 IsRightImport s l path run (wrong f) v = v ≡ import_is run
 IsRightImport s l path run (spoiled q p) v = v ≡ spoiled_as (s.filed (Import l q)) q p run

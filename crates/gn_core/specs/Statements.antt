@@ -24,7 +24,7 @@ Wanted w (Unit_of k) = Holds w.home (units (all_meanings w)) (Is_reached k)
 Wanted w (Resolve l) = Resolvable w (units (all_meanings w)) l
 
 -- a run over a tree, from the opening state of what the setup knows
-pub record IsRun (w : World) (known : List ℕ → Bool) (s : State) (es : List Event) : Type 0 where
+pub record IsLoadingRun (w : World) (known : List ℕ → Bool) (s : State) (es : List Event) : Type 0 where
   pub layered : IsLayered w
   pub opening : IsOpening w known s
   pub runs : Runs w known s es
@@ -32,12 +32,12 @@ pub record IsRun (w : World) (known : List ℕ → Bool) (s : State) (es : List 
 
 -- each filed answer is the meaning of its key
 abbrev pub FiledAreMeanings : Type 0
-FiledAreMeanings = (w : World) (known : List ℕ → Bool) (s : State) (es : List Event) → IsRun w known s es
+FiledAreMeanings = (w : World) (known : List ℕ → Bool) (s : State) (es : List Event) → IsLoadingRun w known s es
     → (k : Key) (v : Answer) → (replay s es).filed k ≡ Some v → v ≡ true_meaning w k
 
 -- each claimed key is wanted
 abbrev pub ClaimedAreWanted : Type 0
-ClaimedAreWanted = (w : World) (known : List ℕ → Bool) (s : State) (es : List Event) → IsRun w known s es
+ClaimedAreWanted = (w : World) (known : List ℕ → Bool) (s : State) (es : List Event) → IsLoadingRun w known s es
     → (k : Key) (seat : ℕ) → (replay s es).claims k ≡ Some seat → Wanted w k
 
 -- how often a key is claimed and filed
@@ -65,21 +65,21 @@ file_count (e ∷ es) k = files_now e k + file_count es k
 
 -- and that is at most once
 abbrev pub AtMostOnce : Type 0
-AtMostOnce = (w : World) (known : List ℕ → Bool) (s : State) (es : List Event) → IsRun w known s es
+AtMostOnce = (w : World) (known : List ℕ → Bool) (s : State) (es : List Event) → IsLoadingRun w known s es
     → (k : Key) → (claim_count s es k ≤ 1) × (file_count es k ≤ 1)
 
 -- a quiet state has filed what is wanted, beside what was there at first
 abbrev pub QuietIsWhole : Type 0
-QuietIsWhole = (w : World) (known : List ℕ → Bool) (s : State) (es : List Event) → IsRun w known s es → IsQuiet w (replay s es)
+QuietIsWhole = (w : World) (known : List ℕ → Bool) (s : State) (es : List Event) → IsLoadingRun w known s es → IsQuiet w (replay s es)
     → (k : Key) → IsFiled (replay s es).filed k ↔ (Wanted w k ⊎ IsFiled s.filed k)
 
 -- so two quiet states over one tree are equal
 abbrev pub QuietAgree : Type 0
-QuietAgree = (w : World) (known : List ℕ → Bool) (s : State) (es fs : List Event) → IsRun w known s es → IsRun w known s fs
+QuietAgree = (w : World) (known : List ℕ → Bool) (s : State) (es fs : List Event) → IsLoadingRun w known s es → IsLoadingRun w known s fs
     → IsQuiet w (replay s es) → IsQuiet w (replay s fs) → (k : Key) → (replay s es).filed k ≡ (replay s fs).filed k
 
 -- that the build is too large is recorded only where it is, and a quiet state shows whether it is
 abbrev pub LimitsAgree : Type 0
-LimitsAgree = (w : World) (known : List ℕ → Bool) (s : State) (es : List Event) → IsRun w known s es
+LimitsAgree = (w : World) (known : List ℕ → Bool) (s : State) (es : List Event) → IsLoadingRun w known s es
     → (In (replay s es).stops too_large → Exceeds w known (all_meanings w))
     × (IsQuiet w (replay s es) → FiledExceeds w known (replay s es).filed ↔ Exceeds w known (all_meanings w))

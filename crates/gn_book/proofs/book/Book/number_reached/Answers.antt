@@ -17,6 +17,11 @@ returns-clause-keys g c =
     (looked_at c.self.inside.seats c.self.inside.left c.self.inside.stop c.self.inside.log.items (vec_len c.self.inside.log) (vec_capacity c.self.inside.log) c.args.self.now c.self.inside.graph c.number_facts.ensures.whole
     c.self.inside.roster c.number_facts.new.roster c.self.inside.seen c.number_facts.new.seen c.self.invariant.0 c.self.view_is c.self.invariant.1 c.number_facts.ensures.looked).2
 
+pub returns-clause-units : goal.returns-clause-units
+returns-clause-units g c =
+    (looked_at c.self.inside.seats c.self.inside.left c.self.inside.stop c.self.inside.log.items (vec_len c.self.inside.log) (vec_capacity c.self.inside.log) c.args.self.now c.self.inside.graph c.number_facts.ensures.whole
+    c.self.inside.roster c.number_facts.new.roster c.self.inside.seen c.number_facts.new.seen c.self.invariant.0 c.self.view_is c.self.invariant.1 c.number_facts.ensures.looked).3
+
 pub returns-clause-ok : goal.returns-clause-ok
 returns-clause-ok g c =
     let done = looked_at c.self.inside.seats c.self.inside.left c.self.inside.stop c.self.inside.log.items (vec_len c.self.inside.log) (vec_capacity c.self.inside.log) c.args.self.now c.self.inside.graph c.number_facts.ensures.whole

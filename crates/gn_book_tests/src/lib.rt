@@ -1,0 +1,5 @@
+//! Tests of the book of loading.
+#![tactic(auto)]
+
+#[cfg(test)]
+mod cycles;
