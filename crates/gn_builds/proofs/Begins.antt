@@ -1,0 +1,275 @@
+-- A seat that has no claim takes up what comes next.
+use Rattle.std.proofs.Common.{◌≡◌, ◌⊎◌, inl, inr, ℕ, zero, suc, ◌<◌, ◌≤◌, List, [], ◌∷◌, ◌++◌, length, slice_get, Option, Some, None, true, false, not, is_some, refl, sym, ◌∙◌, ap, subst, true≢false, arith}
+use Rattle.std.specs.Map.{keys_of}
+use Rattle.std.proofs.lemmas.List.{append-nil}
+use Rattle.gn_outside.specs.States.{SourceRead, SourceState}
+use Rattle.gn_outside.specs.Lists.{Extends, Each}
+use Rattle.gn_outside.specs.Sources.{plain_reads}
+use Rattle.gn_values.specs.Tables.{Table}
+use Rattle.gn_imports.specs.Loading.{IsOneOf}
+use Rattle.gn_closure.specs.Closure.{In}
+use Rattle.gn_closure.specs.Reach.{Unit_key, Setup, Is_reached, Holds}
+use Rattle.gn_core.specs.Keys.{usual, Key, Read, Import, Unit_of, Resolve, Answer, Filed, units}
+use Rattle.gn_core.specs.Machine.{State, Event, Claim as Claims, IsOver, IsFiled, Runs, replay}
+use Rattle.gn_graph.specs.Needs.{home}
+use Rattle.gn_book.specs.Graphs.{is_unit, UnitsHaveNumbers, HasMoreKeys, OnlyUnitsAreNew}
+use Rattle.gn_book.specs.Keys.{key_of}
+use Rattle.gn_book.specs.Logs.{Log, KeysDiffer, opening, state_of, key_at, with_event}
+use Rattle.gn_book.specs.Next.{IsReadyNumber}
+use Rattle.gn_book.specs.Tasks.{is_task}
+use Rattle.gn_book.specs.declared.book.Claim.{Claim}
+use Rattle.gn_builds.specs.Worlds.{files_of, world_of}
+use Rattle.gn_builds.specs.Builds.{root}
+use Rattle.gn_builds.specs.Stacks.{IsStacked}
+use Rattle.gn_builds.specs.Driving.{AreNamed, IsDriven, IsBegun, IsClaim, IsGoing, HasRead, ReadsNumbered, one_if, count_of, is_read, paths_read, units_left}
+use Rattle.gn_builds.specs.Rest.{AreImports}
+use Rattle.gn_builds.proofs.Builds.{two_are_reached}
+use Rattle.gn_builds.proofs.ReadPaths.{over_more, reads_still}
+use Rattle.gn_builds.proofs.Steps.{step_begun}
+use Rattle.gn_builds.proofs.Named.{get_more, number_of, in_at}
+use Rattle.gn_builds.proofs.Counts.{in_front}
+use Rattle.gn_builds.proofs.Rest.{found_number}
+
+-- keys behind others that are units
+abbrev AllUnits : List Key → Type 0
+AllUnits [] = Unit {0}
+AllUnits (k ∷ ks) = (is_unit k ≡ true) × AllUnits ks
+
+behind_units : (zs : List Key) → ((i : ℕ) (k : Key) → slice_get zs i ≡ Some k → is_unit k ≡ true) → AllUnits zs
+behind_units [] f = tt
+behind_units (z ∷ zs) f = (f zero z refl, behind_units zs (λ i k e. f (suc i) k e))
+
+new_units : (xs zs : List Key) → ((i : ℕ) (k : Key) → slice_get (xs ++ zs) i ≡ Some k → (slice_get xs i ≡ Some k) ⊎ (is_unit k ≡ true)) → AllUnits zs
+new_units [] zs f = behind_units zs (λ i k e. elim (f i k e) [ inl a ↦ absurd (cc a) | inr a ↦ a ])
+new_units (x ∷ xs) zs f = new_units xs zs (λ i k e. f (suc i) k e)
+
+unit_not_read : (k : Key) → is_unit k ≡ true → is_read k ≡ false
+unit_not_read (Read path) e = absurd (true≢false (sym e))
+unit_not_read (Import layer path) e = refl
+unit_not_read (Unit_of unit) e = refl
+unit_not_read (Resolve label) e = refl
+
+none_read : (zs : List Key) → AllUnits zs → paths_read zs ≡ []
+none_read [] u = refl
+none_read (Read path ∷ zs) u = absurd (true≢false (sym u.0))
+none_read (Import layer path ∷ zs) u = none_read zs u.1
+none_read (Unit_of unit ∷ zs) u = none_read zs u.1
+none_read (Resolve label ∷ zs) u = none_read zs u.1
+
+same_paths : (xs zs : List Key) → AllUnits zs → paths_read (xs ++ zs) ≡ paths_read xs
+same_paths [] zs u = none_read zs u
+same_paths (Read path ∷ xs) zs u = ap (λ (ps : List (List ℕ)). path ∷ ps) (same_paths xs zs u)
+same_paths (Import layer path ∷ xs) zs u = same_paths xs zs u
+same_paths (Unit_of unit ∷ xs) zs u = same_paths xs zs u
+same_paths (Resolve label ∷ xs) zs u = same_paths xs zs u
+
+none_counted : (zs : List Key) → AllUnits zs → count_of is_read zs ≡ 0
+none_counted [] u = refl
+none_counted (z ∷ zs) u = let rest = none_counted zs u.1 in let here : one_if (is_read z) ≡ 0 = ap one_if (unit_not_read z u.0) in omega (arith, rest, here)
+
+same_count : (xs zs : List Key) → AllUnits zs → count_of is_read (xs ++ zs) ≡ count_of is_read xs
+same_count [] zs u = none_counted zs u
+same_count (x ∷ xs) zs u = let rest = same_count xs zs u in omega (arith, rest)
+
+-- units that are reached get numbers
+module _ (l m : Log) (d : IsDriven l []) (more : HasMoreKeys l m) (only : OnlyUnitsAreNew l m) (numbers : UnitsHaveNumbers m) (differ : KeysDiffer m) where
+  same_state : state_of m ≡ state_of l
+  same_state = ap (replay opening) more.events
+
+  old_or_unit : (k : Key) → In m.keys k → In l.keys k ⊎ (is_unit k ≡ true)
+  old_or_unit k i = let at = number_of m.keys k i in elim (only at.0 k at.1) [ inl a ↦ inl (found_number l.keys at.0 k a) | inr a ↦ inr a ]
+
+  still_in : (k : Key) → In l.keys k → In m.keys k
+  still_in k i = subst (λ (z : List Key). In z k) (sym more.keys.1) (in_front l.keys more.keys.0 k i)
+
+  named_state : AreNamed m.keys (state_of l) []
+  named_state = record {
+    begun = λ k i unit. elim (old_or_unit k i) [ inl a ↦ d.named.begun k a unit | inr a ↦ absurd (true≢false (sym a ∙ unit)) ];
+    imports = λ layer path i. elim (old_or_unit (Import layer path) i) [
+      | inl a ↦ (let old = d.named.imports layer path a in (old.0, still_in (Read path) old.1))
+      | inr a ↦ absurd (true≢false (sym a))
+    ];
+    units = λ u i.
+        (two_are_reached (units (state_of l).filed) d.named.nothing).0 u
+        (subst (λ (s : State). Holds home (units s.filed) (Is_reached u)) same_state ((numbers u).0 (number_of m.keys (Unit_of u) i)));
+    labels = λ label i. elim (old_or_unit (Resolve label) i) [ inl a ↦ d.named.labels label a | inr a ↦ absurd (true≢false (sym a)) ];
+    claimed = λ k i. absurd i;
+    filed = λ k f. still_in k (d.named.filed k f);
+    nothing = d.named.nothing;
+    kinds = d.named.kinds;
+  }
+
+  numbered_driven : IsDriven m []
+  numbered_driven = record {
+    seats = more.seats ∙ d.seats;
+    apart = differ;
+    runs = λ files. subst (λ (es : List Event). Runs (world_of files) (λ path. false) opening es) (sym more.events) (d.runs files);
+    stacked = subst (λ (s : State). IsStacked s []) (sym same_state) d.stacked;
+    ready = tt;
+    named = subst (λ (s : State). AreNamed m.keys s []) (sym same_state) named_state;
+  }
+
+  all_units : AllUnits more.keys.0
+  all_units = new_units l.keys more.keys.0 (λ i k e. only i k (subst (λ (z : List Key). slice_get z i ≡ Some k) (sym more.keys.1) e))
+
+  numbered_source : (before now : SourceState) → HasRead before now l → HasRead before now m
+  numbered_source before now has = record {
+    tree = has.tree;
+    faults = has.faults;
+    reads = subst (λ (ps : List (List ℕ)). Extends before.reads now.reads (plain_reads ps)) (sym (ap paths_read more.keys.1 ∙ same_paths l.keys more.keys.0 all_units)) has.reads;
+    over = λ tree told. subst (λ (es : List Event). IsOver (world_of (files_of tree)) es) (sym more.events) (has.over tree told);
+  }
+
+  pub numbered_going : (before now : SourceState) (reads : ℕ) → IsGoing before now l [] reads → IsGoing before now m [] reads
+  numbered_going before now reads going = record {
+    driven = numbered_driven;
+    claims = tt;
+    source = numbered_source before now going.source;
+    counted = going.counted ∙ sym (ap (count_of is_read) more.keys.1 ∙ same_count l.keys more.keys.0 all_units);
+    few = going.few;
+  }
+
+-- the keys of the imports have no other numbers
+pub numbered_imports : (l m : Log) → HasMoreKeys l m → OnlyUnitsAreNew l m → (es : Table ℕ) → AreImports l es → AreImports m es
+numbered_imports l m more only es are = record { numbers = each es are.numbers; all = all; sorted = are.sorted }
+  where
+    each : (ds : Table ℕ) → Each (λ (e : List ℕ × ℕ). slice_get l.keys e.1 ≡ Some (Import (usual []) e.0)) ds → Each (λ (e : List ℕ × ℕ). slice_get m.keys e.1 ≡ Some (Import (usual []) e.0)) ds
+    each [] has = tt
+    each (e ∷ ds) has =
+        (subst (λ (ks : List Key). slice_get ks e.1 ≡ Some (Import (usual []) e.0)) (sym more.keys.1) (get_more l.keys more.keys.0 e.1 (Import (usual []) e.0) has.0), each ds has.1)
+
+    all : (path : List ℕ) → In m.keys (Import (usual []) path) → IsOneOf path (keys_of es)
+    all path i =
+        let at = number_of m.keys (Import (usual []) path) i in
+        elim (only at.0 (Import (usual []) path) at.1) [ inl a ↦ are.all path (found_number l.keys at.0 (Import (usual []) path) a) | inr a ↦ absurd (true≢false (sym a)) ]
+
+-- A unit is taken up
+
+-- no label has a number, so what comes next is a unit
+pub ready_unit : (l : Log) (n : ℕ) → IsDriven l [] → IsReadyNumber l n → is_unit (key_at l n) ≡ true
+ready_unit l n d ready = by (key_at l n) ready.task (in_at l.keys n ready.number)
+  where
+    by : (k : Key) → is_task k ≡ true → In l.keys k → is_unit k ≡ true
+    by (Read path) task i = task
+    by (Import layer path) task i = task
+    by (Unit_of unit) task i = refl
+    by (Resolve label) task i = absurd (d.named.labels label i)
+
+module _ (before now : SourceState) (l : Log) (n : ℕ) (c : Claim) (reads : ℕ) (going : IsGoing before now l [] reads) (numbers : UnitsHaveNumbers l) (ready : IsReadyNumber l n) (key : key_of c.key ≡ key_at l n) (seat : c.seat ≡ 0) (number : c.number ≡ n) where
+  abbrev begun_log : Log
+  begun_log = with_event l (Claims 0 (key_at l n))
+
+  begun_driven : IsDriven begun_log (key_at l n ∷ [])
+  begun_driven = (step_begun l n going.driven numbers ready (in_at l.keys n ready.number)).0
+
+  begun_claim : IsClaim begun_log c
+  begun_claim = record {
+    held = record {
+      number = subst (λ (m : ℕ). m < length l.keys) (sym number) ready.number;
+      claimed = ap (λ (m : ℕ). (state_of begun_log).claims (key_at l m)) number ∙ begun_driven.stacked.held (key_at l n) (inl refl);
+    };
+    seat = seat;
+    key = key ∙ ap (key_at l) (sym number);
+  }
+
+  pub begun_going : IsGoing before now begun_log (c ∷ []) reads
+  begun_going = record {
+    driven = subst (λ (k : Key). IsDriven begun_log (k ∷ [])) (sym key) begun_driven;
+    claims = (begun_claim, tt);
+    source = record {
+      tree = going.source.tree;
+      faults = going.source.faults;
+      reads = going.source.reads;
+      over = λ tree told. over_more (world_of (files_of tree)) l.events (Claims 0 (key_at l n)) (going.source.over tree told) tt;
+    };
+    counted = going.counted;
+    few = going.few;
+  }
+
+-- How many of the two units have no answer
+
+open_filed : (x y : Option Answer) → ((v : Answer) → x ≡ Some v → (w : Answer) × (y ≡ Some w)) → one_if (not (is_some y)) ≤ one_if (not (is_some x))
+open_filed None None f = omega arith
+open_filed None (Some y) f = omega arith
+open_filed (Some x) None f = let some = f x refl in absurd (cc some.1)
+open_filed (Some x) (Some y) f = omega arith
+
+open_now : (x y : Option Answer) → x ≡ None → ((w : Answer) × (y ≡ Some w)) → one_if (not (is_some y)) < one_if (not (is_some x))
+open_now None None e f = absurd (cc f.1)
+open_now None (Some y) e f = omega arith
+open_now (Some x) y e f = absurd (cc e)
+
+-- where one of the units gets its answer, and no answer goes, fewer are left
+fewer_left : (old new : Filed) (k : Unit_key) → (k ≡ Setup []) ⊎ (k ≡ root) → old (Unit_of k) ≡ None → IsFiled new (Unit_of k) → ((q : Key) → IsFiled old q → IsFiled new q) → units_left new < units_left old
+fewer_left old new k (inl e) none filed stays =
+    let first = open_now (old (Unit_of (Setup []))) (new (Unit_of (Setup []))) (ap (λ (u : Unit_key). old (Unit_of u)) (sym e) ∙ none) (subst (λ (u : Unit_key). IsFiled new (Unit_of u)) e filed) in
+    let second = open_filed (old (Unit_of root)) (new (Unit_of root)) (λ v h. stays (Unit_of root) (v, h)) in
+    omega (arith, first, second)
+fewer_left old new k (inr e) none filed stays =
+    let first = open_filed (old (Unit_of (Setup []))) (new (Unit_of (Setup []))) (λ v h. stays (Unit_of (Setup [])) (v, h)) in
+    let second = open_now (old (Unit_of root)) (new (Unit_of root)) (ap (λ (u : Unit_key). old (Unit_of u)) (sym e) ∙ none) (subst (λ (u : Unit_key). IsFiled new (Unit_of u)) e filed) in
+    omega (arith, first, second)
+
+-- the unit that was claimed has its answer once the seat has no claim
+pub finished_fewer : (old new : Log) (k : Key) → IsDriven old (k ∷ []) → IsDriven new [] → is_unit k ≡ true → ((q : Key) → IsBegun (state_of old) q → IsBegun (state_of new) q) → units_left (state_of new).filed < units_left (state_of old).filed
+finished_fewer old new (Read path) d done unit stays = absurd (true≢false (sym unit))
+finished_fewer old new (Import layer path) d done unit stays = absurd (true≢false (sym unit))
+finished_fewer old new (Resolve label) d done unit stays = absurd (true≢false (sym unit))
+finished_fewer old new (Unit_of u) d done unit stays =
+    fewer_left (state_of old).filed (state_of new).filed u (d.named.units u (d.named.claimed (Unit_of u) (inl refl))) (d.stacked.unfiled (Unit_of u) (inl refl))
+    (filed (Unit_of u) (stays (Unit_of u) (inr (0, d.stacked.held (Unit_of u) (inl refl))))) (λ q f. filed q (stays q (inl f)))
+  where
+    filed : (q : Key) → IsBegun (state_of new) q → IsFiled (state_of new).filed q
+    filed q (inl f) = f
+    filed q (inr (n, h)) = absurd (done.stacked.alone q n h).1
+
+-- Before anything is claimed
+
+abbrev no_log : Log
+no_log = record { seats = 1; keys = []; events = [] }
+
+nothing_named : AreNamed [] opening []
+nothing_named = record {
+  begun = λ k i unit. absurd i;
+  imports = λ layer path i. absurd i;
+  units = λ u i. absurd i;
+  labels = λ label i. i;
+  claimed = λ k i. i;
+  filed = λ k f. absurd (cc f.1);
+  nothing = λ k d e. absurd (cc e);
+  kinds = λ k v e. absurd (cc e);
+}
+
+nothing_stacked : IsStacked opening []
+nothing_stacked = record {
+  going = refl;
+  held = λ k i. absurd i;
+  unfiled = λ k i. absurd i;
+  alone = λ k seat e. absurd (cc e);
+  chained = tt;
+  waiting = λ k i. absurd i;
+  waits = λ k b e. absurd (cc e);
+}
+
+nothing_driven : IsDriven no_log []
+nothing_driven = record { seats = refl; apart = λ i j q a b. absurd (cc a); runs = λ files. tt; stacked = nothing_stacked; ready = tt; named = nothing_named }
+
+pub starts_going : (now : SourceState) → IsGoing now now no_log [] 0
+starts_going now = record {
+  driven = nothing_driven;
+  claims = tt;
+  source = record { tree = refl; faults = refl; reads = nothing_read; over = λ tree told. tt };
+  counted = refl;
+  few = omega arith;
+}
+  where
+    no_more : (reads : Option (List SourceRead)) → Extends reads reads []
+    no_more None = refl
+    no_more (Some reads) = ap Some (sym (append-nil reads))
+
+    nothing_read : Extends now.reads now.reads (plain_reads [])
+    nothing_read = no_more now.reads
+
+-- and nothing was read
+pub nothing_numbered : (now : SourceState) → ReadsNumbered now now
+nothing_numbered now = reads_still now now no_log [] nothing_driven (starts_going now).source

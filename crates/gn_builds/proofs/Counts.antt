@@ -1,0 +1,162 @@
+-- How counts of keys change.
+use Rattle.std.proofs.Common.{◌≡◌, ◌⊎◌, inl, inr, ℕ, zero, suc, slice_get, ◌+◌, ◌<◌, ◌≤◌, List, [], ◌∷◌, ◌++◌, Option, Some, None, Bool, true, false, not, ◌||◌, cond, refl, sym, ◌∙◌, ap, subst, arith, true≢false}
+use Rattle.std.specs.List.{list_any}
+use Rattle.std.proofs.lemmas.Bool.{or_left, or_right}
+use Rattle.std.specs.Prelude.{is_some}
+use Rattle.gn_closure.specs.Closure.{In}
+use Rattle.gn_core.specs.Keys.{Key, Read, Import, Unit_of, Resolve, Answer, Filed, usual, same_key, put}
+use Rattle.gn_core.specs.Machine.{read_limit}
+use Rattle.gn_core.proofs.Puts.{same_key_is, key_own, put_own}
+use Rattle.gn_builds.specs.Driving.{one_if, count_of, is_read, is_awaited, is_open, room, remaining}
+
+pub in_more : (ks : List Key) (k q : Key) → In (ks ++ k ∷ []) q → In ks q ⊎ (k ≡ q)
+in_more [] k q (inl e) = inr e
+in_more [] k q (inr i) = absurd i
+in_more (j ∷ ks) k q (inl e) = inl (inl e)
+in_more (j ∷ ks) k q (inr i) = elim (in_more ks k q i) [ inl a ↦ inl (inr a) | inr a ↦ inr a ]
+
+pub in_front : (xs ys : List Key) (q : Key) → In xs q → In (xs ++ ys) q
+in_front (x ∷ xs) ys q (inl e) = inl e
+in_front (x ∷ xs) ys q (inr i) = inr (in_front xs ys q i)
+in_front [] ys q i = absurd i
+
+pub in_new : (ks : List Key) (k : Key) → In (ks ++ k ∷ []) k
+in_new [] k = inl refl
+in_new (j ∷ ks) k = inr (in_new ks k)
+
+pub any_in : (ks : List Key) (k : Key) → In ks k → list_any (same_key k) ks ≡ true
+any_in (j ∷ ks) k (inl e) = or_left (same_key k j) (list_any (same_key k) ks) (ap (same_key k) e ∙ key_own k)
+any_in (j ∷ ks) k (inr i) = or_right (same_key k j) (list_any (same_key k) ks) (any_in ks k i)
+any_in [] k i = absurd i
+
+pub any_at : (ks : List Key) (k : Key) (i : ℕ) → slice_get ks i ≡ Some k → list_any (same_key k) ks ≡ true
+any_at [] k i e = absurd (cc e)
+any_at (x ∷ ks) k zero e = let same : x ≡ k = cc e in or_left (same_key k x) (list_any (same_key k) ks) (ap (same_key k) same ∙ key_own k)
+any_at (x ∷ ks) k (suc i) e = or_right (same_key k x) (list_any (same_key k) ks) (any_at ks k i e)
+
+pub in_any : (ks : List Key) (k : Key) → list_any (same_key k) ks ≡ true → In ks k
+in_any [] k e = absurd (true≢false (sym e))
+in_any (j ∷ ks) k e = by (same_key k j) refl e (in_any ks k)
+  where
+    by : (b : Bool) → same_key k j ≡ b → (b || list_any (same_key k) ks) ≡ true → (list_any (same_key k) ks ≡ true → In ks k) → In (j ∷ ks) k
+    by true s h ih = inl (sym (same_key_is k j s))
+    by false s h ih = inr (ih h)
+
+pub count_more : (test : Key → Bool) (ks : List Key) (k : Key) → count_of test (ks ++ k ∷ []) ≡ count_of test ks + one_if (test k)
+count_more test [] k = omega arith
+count_more test (j ∷ ks) k = let rest = count_more test ks k in omega (arith, rest)
+
+count_same : (test other : Key → Bool) (ks : List Key) → ((q : Key) → In ks q → test q ≡ other q) → count_of test ks ≡ count_of other ks
+count_same test other [] f = refl
+count_same test other (j ∷ ks) f = let rest = count_same test other ks (λ q i. f q (inr i)) in let here = ap one_if (f j (inl refl)) in omega (arith, rest, here)
+
+-- each key of a list once
+abbrev pub IsOnce : List Key → Type 0
+IsOnce [] = Unit {0}
+IsOnce (k ∷ ks) = (In ks k → ⊥) × IsOnce ks
+
+-- a test that holds of one key less
+count_less : (test other : Key → Bool) (k : Key) → test k ≡ true → other k ≡ false → ((q : Key) → (k ≡ q → ⊥) → test q ≡ other q) → (ks : List Key) → IsOnce ks → In ks k → count_of test ks ≡ suc (count_of other ks)
+count_less test other k holds fails same (j ∷ ks) once (inl e) =
+    let rest = count_same test other ks (λ q i. same q (λ f. once.0 (subst (λ (z : Key). In ks z) (sym (e ∙ f)) i))) in
+    let a : one_if (test j) ≡ 1 = ap (λ (z : Key). one_if (test z)) e ∙ ap one_if holds in
+    let b : one_if (other j) ≡ 0 = ap (λ (z : Key). one_if (other z)) e ∙ ap one_if fails in
+    omega (arith, rest, a, b)
+count_less test other k holds fails same (j ∷ ks) once (inr i) =
+    let rest = count_less test other k holds fails same ks once.1 i in
+    let here = ap one_if (same j (λ f. once.0 (subst (λ (z : Key). In ks z) f i))) in
+    omega (arith, rest, here)
+count_less test other k holds fails same [] once i = absurd i
+
+-- a key has its answer
+open_less : (filed : Filed) (k : Key) (v : Answer) (ks : List Key) → filed k ≡ None → IsOnce ks → In ks k → count_of (is_open filed) ks ≡ suc (count_of (is_open (put filed k (Some v))) ks)
+open_less filed k v ks none once i =
+    count_less (is_open filed) (is_open (put filed k (Some v))) k (ap (λ (x : Option Answer). not (is_some x)) none) (ap (λ (x : Option Answer). not (is_some x)) (put_own filed k v)) other ks once i
+  where
+    other : (q : Key) → (k ≡ q → ⊥) → is_open filed q ≡ is_open (put filed k (Some v)) q
+    other q apart = by (same_key k q) refl
+      where
+        by : (b : Bool) → same_key k q ≡ b → is_open filed q ≡ not (is_some (cond b (Some v) (filed q)))
+        by true e = absurd (apart (same_key_is k q e))
+        by false e = refl
+
+pub settled_less : (names : List Key) (filed : Filed) (k : Key) (v : Answer) → filed k ≡ None → IsOnce names → In names k → remaining names (put filed k (Some v)) < remaining names filed
+unfolding remaining
+settled_less names filed k v none once i = let less = open_less filed k v names none once i in omega (arith, less)
+
+any_more : (names : List Key) (k q : Key) → list_any (same_key q) (names ++ k ∷ []) ≡ (list_any (same_key q) names || same_key q k)
+any_more [] k q = last (same_key q k)
+  where
+    last : (b : Bool) → (b || false) ≡ (false || b)
+    last true = refl
+    last false = refl
+any_more (j ∷ names) k q = ap (λ b. same_key q j || b) (any_more names k q) ∙ by (same_key q j)
+  where
+    by : (b : Bool) → (b || (list_any (same_key q) names || same_key q k)) ≡ ((b || list_any (same_key q) names) || same_key q k)
+    by true = refl
+    by false = refl
+
+at_most_one : (b : Bool) → one_if b ≤ 1
+at_most_one true = omega arith
+at_most_one false = omega arith
+
+-- an import is claimed whose file was read
+module _ (names : List Key) (path : List ℕ) (new : list_any (same_key (Import (usual []) path)) names ≡ false) (once : IsOnce names) (read : In names (Read path)) (filed : Filed) where
+  abbrev more : List Key
+  more = names ++ Import (usual []) path ∷ []
+
+  awaited_other : (q : Key) → (Read path ≡ q → ⊥) → is_awaited names q ≡ is_awaited more q
+  awaited_other (Read other) apart =
+      sym (ap not (any_more names (Import (usual []) path) (Import (usual []) other) ∙ by (same_key (Import (usual []) other) (Import (usual []) path)) refl))
+    where
+      by : (b : Bool) → same_key (Import (usual []) other) (Import (usual []) path) ≡ b → (list_any (same_key (Import (usual []) other)) names || b) ≡ list_any (same_key (Import (usual []) other)) names
+      by true e = let same : other ≡ path = cc (same_key_is (Import (usual []) other) (Import (usual []) path) e) in absurd (apart (ap Read (sym same)))
+      by false e = or_none (list_any (same_key (Import (usual []) other)) names)
+        where
+          or_none : (c : Bool) → (c || false) ≡ c
+          or_none true = refl
+          or_none false = refl
+  awaited_other (Import layer other) apart = refl
+  awaited_other (Unit_of unit) apart = refl
+  awaited_other (Resolve label) apart = refl
+
+  awaited_less : count_of (is_awaited names) names ≡ suc (count_of (is_awaited more) names)
+  awaited_less =
+      count_less (is_awaited names) (is_awaited more) (Read path) (ap not new)
+      (ap not (any_in more (Import (usual []) path) (in_new names (Import (usual []) path)))) awaited_other names once read
+
+  pub waiting_less : remaining more filed < remaining names filed
+  unfolding remaining room
+  waiting_less =
+      let reads = count_more is_read names (Import (usual []) path) in
+      let awaits = count_more (is_awaited more) names (Import (usual []) path) in
+      let opens = count_more (is_open filed) names (Import (usual []) path) in
+      let one = at_most_one (is_open filed (Import (usual []) path)) in
+      let fewer = awaited_less in
+      omega (arith, reads, awaits, opens, one, fewer)
+
+-- a file is to be read
+module _ (names : List Key) (path : List ℕ) where
+  abbrev longer : List Key
+  longer = names ++ Read path ∷ []
+
+  same_awaited : (q : Key) → is_awaited longer q ≡ is_awaited names q
+  same_awaited (Read other) = ap not (any_more names (Read path) (Import (usual []) other) ∙ or_no (list_any (same_key (Import (usual []) other)) names))
+    where
+      or_no : (c : Bool) → (c || false) ≡ c
+      or_no true = refl
+      or_no false = refl
+  same_awaited (Import layer other) = refl
+  same_awaited (Unit_of unit) = refl
+  same_awaited (Resolve label) = refl
+
+  pub reading_less : (filed : Filed) → count_of is_read names ≤ read_limit → remaining longer filed < remaining names filed
+  unfolding remaining room
+  reading_less filed few =
+      let reads = count_more is_read names (Read path) in
+      let awaits = count_more (is_awaited longer) names (Read path) in
+      let same = count_same (is_awaited longer) (is_awaited names) names (λ q i. same_awaited q) in
+      let small = at_most_one (is_awaited longer (Read path)) in
+      let opens = count_more (is_open filed) names (Read path) in
+      let kept = at_most_one (is_open filed (Read path)) in
+      omega (arith, reads, awaits, same, small, opens, kept, few)

@@ -1,0 +1,17 @@
+pub mod Layered
+pub mod Parts
+pub mod Builds
+pub mod Stacks
+pub mod Counts
+pub mod Logs
+pub mod Named
+pub mod Steps
+pub mod PlainReads
+pub mod ReadPaths
+pub mod Rest
+pub mod Going
+pub mod Begins
+pub mod Built
+pub mod ImportTables
+pub mod Causes
+pub mod Own

@@ -1,0 +1,158 @@
+-- The log of loading by one seat, and how far it has come.
+use Rattle.std.specs.Prelude.{◌≡◌, ◌⊎◌, ℕ, suc, ◌+◌, ◌-◌, ◌*◌, ◌<◌, ◌≤◌, List, [], ◌∷◌, map, Option, Some, None, Bool, true, false, not, is_some, IsSome}
+use Rattle.std.specs.List.{list_any}
+use Rattle.gn_outside.specs.Tree.{Tree}
+use Rattle.gn_outside.specs.States.{SourceRead, SourceState, paths_of}
+use Rattle.gn_outside.specs.Lists.{Extends, Each}
+use Rattle.gn_outside.specs.Sources.{FailedAt, ReadsOnBy, plain_reads}
+use Rattle.gn_runs.specs.Runs.{Content, Imported}
+use Rattle.gn_labels.specs.declared.label.Label.{Label}
+use Rattle.gn_closure.specs.Closure.{In}
+use Rattle.gn_closure.specs.Reach.{Unit_key, Setup}
+use Rattle.gn_graph.specs.Numbers.{IsMore}
+use Rattle.gn_core.specs.Keys.{Layer, usual, Key, Read, Import, Unit_of, Resolve, Answer, found, Filed, imported_in, units, same_key}
+use Rattle.gn_core.specs.Machine.{State, Runs, Leads, IsOver, IsFiled, read_limit}
+use Rattle.gn_book.specs.Keys.{key_of}
+use Rattle.gn_book.specs.Graphs.{is_unit}
+use Rattle.gn_book.specs.Logs.{Log, KeysDiffer, opening, state_of, key_at}
+use Rattle.gn_book.specs.Claims.{HasClaim}
+use Rattle.gn_book.specs.declared.book.Claim.{Claim}
+use Rattle.gn_builds.specs.Worlds.{Files, files_of, world_of}
+use Rattle.gn_builds.specs.Builds.{root, NeedNothing}
+use Rattle.gn_builds.specs.Stacks.{IsStacked, TopIsReady}
+
+-- an answer is of the kind of its key: what there is at a path, or what an import leaves
+abbrev pub IsOfKind : Key → Answer → Type 0
+IsOfKind (Read path) v = (content : Content) × (v ≡ found content)
+IsOfKind (Import layer path) v = (left : Imported) × (imported_in (Some v) ≡ Some left)
+IsOfKind (Unit_of unit) v = Unit {0}
+IsOfKind (Resolve label) v = Unit {0}
+
+-- The keys that have numbers: just two units, what they ask, directly or through imports, and no import whose file isn't read first. Each that is no unit
+-- is claimed or filed
+pub record AreNamed (names : List Key) (s : State) (ks : List Key) : Type 0 where
+  pub begun : (k : Key) → In names k → is_unit k ≡ false → In ks k ⊎ IsFiled s.filed k
+  pub imports : (layer : Layer) (path : List ℕ) → In names (Import layer path) → (layer ≡ usual []) × In names (Read path)
+  pub nothing : NeedNothing (units s.filed)
+  pub units : (u : Unit_key) → In names (Unit_of u) → (u ≡ Setup []) ⊎ (u ≡ root)
+  pub labels : (label : Label) → In names (Resolve label) → ⊥
+  pub claimed : (k : Key) → In ks k → In names k
+  pub filed : (k : Key) → IsFiled s.filed k → In names k
+  pub kinds : (k : Key) (v : Answer) → s.filed k ≡ Some v → IsOfKind k v
+
+-- the log of loading by one seat, which has claimed these keys, the last one first
+pub record IsDriven (l : Log) (ks : List Key) : Type 0 where
+  pub seats : l.seats ≡ 1
+  pub apart : KeysDiffer l
+  pub runs : (files : Files) → Runs (world_of files) (λ path. false) opening l.events
+  pub stacked : IsStacked (state_of l) ks
+  pub ready : TopIsReady (state_of l) ks
+  pub named : AreNamed l.keys (state_of l) ks
+
+-- a key has its answer, or is claimed
+abbrev pub IsBegun : State → Key → Type 0
+IsBegun s k = IsFiled s.filed k ⊎ ((seat : ℕ) × (s.claims k ≡ Some seat))
+
+-- the keys of claims
+abbrev pub keys_of : List Claim → List Key
+keys_of cs = map (λ (c : Claim). key_of c.key) cs
+
+-- a claim is of the key of its number
+pub record IsClaim (l : Log) (c : Claim) : Type 0 where
+  pub held : HasClaim l c.number 0
+  pub seat : c.seat ≡ 0
+  pub key : key_of c.key ≡ key_at l c.number
+
+abbrev pub AreClaims : Log → List Claim → Type 0
+AreClaims l cs = Each (IsClaim l) cs
+
+-- another key is needed that has no answer, and where it is claimed the chain of keys that wait leads from it to the key of the claim
+pub record IsLacked (l : Log) (c : Claim) (on : Key) : Type 0 where
+  pub unfiled : (state_of l).filed on ≡ None
+  pub leads : (seat : ℕ) → (state_of l).claims on ≡ Some seat → Leads (state_of l).blocks on (key_of c.key)
+
+-- one more claim
+abbrev pub with_claim : Option Claim → List Claim → List Claim
+with_claim None cs = cs
+with_claim (Some c) cs = c ∷ cs
+
+-- The measure of loading: how many files can still be read, how many imports can still be claimed of files that were read, and how many keys have no answer
+
+abbrev pub one_if : Bool → ℕ
+one_if true = 1
+one_if false = 0
+
+abbrev pub count_of : (Key → Bool) → List Key → ℕ
+count_of test [] = 0
+count_of test (k ∷ ks) = one_if (test k) + count_of test ks
+
+abbrev pub is_read : Key → Bool
+is_read (Read path) = true
+is_read _ = false
+
+-- a file was read that isn't imported yet
+abbrev pub is_awaited : List Key → Key → Bool
+is_awaited names (Read path) = not (list_any (same_key (Import (usual []) path)) names)
+is_awaited names _ = false
+
+abbrev pub is_open : Filed → Key → Bool
+is_open filed k = not (is_some (filed k))
+
+unfoldable pub room : List Key → ℕ
+room names = suc read_limit - count_of is_read names
+
+unfoldable pub remaining : List Key → Filed → ℕ
+remaining names filed = 5 * room names + (2 * count_of (is_awaited names) names + count_of (is_open filed) names)
+
+-- how many of the two units of a build have no answer
+abbrev pub units_left : Filed → ℕ
+units_left filed = one_if (is_open filed (Unit_of (Setup []))) + one_if (is_open filed (Unit_of root))
+
+abbrev pub left_to_do : Log → ℕ
+left_to_do l = remaining l.keys (state_of l).filed
+
+-- Reads
+
+-- the paths of the reads among keys, in their order
+abbrev pub paths_read : List Key → List (List ℕ)
+paths_read [] = []
+paths_read (Read path ∷ ks) = path ∷ paths_read ks
+paths_read (Import layer path ∷ ks) = paths_read ks
+paths_read (Unit_of unit ∷ ks) = paths_read ks
+paths_read (Resolve label ∷ ks) = paths_read ks
+
+-- the source has read just the paths that have numbers, in their order, and what it has read is what its tree has there
+pub record HasRead (before now : SourceState) (l : Log) : Type 0 where
+  pub tree : now.tree ≡ before.tree
+  pub faults : now.faults ≡ before.faults
+  pub reads : Extends before.reads now.reads (plain_reads (paths_read l.keys))
+  pub over : (tree : Tree) → before.tree ≡ Some tree → IsOver (world_of (files_of tree)) l.events
+
+-- the seat's claims, its reads, and a number of reads that is below the limit
+pub record IsGoing (before now : SourceState) (l : Log) (cs : List Claim) (reads : ℕ) : Type 0 where
+  pub driven : IsDriven l (keys_of cs)
+  pub claims : AreClaims l cs
+  pub source : HasRead before now l
+  pub counted : reads ≡ count_of is_read l.keys
+  pub few : reads ≤ read_limit
+
+-- Where loading ends before all is loaded
+
+-- whatever has become of it, the source has read paths that have numbers, in their order, and none behind a read that has failed
+pub record ReadsNumbered (before now : SourceState) : Type 0 where
+  pub log : Log
+  pub keys : List Key
+  pub driven : IsDriven log keys
+  pub over : (tree : Tree) → before.tree ≡ Some tree → IsOver (world_of (files_of tree)) log.events
+  pub reads : List SourceRead
+  pub goes : ReadsOnBy before now reads
+  pub numbered : IsMore (paths_of reads) (paths_read log.keys)
+
+-- it has failed at this path, which it has read last
+pub record FailsAt (path : List ℕ) (before now : SourceState) : Type 0 where
+  pub failed : before.faults < now.faults
+  pub last : IsSome before.reads → FailedAt path before now
+
+-- more files were read than a build may ask for
+abbrev pub HasTooMany : SourceState → SourceState → Type 0
+HasTooMany before now = (l : Log) × (ks : List Key) × IsDriven l ks × HasRead before now l × (read_limit < count_of is_read l.keys)
