@@ -48,7 +48,7 @@ impl<R: Files + Drop> Source for FileSource<R> {
     ghost state = { λ s. record { tree = None; reads = None; faults = s.faults } };
 
     fn read(&mut self, alloc: Global, path: &str) -> Result<Option<Vec<u8>>, ReadStop> {
-        match read_named(&self.rt, alloc, name_of(path)) {
+        match read_named(&self.rt, alloc, file_name(path)) {
             FileEnd::Absent => Ok(None),
             FileEnd::Whole(bytes) => Ok(Some(bytes)),
             FileEnd::TooBig => Err(ReadStop::TooBig(16_777_217)),
@@ -64,7 +64,7 @@ impl<R: Files + Drop> Source for FileSource<R> {
 
 // The name below the current folder, or the system's path. The source root is the current folder itself: it has a name too,
 // since to open an empty one would look like absence.
-fn name_of(path: &str) -> &str
+fn file_name(path: &str) -> &str
     ensures { result.now ≢ [] }
 {
     let name = path.strip_prefix("//").unwrap_or(path);

@@ -9,7 +9,7 @@ use Rattle.std.proofs.lemmas.Cmp.{nat_list_cmp_total, tied_itself}
 use Rattle.gn_outside.specs.Tree.{Tree}
 use Rattle.gn_outside.specs.States.{SourceRead, SourceState, paths_of}
 use Rattle.gn_outside.specs.Lists.{AllDiffer, Each, EachPair, Extends, OneOf}
-use Rattle.gn_outside.specs.Sources.{AllTell, AllTellReads, FailedAt, IsAtMost, IsLeastFailure, GoesOn, reads_since, joined_reads}
+use Rattle.gn_outside.specs.Sources.{AllTell, AllTellReads, FailedAt, IsAtMost, IsLeastFailure, ReadsOn, reads_since, joined_reads}
 use Rattle.gn_imports.specs.Asked.{contents_asked}
 use Rattle.gn_top.specs.declared.answered.Answered.{Answered}
 use Rattle.gn_top.specs.declared.answered.RunStop.{RunStop}
@@ -19,8 +19,10 @@ use Rattle.gn_top.specs.Commands.{command_view}
 use Rattle.gn_top.specs.Said.{Said, command_said}
 use Rattle.gn_top.specs.Run.{IsCount}
 use Rattle.gn_top.proofs.CommandLemmas.{units-view}
-use Rattle.gn_top.specs.Loading.{questions}
-use Rattle.gn_top.specs.Progress.{ReadsAsked, FailsAt}
+use Rattle.gn_builds.specs.Worlds.{files_of}
+use Rattle.gn_builds.specs.Builds.{questions}
+use Rattle.gn_builds.specs.Driving.{FailsAt}
+use Rattle.gn_builds.specs.Rest.{ReadsAsked}
 use Rattle.gn_top.specs.Steps.{IsSaying, IfCannotRead}
 
 -- a source that tells its tree is all that tells it
@@ -83,11 +85,11 @@ module _ (before after : SourceState) where
   reads_differ read told = subst AllDiffer (sym (joined read.0 told.0 read.1.joined)) read.2
 
   pub reads_are_asked : ReadsAsked before after → (tree : Tree) → before.tree ≡ Some tree → AllTellReads (before ∷ [])
-      → Each (OneOf (contents_asked (questions tree))) (joined_reads (before ∷ []) (after ∷ []))
+      → Each (OneOf (contents_asked (questions (files_of tree)))) (joined_reads (before ∷ []) (after ∷ []))
   reads_are_asked read tree of told =
-      subst (Each (OneOf (contents_asked (questions tree)))) (sym (joined read.0 told.0 read.1.joined)) (read.3 tree of)
+      subst (Each (OneOf (contents_asked (questions (files_of tree))))) (sym (joined read.0 told.0 read.1.joined)) (read.3 tree of)
 
-  pub source_goes_on : ReadsAsked before after → EachPair GoesOn (before ∷ []) (after ∷ [])
+  pub source_goes_on : ReadsAsked before after → EachPair ReadsOn (before ∷ []) (after ∷ [])
   source_goes_on read = ((read.0, read.1), tt)
 
   -- a source has one path that it has read last

@@ -1,13 +1,5 @@
 pub mod CommandLemmas
 pub mod OrderLemmas
 pub mod RunLemmas
-pub mod NameLemmas
-pub mod StoreLemmas
-pub mod ProjectLemmas
-pub mod LoadingLemmas
-pub mod EndingLemmas
-pub mod SourceLemmas
-pub mod ReadLemmas
-pub mod LibraryLemmas
-pub mod StepLemmas
 pub mod AnswerLemmas
+mod EndingLemmas

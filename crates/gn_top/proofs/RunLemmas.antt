@@ -3,10 +3,10 @@ use Rattle.std.proofs.Common.{◌≡◌, ◌⊎◌, inl, inr, ⊎_elim, ℕ, ◌
 use Rattle.std.specs.Prelude.{Option, None, Some, option_map}
 use Rattle.std.proofs.Math.Seq.{drop-length}
 use Rattle.std.specs.Prelude.{slice_set, slice_index_or}
-use Rattle.gn_outside.specs.States.{SourceRead, SourceState, SinkState, PutFile, Piece, Put, piece_of, paths_of}
+use Rattle.gn_outside.specs.States.{SourceRead, SourceState, SinkState, PutFile, SaidPiece, Put, piece_of, paths_of}
 use Rattle.gn_top.specs.Said.{Said}
 use Rattle.gn_outside.specs.Lists.{EachPair, SomePair, Extends}
-use Rattle.gn_outside.specs.Sources.{AllTellReads, total_faults, FailedAt, IsLeastFailure, reads_since, joined_reads, GoesOn}
+use Rattle.gn_outside.specs.Sources.{AllTellReads, total_faults, FailedAt, IsLeastFailure, reads_since, joined_reads, ReadsOn}
 use Rattle.gn_top.specs.Texts.{cannot_read_line}
 use Rattle.gn_top.specs.Run.{EndsAs, SaysPart, TellsPart, IsCutShort, CutsFailure, CannotRead, EndsWithUsage}
 
@@ -29,8 +29,8 @@ cut_answer meaning text sources now sink after same none (inl nothing) = record 
 cut_answer meaning text sources now sink after same none (inr (n, part)) = record {
   told = inl (inr (
     n,
-    part ∙ ap (λ (t : List ℕ). option_map (λ xs. xs ++ Piece (take n t) ∷ []) sink.events) same
-        ∙ ap (λ (files : List PutFile). option_map (λ xs. xs ++ (map Put files ++ Piece (take n meaning.text) ∷ [])) sink.events) (sym none),
+    part ∙ ap (λ (t : List ℕ). option_map (λ xs. xs ++ SaidPiece (take n t) ∷ []) sink.events) same
+        ∙ ap (λ (files : List PutFile). option_map (λ xs. xs ++ (map Put files ++ SaidPiece (take n meaning.text) ∷ [])) sink.events) (sym none),
   ));
 }
 
@@ -55,10 +55,10 @@ one_failed path before now sink after rose text least = record {
 
 -- Sources beside the first that stay as they are add nothing.
 
-goes_on_same : (s : SourceState) → GoesOn s s
+goes_on_same : (s : SourceState) → ReadsOn s s
 goes_on_same s = ([], record { tree = refl; joined = nothing_more s.reads s.reads refl; stops = tt; faults = refl })
 
-all_go_on_same : (rest : List SourceState) → EachPair GoesOn rest rest
+all_go_on_same : (rest : List SourceState) → EachPair ReadsOn rest rest
 all_go_on_same [] = tt
 all_go_on_same (s ∷ rest) = (goes_on_same s, all_go_on_same rest)
 
@@ -118,7 +118,7 @@ module _ (s t : SourceState) (rest : List SourceState) where
   pub joined_more : joined_reads (s ∷ rest) (t ∷ rest) ≡ joined_reads (s ∷ []) (t ∷ [])
   joined_more = ap (λ (paths : List (List ℕ)). paths_of (reads_since s.reads t.reads) ++ paths) (joined_same rest)
 
-  pub goes_on_more : EachPair GoesOn (s ∷ []) (t ∷ []) → EachPair GoesOn (s ∷ rest) (t ∷ rest)
+  pub goes_on_more : EachPair ReadsOn (s ∷ []) (t ∷ []) → EachPair ReadsOn (s ∷ rest) (t ∷ rest)
   goes_on_more one = (one.0, all_go_on_same rest)
 
 -- The first of a list, and the list with another first.

@@ -2,14 +2,8 @@ pub mod Exported
 pub mod Words
 pub mod Commands
 pub mod Texts
-pub mod Loading
 pub mod Labels
 pub mod Said
 pub mod Hosts
 pub mod Run
 pub mod Steps
-pub mod Names
-pub mod Store
-pub mod Library
-pub mod Waiting
-pub mod Progress

@@ -8,13 +8,14 @@ use Rattle.gn_outside.specs.States.{PutFile}
 use Rattle.gn_faults.specs.declared.code.Code.{Code}
 use Rattle.gn_faults.specs.declared.code.Code.TheVariants.{TooLarge}
 use Rattle.gn_faults.specs.declared.fault.Fault.{Fault}
-use Rattle.gn_items.specs.Effects.{Effects}
 use Rattle.gn_faults.specs.Printed.{printed}
 use Rattle.gn_top.specs.Exported.{Exported}
 use Rattle.gn_top.specs.Words.{Command, Ls, command_of}
 use Rattle.gn_top.specs.Texts.{usage_line}
 use Rattle.gn_imports.specs.Asked.{contents_asked}
-use Rattle.gn_top.specs.Loading.{Build, loaded, questions}
+use Rattle.gn_builds.specs.Worlds.{files_of}
+use Rattle.gn_builds.specs.Builds.{questions}
+use Rattle.gn_builds.specs.Loaded.{Build, lines, loaded}
 use Rattle.gn_top.specs.Labels.{listing}
 use Rattle.gn_top.specs.Hosts.{HostTexts}
 
@@ -47,10 +48,6 @@ units_before _ = Exactly 1
 abbrev pub fault_said : Fault → Said
 fault_said fault = record { status = 1; text = printed fault; files = []; units = units_before fault.code }
 
--- lines, one behind the other
-abbrev pub lines : Effects → List ℕ
-lines effects = flat_map (λ text. text) effects.prints
-
 -- the lines printed by the imports, in the order of their paths, then those of the build file, then the labels of the items in label order, one a line
 abbrev pub answer_text : Build → List ℕ
 answer_text build = flat_map lines build.imports ++ (lines build.file ++ listing build.file.items)
@@ -67,7 +64,7 @@ loaded_said (Err fault) = fault_said fault
 -- what a command says over a tree
 abbrev pub command_said : Option Command → Tree → Said
 command_said None tree = usage_said
-command_said (Some (Ls name)) tree = loaded_said (loaded tree)
+command_said (Some (Ls name)) tree = loaded_said (loaded (files_of tree))
 
 -- the meaning of words: what a run over this tree says and puts
 unfoldable pub said : List (List ℕ) → HostTexts → List Exported → Tree → Said
@@ -76,7 +73,7 @@ said words host exporters tree = command_said (command_of words) tree
 -- the paths that a command reads
 abbrev pub command_asked : Option Command → Tree → List (List ℕ)
 command_asked None tree = []
-command_asked (Some (Ls name)) tree = contents_asked (questions tree)
+command_asked (Some (Ls name)) tree = contents_asked (questions (files_of tree))
 
 -- the paths that the meaning of words reads
 unfoldable pub asked : List (List ℕ) → HostTexts → List Exported → Tree → List (List ℕ)

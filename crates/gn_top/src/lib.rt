@@ -3,18 +3,11 @@
 
 mod answer;
 mod answered;
-mod defining;
 mod host;
 mod labels;
-mod library;
-mod loading;
 mod many;
 mod one;
-mod settling;
-mod starts;
-mod store;
 mod texts;
-mod waiting;
 mod words;
 
 pub use host::{Ended, Host, One};

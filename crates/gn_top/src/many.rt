@@ -2,7 +2,7 @@
 ghost use Rattle.std.specs.Prelude.{◌≡◌, ◌<◌, ◌≤◌, [], map, string_bytes, vec_len, drop};
 ghost use Rattle.gn_outside.specs.Tree.{Tree};
 ghost use Rattle.gn_outside.specs.Lists.{AllDiffer, Each, EachPair, OneOf};
-ghost use Rattle.gn_outside.specs.Sources.{AllTell, AllTellReads, GoesOn, joined_reads};
+ghost use Rattle.gn_outside.specs.Sources.{AllTell, AllTellReads, ReadsOn, joined_reads};
 ghost use Rattle.gn_top.specs.Hosts.{IsRoot, host_texts};
 ghost use Rattle.gn_top.specs.Words.{HasNoForm, worker_count};
 ghost use Rattle.gn_top.specs.Said.{said, asked, texts};
@@ -60,7 +60,7 @@ pub fn run_gn<R: Threads + Wait + Sync, S: Source + Send, K: Sink>(
 
     // Each source comes back in its place and goes on, and isn't read again after a failed read. Those without a worker are as
     // they were.
-    ensures sources { EachPair GoesOn (map S.state sources.items) (map S.state result.sources.items) }
+    ensures sources { EachPair ReadsOn (map S.state sources.items) (map S.state result.sources.items) }
     ensures idle { let workers = worker_count (texts words.now) (vec_len sources) in
         drop workers result.sources.items ≡ drop workers sources.items }
 {

@@ -2,7 +2,7 @@
 ghost use Rattle.std.specs.Prelude.{◌≡◌, ◌<◌, ◌≤◌, [], ◌∷◌, IfOk, string_bytes};
 ghost use Rattle.gn_outside.specs.Tree.{Tree};
 ghost use Rattle.gn_outside.specs.Lists.{AllDiffer, Each, EachPair, OneOf};
-ghost use Rattle.gn_outside.specs.Sources.{AllTell, AllTellReads, GoesOn, joined_reads};
+ghost use Rattle.gn_outside.specs.Sources.{AllTell, AllTellReads, ReadsOn, joined_reads};
 ghost use Rattle.gn_top.specs.Hosts.{IsRoot, host_texts};
 ghost use Rattle.gn_top.specs.Words.{HasNoForm};
 ghost use Rattle.gn_top.specs.Said.{said, asked, texts};
@@ -97,7 +97,7 @@ pub fn run_one<R: Threads + Sync, S: Source, K: Sink>(
         LoadsUnits (said (texts words.now) (host_texts host.now) [] tree) result.status result.units }
 
     // The source goes on, and isn't read again after a failed read.
-    ensures sources { EachPair GoesOn (S.state source.old ∷ []) (S.state source.new ∷ []) }
+    ensures sources { EachPair ReadsOn (S.state source.old ∷ []) (S.state source.new ∷ []) }
 {
     match answer(alloc, words, host, source) {
         Ok(answered) => One {

@@ -1,0 +1,219 @@
+-- What an execution over a part comes to, as the work on its claim.
+use Rattle.std.proofs.Common.{◌≡◌, inl, inr, ℕ, List, [], ◌∷◌, ◌++◌, map, Option, Some, None, Bool, true, false, if◌then◌else◌, refl, sym, ◌∙◌, ap, subst}
+use Rattle.std.specs.declared.vec.Vec.{Vec}
+use Rattle.std.specs.declared.alloc.Global.{Global}
+use Rattle.gn_paths.specs.declared.place.Place.{Place}
+use Rattle.gn_faults.specs.declared.fault.Fault.{Fault}
+use Rattle.gn_values.specs.Imported.{ImportState}
+use Rattle.gn_items.specs.Effects.{Effects, no_effects}
+use Rattle.gn_items.specs.Questions.{question_of}
+use Rattle.gn_items.specs.declared.question.Question.{Question as Asked}
+use Rattle.gn_items.specs.declared.key.Key.{Key as Named}
+use Rattle.gn_items.specs.declared.key.Key.TheVariants.{Import as ImportKey, Load as LoadKey}
+use Rattle.gn_items.specs.declared.key.When.{When}
+use Rattle.gn_items.specs.declared.key.When.TheVariants.{Early, Usual}
+use Rattle.gn_runs.specs.Runs.{Question, content_of, import_of, Answers, End, ended, wrong, spoiled, needs, Run}
+use Rattle.gn_runs.specs.Laws.{IsSettled, IsAsked}
+use Rattle.gn_runs.proofs.TreeLaws.{below_itself}
+use Rattle.gn_closure.specs.Reach.{Setup, Load}
+use Rattle.gn_meaning.specs.Steps.{Left as EndedWith}
+use Rattle.gn_eval.specs.Library.{Need, LibraryState, Includes, GoesOn}
+use Rattle.gn_eval.specs.Ends.{asked_until}
+use Rattle.gn_executions.specs.Base.{BaseState, plain_base}
+use Rattle.gn_executions.specs.Units.{import_execution, load_execution}
+use Rattle.gn_unit.specs.Ends.{EndsWith, IsLoadOf, IsImportOf, IsUnitOf, IsNeedOf, HasAskedOf, WhereStopped, asked_of}
+use Rattle.gn_unit.specs.declared.unit.EvalStop.{EvalStop}
+use Rattle.gn_unit.specs.declared.unit.EvalStop.TheVariants.{Stopped, Memory}
+use Rattle.gn_unit.specs.declared.unit.Unit.{Unit as Evaluated}
+use Rattle.gn_unit.specs.declared.unit.Unit.TheVariants as unit
+use Rattle.gn_core.specs.Keys.{Layer, usual, Key, Import, Unit_of, Answer, found, import_is, no_value, unit_is, record_is, Filed, Leaving, key_of, shown}
+use Rattle.gn_core.specs.Machine.{IsRightImport, spoiled_as}
+use Rattle.gn_book.specs.Keys.{key_of as named_by, layer_at}
+use Rattle.gn_builds.specs.Worlds.{when_of, toolchain_of, left_end, left_run, nothing_needed, import_of_layer}
+use Rattle.gn_builds.specs.Working.{over, AsksContent}
+use Rattle.gn_load.specs.Answers.{run_of, meaning_of}
+use Rattle.gn_load.specs.Performing.{IsPerformed}
+use Rattle.gn_load.specs.Told.{need_view, has_no_value}
+use Rattle.gn_load.specs.Evaluating.{IsRan, IsBuildFile, IsImported, IsLoadExecuted, IsImportFiled, IsLacking}
+use Rattle.gn_load.specs.declared.answer.Executed.{Executed}
+use Rattle.gn_load.specs.declared.answer.Executed.TheVariants.{Left, Wrong, Spoiled}
+use Rattle.gn_load.specs.declared.answer.Filed.{Filed as FiledAnswer}
+use Rattle.gn_load.specs.declared.answer.Filed.TheVariants.{Import as import_filed, Unit as unit_filed, NoValue}
+use Rattle.gn_load.specs.declared.told.Needed.{Needed}
+use Rattle.gn_load.specs.declared.evaluating.Ran.{Ran}
+use Rattle.gn_load.specs.declared.evaluating.Ran.TheVariants.{Ended, Lacks}
+use Rattle.gn_load.specs.declared.work.Performed.{Performed}
+use Rattle.gn_load.specs.declared.work.Performed.TheVariants.{Answered, Needs}
+
+-- what a library tells after an evaluation is what it told before
+told_still : (s t : LibraryState) (a : Answers) → GoesOn s t → s.told ≡ Some a → t.told ≡ Some a
+told_still s t a goes told = goes.told ∙ told
+
+included : (told : Option Answers) (a : Answers) → told ≡ Some a → Includes told a
+included told a h = subst (λ (x : Option Answers). Includes x a) (sym h) (below_itself a)
+
+module _ (base : BaseState) (key : Named) (s t : LibraryState) (a : Answers) (goes : GoesOn s t) (told : s.told ≡ Some a) where
+  pub ran_ended : (u : Evaluated) → ((x : Answers) → Includes t.told x → IsUnitOf base key u x) → ((x : Answers) → Includes t.told x → HasAskedOf base key u x) → IsRan base key a (Ended u)
+  ran_ended u ends asked = let has = included t.told a (told_still s t a goes told) in (ends a has, asked a has)
+
+  pub ran_stopped : (need : Need) (asked : List Question) → ((x : Answers) → t.told ≡ Some x → IsNeedOf base key need asked x) → IsNeedOf base key need asked a
+  ran_stopped need asked h = h a (told_still s t a goes told)
+
+-- what is needed where it has stopped
+pub where_stopped : (stop : EvalStop) (P Q : List Question → Type 0) → ((asked : List Question) → P asked → Q asked) → WhereStopped stop P → WhereStopped stop Q
+where_stopped (Stopped asked) P Q so h = so (map question_of asked.items) h
+where_stopped Memory P Q so h = tt
+
+pub stop_lacks : (need : Needed) (asked : Vec Asked Global) (stop : EvalStop) → stop ≡ Stopped asked → (base : BaseState) (key : Named) (a : Answers)
+    → WhereStopped stop (λ asked. IsNeedOf base key (need_view need) asked a) → IsRan base key a (Lacks need asked)
+stop_lacks need asked stop is base key a h = subst (λ (s : EvalStop). WhereStopped s (λ asked. IsNeedOf base key (need_view need) asked a)) is h
+
+-- what has ended is of the kind of its key
+pub is_build_file : (u : Evaluated) (end : End (EndedWith (Unit {0}))) → IsLoadOf u end → IsBuildFile u
+is_build_file (unit.Load effects) end h = tt
+is_build_file (unit.Import value effects) end h = h
+is_build_file (unit.Wrong fault asked) end h = tt
+is_build_file (unit.Spoiled path place asked) end h = tt
+
+pub is_imported : (u : Evaluated) (end : End (EndedWith ImportState)) → IsImportOf u end → IsImported u
+is_imported (unit.Load effects) end h = h
+is_imported (unit.Import value effects) end h = tt
+is_imported (unit.Wrong fault asked) end h = tt
+is_imported (unit.Spoiled path place asked) end h = tt
+
+-- what has come of the execution of a build file, and of one that is imported
+module _ (key : Named) (a : Answers) (ran : Ran) (does : IsRan plain_base key a ran) where
+  module _ (dir toolchain : List ℕ) (named : key ≡ LoadKey dir toolchain) where
+    pub load_ended : (u : Evaluated) → ran ≡ Ended u → IsLoadOf u (load_execution plain_base dir toolchain a).end × ((load_execution plain_base dir toolchain a).asked ≡ asked_of u)
+    load_ended u is = subst (λ (k : Named). IsUnitOf plain_base k u a × HasAskedOf plain_base k u a) named (subst (IsRan plain_base key a) is does)
+
+    pub load_needs : (need : Needed) (asked : Vec Asked Global) → ran ≡ Lacks need asked
+        → load_execution plain_base dir toolchain a ≡ record { end = needs (need_view need).question (need_view need).place; asked = asked_until (need_view need).question (map question_of asked.items) }
+    load_needs need asked is = subst (λ (k : Named). IsNeedOf plain_base k (need_view need) (map question_of asked.items) a) named (subst (IsRan plain_base key a) is does)
+
+  module _ (w : When) (toolchain path : List ℕ) (named : key ≡ ImportKey w toolchain path) where
+    pub import_ended : (u : Evaluated) → ran ≡ Ended u → IsImportOf u (import_execution plain_base w toolchain path a).end × ((import_execution plain_base w toolchain path a).asked ≡ asked_of u)
+    import_ended u is = subst (λ (k : Named). IsUnitOf plain_base k u a × HasAskedOf plain_base k u a) named (subst (IsRan plain_base key a) is does)
+
+    pub import_needs : (need : Needed) (asked : Vec Asked Global) → ran ≡ Lacks need asked
+        → import_execution plain_base w toolchain path a ≡ record { end = needs (need_view need).question (need_view need).place; asked = asked_until (need_view need).question (map question_of asked.items) }
+    import_needs need asked is = subst (λ (k : Named). IsNeedOf plain_base k (need_view need) (map question_of asked.items) a) named (subst (IsRan plain_base key a) is does)
+
+-- how executions end, as what is filed of them
+module _ {A B : Type 0} (f : A → B) (run : Run (EndedWith A)) where
+  pub left_as : (value : A) (effects : Effects) → EndsWith value effects run.end → run.asked ≡ effects.asked → record { end = ended (record { value = f value; effects = effects }); asked = effects.asked } ≡ left_run f run
+  left_as value effects e h = λ i. record { end = left_end f (sym e.1 i); asked = sym h i }
+
+  pub wrong_as : (fault : Fault) (asked : List Question) → run.end ≡ wrong fault → run.asked ≡ asked → record { end = wrong fault; asked = asked } ≡ left_run f run
+  wrong_as fault asked e h = λ i. record { end = left_end f (sym e i); asked = sym h i }
+
+  pub spoiled_run : (path : List ℕ) (place : Place) (asked : List Question) → run.end ≡ spoiled path place → run.asked ≡ asked → record { end = spoiled path place; asked = asked } ≡ left_run f run
+  spoiled_run path place asked e h = λ i. record { end = left_end f (sym e i); asked = sym h i }
+
+-- an execution that has ended is settled
+load_settled : (u : Evaluated) (end : End (EndedWith (Unit {0}))) → IsLoadOf u end → IsSettled (left_end (λ value. nothing_needed) end)
+load_settled (unit.Load effects) end h = subst (λ (e : End (EndedWith (Unit {0}))). IsSettled (left_end (λ value. nothing_needed) e)) (sym h.1) tt
+load_settled (unit.Import value effects) end h = absurd h
+load_settled (unit.Wrong fault asked) end h = subst (λ (e : End (EndedWith (Unit {0}))). IsSettled (left_end (λ value. nothing_needed) e)) (sym h) tt
+load_settled (unit.Spoiled path place asked) end h = subst (λ (e : End (EndedWith (Unit {0}))). IsSettled (left_end (λ value. nothing_needed) e)) (sym h) tt
+
+-- the work on the claim of a build file whose execution has ended
+pub load_answered : (part : Filed) (dir toolchain : List ℕ) (u : Evaluated) (executed : Executed (Unit {0}))
+    → IsLoadOf u (load_execution plain_base dir toolchain (shown part (usual toolchain))).end → (load_execution plain_base dir toolchain (shown part (usual toolchain))).asked ≡ asked_of u
+    → IsLoadExecuted u executed → IsPerformed part (Unit_of (Load dir toolchain)) (Answered (unit_filed executed))
+load_answered part dir toolchain u executed ends asked is =
+    (load_settled u (load_execution plain_base dir toolchain (shown part (usual toolchain))).end ends, ap unit_is (is (load_execution plain_base dir toolchain (shown part (usual toolchain))) ends asked))
+
+-- that of a build configuration, which isn't executed
+pub setup_answered : (part : Filed) (toolchain : List ℕ) (effects : Effects) → effects ≡ no_effects → IsPerformed part (Unit_of (Setup toolchain)) (Answered (unit_filed (Left (tt {0}) effects)))
+setup_answered part toolchain effects is = (tt, ap (λ (e : Effects). unit_is (run_of (λ value. nothing_needed) (Left (tt {0}) e))) is)
+
+-- of an import
+pub import_answered : (part : Filed) (l : Layer) (path : List ℕ) (run : Run (Leaving ImportState)) (filed : FiledAnswer)
+    → run ≡ import_of_layer l path (shown part l) → IsImportFiled part l run filed → IsPerformed part (Import l path) (Answered filed)
+import_answered part l path run filed is right = subst (λ (r : Run (Leaving ImportState)). IsRightImport (over part) l path r r.end (meaning_of filed)) is (right path)
+
+-- an answer that is spoiled at an import without value has none
+pub spoiled_by : (x : Option Answer) (q : List ℕ) (p : Place) (run : Run (Leaving ImportState)) → (if has_no_value x then no_value q p run.asked else import_is run) ≡ spoiled_as x q p run
+spoiled_by None q p run = refl
+spoiled_by (Some (found content)) q p run = refl
+spoiled_by (Some (import_is r)) q p run = refl
+spoiled_by (Some (no_value a b asked)) q p run = refl
+spoiled_by (Some (unit_is r)) q p run = refl
+spoiled_by (Some (record_is bytes)) q p run = refl
+
+-- what is filed of an import that is spoiled at another one
+abbrev pub filed_spoiled : Bool → List ℕ → Place → Vec Asked Global → FiledAnswer
+filed_spoiled none q p asked = if none then NoValue q p asked else import_filed (Spoiled q p asked)
+
+meant_spoiled : (none : Bool) (q : List ℕ) (p : Place) (asked : Vec Asked Global)
+    → meaning_of (filed_spoiled none q p asked) ≡ (if none then no_value q p (map question_of asked.items) else import_is (run_of (λ (value : ImportState). value) (Spoiled q p asked)))
+meant_spoiled true q p asked = refl
+meant_spoiled false q p asked = refl
+
+pub import_spoiled : (part : Filed) (l : Layer) (none : Bool) (q : List ℕ) (p : Place) (asked : Vec Asked Global) (filed : FiledAnswer)
+    → none ≡ has_no_value (part (Import l q)) → filed ≡ filed_spoiled none q p asked → IsImportFiled part l (run_of (λ (value : ImportState). value) (Spoiled q p asked)) filed
+import_spoiled part l none q p asked filed is same = λ path.
+    ap meaning_of same ∙ meant_spoiled none q p asked
+    ∙ ap (λ (b : Bool). if b then no_value q p (map question_of asked.items) else import_is (run_of (λ (value : ImportState). value) (Spoiled q p asked))) is
+    ∙ spoiled_by (part (Import l q)) q p (run_of (λ (value : ImportState). value) (Spoiled q p asked))
+
+-- and of another one
+pub import_kept : (part : Filed) (l : Layer) (executed : Executed ImportState) → ((q : List ℕ) (p : Place) (asked : Vec Asked Global) → executed ≡ Spoiled q p asked → ⊥)
+    → IsImportFiled part l (run_of (λ (value : ImportState). value) executed) (import_filed executed)
+import_kept part l (Left value effects) other = λ path. refl
+import_kept part l (Wrong fault asked) other = λ path. refl
+import_kept part l (Spoiled q p asked) other = absurd (other q p asked refl)
+
+-- what is asked until an import is needed has what there is at its path
+asked_before : (xs : List Question) (q r : Question) → IsAsked ((xs ++ q ∷ []) ++ r ∷ []) q
+asked_before [] q r = inl refl
+asked_before (x ∷ xs) q r = inr (asked_before xs q r)
+
+content_asked : (l : Layer) (q : Question) (asked all : List Question) (on : Key) → on ≡ key_of l q → all ≡ asked_until q asked → AsksContent on all
+content_asked l (content_of path) asked all on is same = subst (λ (k : Key). AsksContent k all) (sym is) tt
+content_asked l (import_of path) asked all on is same =
+    subst (λ (k : Key). AsksContent k all) (sym is) (subst (λ (qs : List Question). IsAsked qs (content_of path)) (sym same) (asked_before asked (content_of path) (import_of path)))
+
+needs_left : {A B : Type 0} (f : A → B) (run : Run (EndedWith A)) (q : Question) (p place : Place) (asked : List Question) → run ≡ record { end = needs q p; asked = asked } → place ≡ p → (left_run f run).end ≡ needs q place
+needs_left f run q p place asked is same = ap (λ (r : Run _). left_end f r.end) is ∙ ap (needs q) (sym same)
+
+-- the execution of an import of a layer
+pub import_at_layer : (w : When) (toolchain path : List ℕ) (a : Answers) → import_execution plain_base (when_of (layer_at w toolchain)) (toolchain_of (layer_at w toolchain)) path a ≡ import_execution plain_base w toolchain path a
+import_at_layer Early toolchain path a = refl
+import_at_layer Usual toolchain path a = refl
+
+-- the work on a claim whose evaluation needs another answer
+pub load_lacks : (part : Filed) (dir toolchain : List ℕ) (need : Need) (asked : List Question) (done : Performed)
+    → load_execution plain_base dir toolchain (shown part (usual toolchain)) ≡ record { end = needs need.question need.place; asked = asked_until need.question asked }
+    → IsLacking (usual toolchain) need asked done → IsPerformed part (Unit_of (Load dir toolchain)) done
+load_lacks part dir toolchain need asked (Answered filed) is lacking = absurd lacking
+load_lacks part dir toolchain need asked (Needs on place all) is lacking = (
+  (
+    need.question,
+    lacking.0,
+    needs_left (λ value. nothing_needed) (load_execution plain_base dir toolchain (shown part (usual toolchain))) need.question need.place place (asked_until need.question asked) is lacking.1,
+    ap (λ (r : Run (EndedWith (Unit {0}))). r.asked) is ∙ sym lacking.2,
+  ),
+  content_asked (usual toolchain) need.question asked (map question_of all.items) (named_by on) lacking.0 lacking.2,
+)
+
+pub import_lacks : (part : Filed) (l : Layer) (path : List ℕ) (need : Need) (asked : List Question) (done : Performed)
+    → import_execution plain_base (when_of l) (toolchain_of l) path (shown part l) ≡ record { end = needs need.question need.place; asked = asked_until need.question asked }
+    → IsLacking l need asked done → IsPerformed part (Import l path) done
+import_lacks part l path need asked (Answered filed) is lacking = absurd lacking
+import_lacks part l path need asked (Needs on place all) is lacking = (
+  (
+    need.question,
+    lacking.0,
+    needs_left (λ value. value) (import_execution plain_base (when_of l) (toolchain_of l) path (shown part l)) need.question need.place place (asked_until need.question asked) is lacking.1,
+    ap (λ (r : Run (EndedWith ImportState)). r.asked) is ∙ sym lacking.2,
+  ),
+  content_asked l need.question asked (map question_of all.items) (named_by on) lacking.0 lacking.2,
+)
+
+-- the run of an import of a layer is its execution, as what is filed of it
+pub import_run_at : (w : When) (toolchain path : List ℕ) (a : Answers) (executed : Executed ImportState)
+    → run_of (λ (value : ImportState). value) executed ≡ left_run (λ (value : ImportState). value) (import_execution plain_base w toolchain path a)
+    → run_of (λ (value : ImportState). value) executed ≡ import_of_layer (layer_at w toolchain) path a
+import_run_at w toolchain path a executed is = is ∙ ap (left_run (λ (value : ImportState). value)) (sym (import_at_layer w toolchain path a))

@@ -1,0 +1,10 @@
+mod Contents
+mod ToldLemmas
+mod Evaluations
+mod TurnLemmas
+mod BuiltLemmas
+mod PlainLemmas
+mod LinkLemmas
+mod TakeLemmas
+mod WorkLemmas
+mod EndLemmas

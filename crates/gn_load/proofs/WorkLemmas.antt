@@ -1,0 +1,170 @@
+-- The work on a claim, as a part of a turn.
+use Rattle.std.proofs.Common.{◌≡◌, inl, ℕ, ◌+◌, ◌<◌, ◌≤◌, List, [], ◌∷◌, ◌++◌, length, Option, Some, None, MatchOption, option_to_list, Result, Ok, Err, IfOk, IfErr, OnOk, refl, sym, ◌∙◌, subst, arith}
+use Rattle.std.specs.Result.{IsErrAnd}
+use Rattle.gn_paths.specs.declared.place.Place.{Place}
+use Rattle.gn_outside.specs.Tree.{Tree, read_of}
+use Rattle.gn_outside.specs.States.{SourceState}
+use Rattle.gn_runs.specs.Runs.{Question, content_of, import_of, Content}
+use Rattle.gn_core.specs.Keys.{Layer, Key, Read, Import, Unit_of, Resolve, Answer, found, Filed as Answers, layer_of, key_of as core_key}
+use Rattle.gn_core.specs.Machine.{File, read_limit}
+use Rattle.gn_book.specs.Keys.{key_of}
+use Rattle.gn_book.specs.Logs.{Log, with_event}
+use Rattle.gn_book.specs.declared.book.Claim.{Claim}
+use Rattle.gn_builds.specs.Worlds.{content_in}
+use Rattle.gn_builds.specs.Stacks.{IsAskable, MayWait}
+use Rattle.gn_builds.specs.Working.{IsInNeed}
+use Rattle.gn_builds.specs.Driving.{with_claim}
+use Rattle.gn_load.specs.Answers.{meaning_of}
+use Rattle.gn_load.specs.Performing.{IsPerformed, IsOfTree, IsWorkOf, IsEvaluated, HasWork}
+use Rattle.gn_load.specs.Turns.{IsNextOf, IsCounted, ReadsAs, IsReadAt, IsReadOf, IsRead}
+use Rattle.gn_load.specs.declared.answer.Filed.{Filed}
+use Rattle.gn_load.specs.declared.driver.Driver.{Driver}
+use Rattle.gn_load.specs.declared.driver.Stop.{Stop}
+use Rattle.gn_load.specs.declared.driver.Stop.TheVariants as stop
+use Rattle.gn_load.specs.declared.work.Performed.{Performed}
+use Rattle.gn_load.specs.declared.work.Performed.TheVariants.{Answered, Needs}
+use Rattle.gn_load.specs.declared.work.PerformStop.{PerformStop}
+use Rattle.gn_load.specs.declared.work.PerformStop.TheVariants.{Failed, Memory}
+
+-- there is work on what may wait
+pub has_work : (k : Key) → MayWait k → HasWork k
+has_work (Read path) may = tt
+has_work (Import layer path) may = tt
+has_work (Unit_of unit) may = tt
+has_work (Resolve label) may = may
+
+-- and it reads nothing
+pub works_still : (k : Key) (was now : SourceState) (r : Result Performed PerformStop) → MayWait k → IsWorkOf k was now r → now.reads ≡ was.reads
+works_still (Read path) was now r may work = absurd may
+works_still (Import layer path) was now r may work = work.reads
+works_still (Unit_of unit) was now r may work = work.reads
+works_still (Resolve label) was now r may work = absurd may
+
+pub works_unfailed : (k : Key) → MayWait k → (path : List ℕ) × (k ≡ Read path) → ⊥
+works_unfailed k may read = subst MayWait read.1 may
+
+-- what is needed can be asked for
+asked_askable : (l : Layer) (q : Question) → IsAskable (core_key l q)
+asked_askable l (content_of path) = tt
+asked_askable l (import_of path) = tt
+
+pub needed_askable : (part : Answers) (k on : Key) (place : Place) (asked : List Question) → IsInNeed part k on place asked → IsAskable on
+needed_askable part (Read path) on place asked need = absurd need
+needed_askable part (Import l path) on place asked need = subst IsAskable (sym need.1) (asked_askable l need.0)
+needed_askable part (Unit_of unit) on place asked need = subst IsAskable (sym need.1) (asked_askable (layer_of unit) need.0)
+needed_askable part (Resolve label) on place asked need = absurd need
+
+-- An evaluation reads nothing
+
+pub done_work : (k : Key) (s : SourceState) (d : Performed) → MayWait k → IsWorkOf k s s (Ok d)
+done_work (Read path) s d may = absurd may
+done_work (Import layer path) s d may = record { tree = refl; reads = refl; faults = refl; fails = tt }
+done_work (Unit_of unit) s d may = record { tree = refl; reads = refl; faults = refl; fails = tt }
+done_work (Resolve label) s d may = absurd may
+
+lost_work : (k : Key) (s : SourceState) → MayWait k → IsWorkOf k s s (Err Memory)
+lost_work (Read path) s may = absurd may
+lost_work (Import layer path) s may = record { tree = refl; reads = refl; faults = refl; fails = tt }
+lost_work (Unit_of unit) s may = record { tree = refl; reads = refl; faults = refl; fails = tt }
+lost_work (Resolve label) s may = absurd may
+
+pub evaluated_work : {E : Type 0} (k : Key) (s : SourceState) (done : Result Performed E) (r : Result Performed PerformStop) → MayWait k → IsEvaluated done r → IsWorkOf k s s r
+evaluated_work k s (Ok d) r may is = subst (IsWorkOf k s s) (sym is) (done_work k s d may)
+evaluated_work k s (Err e) r may is = subst (IsWorkOf k s s) (sym is) (lost_work k s may)
+
+pub evaluated_done : {E : Type 0} (P : Performed → Type 0) (done : Result Performed E) (r : Result Performed PerformStop) → IfOk done P → IsEvaluated done r → IfOk r P
+evaluated_done P (Ok d) r h is = subst (λ (o : Result Performed PerformStop). IfOk o P) (sym is) h
+evaluated_done P (Err e) r h is = subst (λ (o : Result Performed PerformStop). IfOk o P) (sym is) tt
+
+-- no tree has an answer of it
+pub of_no_read : (tree : Tree) (k : Key) (d : Performed) → MayWait k → IsOfTree tree k d
+of_no_read tree (Read path) d may = absurd may
+of_no_read tree (Import layer path) d may = tt
+of_no_read tree (Unit_of unit) d may = tt
+of_no_read tree (Resolve label) d may = absurd may
+
+pub evaluated_tree : (k : Key) (before : Option Tree) (r : Result Performed PerformStop) → MayWait k → IfOk r (λ d. (tree : Tree) → before ≡ Some tree → IsOfTree tree k d)
+evaluated_tree k before (Ok d) may = λ tree told. of_no_read tree k d may
+evaluated_tree k before (Err e) may = tt
+
+-- a read looks at no part
+pub at_part : (part : Answers) (k : Key) (r : Result Performed PerformStop) → IfOk r (λ d. (p : Answers) → IsPerformed p k d) → IfOk r (IsPerformed part k)
+at_part part k (Ok d) h = h part
+at_part part k (Err e) h = tt
+
+-- what leaves a stack
+none_left : (cs : List Claim) → length cs ≡ 0 → cs ≡ []
+none_left [] h = refl
+none_left (c ∷ cs) h = absurd (omega (arith, h))
+
+pub popped : (next : Option Claim) (old new : List Claim) (n m : ℕ) → old ≡ option_to_list next ++ new → MatchOption next ((n ≡ 0) × (m ≡ 0)) (λ c. m + 1 ≡ n) → (n ≡ 0 → length old ≡ 0) → (old ≡ with_claim next new) × IsNextOf next new
+popped None old new n m items cases long = (items, sym items ∙ none_left old (long cases.0))
+popped (Some c) old new n m items cases long = (items, tt)
+
+-- A read
+
+module _ (was now : SourceState) (old new : Driver) (c : Claim) where
+  pub read_answered : (part : Answers) (filed : Filed) (r : Result (Unit {0}) Stop) → IsPerformed part (key_of c.key) (Answered filed)
+      → ((tree : Tree) → was.tree ≡ Some tree → IsOfTree tree (key_of c.key) (Answered filed)) → IsWorkOf (key_of c.key) was now (Ok (Answered filed)) → ReadsAs old new c (meaning_of filed) r → IsRead was now old new c r
+  read_answered part filed r done tells work reads path key =
+      by r (subst (λ (k : Key). IsPerformed part k (Answered filed)) key done) (λ tree told. subst (λ (k : Key). IsOfTree tree k (Answered filed)) key (tells tree told)) (subst (λ (k : Key). IsWorkOf k was now (Ok (Answered filed))) key work) reads
+    where
+      is_found : (x y : Content) → meaning_of filed ≡ found x → meaning_of filed ≡ found y → x ≡ y
+      is_found x y e h = let same : found x ≡ found y = sym e ∙ h in cc same
+
+      at : (o : Result (Unit {0}) Stop) → IsPerformed part (Read path) (Answered filed) → ((tree : Tree) → was.tree ≡ Some tree → IsOfTree tree (Read path) (Answered filed)) → IsWorkOf (Read path) was now (Ok (Answered filed)) → ReadsAs old new c (meaning_of filed) o
+          → IsReadAt was now old new c path o
+      at o is tree_is does noted = record {
+        content = is.0;
+        is = λ tree told. is_found is.0 (content_in (read_of tree path)) is.1 (tree_is tree told);
+        filed = subst (λ (v : Answer). ReadsAs old new c v o) is.1 noted;
+        tree = does.tree;
+        faults = does.faults;
+        reads = does.reads;
+      }
+
+      by : (o : Result (Unit {0}) Stop) → IsPerformed part (Read path) (Answered filed) → ((tree : Tree) → was.tree ≡ Some tree → IsOfTree tree (Read path) (Answered filed)) → IsWorkOf (Read path) was now (Ok (Answered filed)) → ReadsAs old new c (meaning_of filed) o
+          → IsReadOf was now old new c path o
+      by (Ok u) is tree_is does noted = at (Ok u) is tree_is does noted
+      by (Err (stop.Failed p)) is tree_is does noted = absurd noted
+      by (Err stop.TooLarge) is tree_is does noted = at (Err stop.TooLarge) is tree_is does noted
+      by (Err stop.Memory) is tree_is does noted = record { tree = does.tree; faults = does.faults; reads = inl does.reads }
+
+  pub read_failed : (p : List ℕ) → key_of c.key ≡ Read p → IsWorkOf (key_of c.key) was now (Err Failed) → IsRead was now old new c (Err (stop.Failed p))
+  read_failed p named work path key =
+      let paths : Read p ≡ Read path = sym named ∙ key in
+      let does = subst (λ (k : Key). IsWorkOf k was now (Err Failed)) key work in
+      (cc paths, record { tree = does.tree; faults = does.faults; reads = does.reads })
+
+  pub read_lost : IsWorkOf (key_of c.key) was now (Err Memory) → IsRead was now old new c (Err stop.Memory)
+  read_lost work path key =
+      let does = subst (λ (k : Key). IsWorkOf k was now (Err Memory)) key work in
+      record { tree = does.tree; faults = does.faults; reads = does.reads }
+
+-- its answer is filed, and counted
+counted_as : (old new : Driver) (c : Claim) (v : Answer) (r : Result (Unit {0}) Stop) → IsCounted old new c v → OnOk r (new.reads ≤ read_limit) → IfErr r (λ s. (s ≡ stop.TooLarge) × (read_limit < new.reads)) → ReadsAs old new c v r
+counted_as old new c v (Ok u) counted few many = (counted, few)
+counted_as old new c v (Err (stop.Failed path)) counted few many = cc many.0
+counted_as old new c v (Err stop.TooLarge) counted few many = (counted, many.1)
+counted_as old new c v (Err stop.Memory) counted few many = tt
+
+module _ (old new : Driver) (c : Claim) (v : Answer) where
+  pub reads_as : (book : Log) → book ≡ with_event old.book (File 0 (key_of c.key) v) → (r : Result (Unit {0}) Stop) → new.book ≡ book → new.waiting ≡ old.waiting → new.imports ≡ old.imports → new.reads ≡ old.reads + 1
+      → OnOk r (new.reads ≤ read_limit) → IfErr r (λ s. (s ≡ stop.TooLarge) × (read_limit < new.reads)) → ReadsAs old new c v r
+  reads_as book filed r same waiting imports reads few many = counted_as old new c v r (record { book = same ∙ filed; waiting = waiting; imports = imports; reads = reads }) few many
+
+  pub reads_lost : (r : Result (Unit {0}) Stop) → IsErrAnd r (λ e. e ≡ stop.Memory) → ReadsAs old new c v r
+  reads_lost (Ok u) h = absurd h
+  reads_lost (Err s) h = subst (λ (e : Stop). ReadsAs old new c v (Err e)) (sym h) tt
+
+-- a read needs nothing
+abbrev pub IsAnswer : Performed → Type 0
+IsAnswer (Answered filed) = Unit {0}
+IsAnswer (Needs on place asked) = ⊥
+
+pub reads_need_none : (part : Answers) (k : Key) (path : List ℕ) (done : Performed) → k ≡ Read path → IsPerformed part k done → IsAnswer done
+reads_need_none part k path done key is = by done (subst (λ (q : Key). IsPerformed part q done) key is)
+  where
+    by : (d : Performed) → IsPerformed part (Read path) d → IsAnswer d
+    by (Answered filed) h = tt
+    by (Needs on place asked) h = h.0

@@ -1,0 +1,10 @@
+use Rattle.std.proofs.Common.{◌≡◌, Some}
+use Rattle.gn_imports.specs.Causes.{led}
+use Rattle.gn_builds.specs.Causes.{link_at, IsUnusable}
+use Rattle.gn_load.proofs.causes.follow.Given as goal
+
+abbrev pub invariant-loop-step : goal.invariant-loop-step
+invariant-loop-step l = record {
+  leads : led (link_at l.book) l._step l.path ≡ Some l.at;
+  unusable : IsUnusable l.book l.at;
+}

@@ -1,0 +1,59 @@
+-- What the execution of a build file or of an import over a part comes to.
+use Rattle.std.specs.Prelude.{◌≡◌, ℕ, List, map}
+use Rattle.gn_values.specs.Imported.{ImportState}
+use Rattle.gn_items.specs.Questions.{question_of}
+use Rattle.gn_items.specs.declared.key.Key.{Key as Named}
+use Rattle.gn_runs.specs.Runs.{Question, Answers, Run}
+use Rattle.gn_eval.specs.Library.{Need}
+use Rattle.gn_eval.specs.Ends.{asked_until}
+use Rattle.gn_executions.specs.Base.{BaseState}
+use Rattle.gn_meaning.specs.Steps.{Left}
+use Rattle.gn_unit.specs.Ends.{IsLoadOf, IsUnitOf, IsNeedOf, HasAskedOf, asked_of}
+use Rattle.gn_unit.specs.declared.unit.Unit.{Unit as Evaluated}
+use Rattle.gn_unit.specs.declared.unit.Unit.TheVariants as unit
+use Rattle.gn_core.specs.Keys.{Layer, Filed, Leaving, key_of}
+use Rattle.gn_core.specs.Machine.{IsRightImport}
+use Rattle.gn_book.specs.Keys.{key_of as named_by}
+use Rattle.gn_builds.specs.Worlds.{left_run, nothing_needed}
+use Rattle.gn_load.specs.Answers.{run_of, meaning_of}
+use Rattle.gn_builds.specs.Working.{over}
+use Rattle.gn_load.specs.Told.{need_view}
+use Rattle.gn_load.specs.declared.answer.Executed.{Executed}
+use Rattle.gn_load.specs.declared.answer.Filed.{Filed as FiledAnswer}
+use Rattle.gn_load.specs.declared.evaluating.Ran.{Ran}
+use Rattle.gn_load.specs.declared.evaluating.Ran.TheVariants.{Ended, Lacks}
+use Rattle.gn_load.specs.declared.work.Performed.{Performed}
+use Rattle.gn_load.specs.declared.work.Performed.TheVariants.{Answered, Needs}
+
+-- the execution that a key names has ended over these answers, or needs another one
+abbrev pub IsRan : BaseState → Named → Answers → Ran → Type 0
+IsRan base key a (Ended unit) = IsUnitOf base key unit a × HasAskedOf base key unit a
+IsRan base key a (Lacks need asked) = IsNeedOf base key (need_view need) (map question_of asked.items) a
+
+-- what a build file leaves, and what one that is imported leaves
+abbrev pub IsBuildFile : Evaluated → Type 0
+IsBuildFile (unit.Load effects) = Unit {0}
+IsBuildFile (unit.Import value effects) = ⊥
+IsBuildFile (unit.Wrong fault asked) = Unit {0}
+IsBuildFile (unit.Spoiled path place asked) = Unit {0}
+
+abbrev pub IsImported : Evaluated → Type 0
+IsImported (unit.Load effects) = ⊥
+IsImported (unit.Import value effects) = Unit {0}
+IsImported (unit.Wrong fault asked) = Unit {0}
+IsImported (unit.Spoiled path place asked) = Unit {0}
+
+-- as a run
+abbrev pub IsLoadExecuted : Evaluated → Executed (Unit {0}) → Type 0
+IsLoadExecuted u executed =
+    (run : Run (Left (Unit {0}))) → IsLoadOf u run.end → run.asked ≡ asked_of u → run_of (λ value. nothing_needed) executed ≡ left_run (λ value. nothing_needed) run
+
+-- what is filed of the execution of an import is right over the part
+abbrev pub IsImportFiled : Filed → Layer → Run (Leaving ImportState) → FiledAnswer → Type 0
+IsImportFiled part l run filed = (path : List ℕ) → IsRightImport (over part) l path run run.end (meaning_of filed)
+
+-- an evaluation of a layer needs what was noted, and has asked this before
+abbrev pub IsLacking : Layer → Need → List Question → Performed → Type 0
+IsLacking l need asked (Answered filed) = ⊥
+IsLacking l need asked (Needs on place all) =
+    (named_by on ≡ key_of l need.question) × (place ≡ need.place) × (map question_of all.items ≡ asked_until need.question asked)

@@ -1,0 +1,10 @@
+pub mod Parsing
+pub mod Answers
+pub mod Performing
+pub mod Told
+pub mod Evaluating
+pub mod Turns
+pub mod Whole
+pub mod Ends
+pub mod Links
+pub mod Plain

@@ -1,0 +1,72 @@
+-- What the work on one claim comes to, outside the book: over some part of the answers that are filed.
+use Rattle.std.specs.Prelude.{◌≡◌, true, ◌⊎◌, ℕ, ◌<◌, List, [], ◌∷◌, map, Option, Result, Ok, Err}
+use Rattle.gn_outside.specs.Tree.{Tree, read_of}
+use Rattle.gn_outside.specs.States.{SourceState, SourceRead}
+use Rattle.gn_outside.specs.Lists.{Extends}
+use Rattle.gn_outside.specs.Sources.{plain_reads}
+use Rattle.gn_items.specs.Questions.{question_of}
+use Rattle.gn_runs.specs.Runs.{has_bytes}
+use Rattle.gn_core.specs.Keys.{Key, Read, Import, Unit_of, Resolve, found, Filed}
+use Rattle.gn_book.specs.Keys.{key_of as named_by}
+use Rattle.gn_builds.specs.Worlds.{content_in}
+use Rattle.gn_builds.specs.Working.{IsRightOver, IsInNeed, AsksContent}
+use Rattle.gn_load.specs.Answers.{meaning_of}
+use Rattle.gn_load.specs.declared.work.Performed.{Performed}
+use Rattle.gn_load.specs.declared.work.Performed.TheVariants.{Answered, Needs}
+use Rattle.gn_load.specs.declared.work.PerformStop.{PerformStop}
+use Rattle.gn_load.specs.declared.work.PerformStop.TheVariants.{Failed, Memory}
+
+-- The work on a claim: the answer is right over this part, or the evaluation needs another answer over it
+abbrev pub IsPerformed : Filed → Key → Performed → Type 0
+IsPerformed part k (Answered filed) = IsRightOver part k (meaning_of filed)
+IsPerformed part k (Needs on place asked) =
+    IsInNeed part k (named_by on) place (map question_of asked.items) × AsksContent (named_by on) (map question_of asked.items)
+
+-- the answer of a read is what the tree has at its path
+abbrev pub IsOfTree : Tree → Key → Performed → Type 0
+IsOfTree tree (Read path) (Answered filed) = meaning_of filed ≡ found (content_in (read_of tree path))
+IsOfTree tree _ _ = Unit {0}
+
+-- The work on the claim of a read is one read of its path, which a want of memory may leave out; other work reads nothing. The count of faults rises exactly
+-- where the read has failed
+abbrev pub ReadsFor : Key → Option (List SourceRead) → Option (List SourceRead) → Result Performed PerformStop → Type 0
+ReadsFor (Read path) before after (Ok done) = Extends before after (plain_reads (path ∷ []))
+ReadsFor (Read path) before after (Err Failed) = Extends before after (record { path = path; failed = true } ∷ [])
+ReadsFor (Read path) before after (Err Memory) = Extends before after (plain_reads (path ∷ [])) ⊎ (after ≡ before)
+ReadsFor _ before after r = after ≡ before
+
+abbrev pub CountsFor : ℕ → ℕ → Result Performed PerformStop → Type 0
+CountsFor before after (Ok done) = after ≡ before
+CountsFor before after (Err Failed) = before < after
+CountsFor before after (Err Memory) = after ≡ before
+
+-- only a read can fail
+abbrev pub FailsAsRead : Key → Result Performed PerformStop → Type 0
+FailsAsRead k (Ok done) = Unit {0}
+FailsAsRead k (Err Failed) = (path : List ℕ) × (k ≡ Read path)
+FailsAsRead k (Err Memory) = Unit {0}
+
+pub record IsWorkOf (k : Key) (before after : SourceState) (r : Result Performed PerformStop) : Type 0 where
+  pub tree : after.tree ≡ before.tree
+  pub reads : ReadsFor k before.reads after.reads r
+  pub faults : CountsFor before.faults after.faults r
+  pub fails : FailsAsRead k r
+
+-- an evaluation lacks nothing but memory
+abbrev pub IsEvaluated : {E : Type 0} → Result Performed E → Result Performed PerformStop → Type 0
+IsEvaluated (Ok done) r = r ≡ Ok done
+IsEvaluated (Err e) r = r ≡ Err Memory
+
+-- no record is made yet
+abbrev pub HasWork : Key → Type 0
+HasWork (Read path) = Unit {0}
+HasWork (Import l path) = Unit {0}
+HasWork (Unit_of unit) = Unit {0}
+HasWork (Resolve label) = ⊥
+
+-- the bytes of a file are filed, or memory was wanting
+abbrev pub IsContent : List ℕ → Result Performed PerformStop → Type 0
+IsContent bytes (Ok (Answered filed)) = meaning_of filed ≡ found (has_bytes bytes)
+IsContent bytes (Ok (Needs on place asked)) = ⊥
+IsContent bytes (Err Failed) = ⊥
+IsContent bytes (Err Memory) = Unit {0}

@@ -1,0 +1,42 @@
+// Keys of executions.
+
+ghost use Rattle.std.specs.Prelude.{◌≡◌, IfOk};
+ghost use Rattle.gn_items.specs.declared.key.Key.TheVariants as variant;
+ghost use Rattle.gn_core.specs.Keys.{Unit_of};
+ghost use Rattle.gn_book.specs.Keys.{key_of};
+ghost use Rattle.gn_builds.specs.Builds.{root};
+
+use gn_items::{Key, When};
+use gn_paths::{Path, Text};
+use std::alloc::{AllocError, Global};
+
+/// The key of the build file of the source root under the default toolchain.
+#[tactic(auto, unfolding(gn_closure::specs::Reach::source_root))]
+pub(crate) fn root_key(alloc: Global) -> Result<Key, AllocError>
+    ensures { IfOk result (λ key. key_of key ≡ Unit_of root) }
+{
+    Ok(Key::Load(Path::root(alloc)?, Text::new(alloc)))
+}
+
+/// The key of the build file of a directory.
+pub(crate) fn load_key(alloc: Global, directory: &Path, toolchain: &Text) -> Result<Key, AllocError>
+    ensures { IfOk result (λ key. key ≡ variant.Load directory.now toolchain.now) }
+{
+    let directory = directory.copy(alloc)?;
+    let toolchain = toolchain.copy(alloc)?;
+    Ok(Key::Load(directory, toolchain))
+}
+
+/// The key of an import of a layer.
+pub(crate) fn import_key(
+    alloc: Global,
+    when: When,
+    toolchain: &Text,
+    path: &Path,
+) -> Result<Key, AllocError>
+    ensures { IfOk result (λ key. key ≡ variant.Import when toolchain.now path.now) }
+{
+    let toolchain = toolchain.copy(alloc)?;
+    let path = path.copy(alloc)?;
+    Ok(Key::Import(when, toolchain, path))
+}

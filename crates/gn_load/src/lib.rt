@@ -1,0 +1,22 @@
+//! The work of loading: what is filed for each key, and what the work on one claim comes to outside the book.
+#![tactic(auto)]
+
+mod answer;
+mod built;
+mod causes;
+mod driver;
+mod evaluating;
+mod file_bytes;
+mod keys;
+mod part;
+mod plain;
+mod reading;
+mod told;
+mod work;
+
+pub use answer::{Executed, FileContent, Filed};
+pub use built::Built;
+pub use file_bytes::{FileBytes, ReadAs};
+pub use part::Part;
+pub use plain::{LoadEnd, Plain, load_plain};
+pub use work::{PerformStop, Performed, perform};

@@ -1,0 +1,51 @@
+// The work on the claim of a read.
+
+ghost use Rattle.std.specs.Prelude.{◌≡◌, ◌≤◌, Some, IfOk, length};
+ghost use Rattle.gn_load.specs.declared.work.Performed.TheVariants.{Answered};
+ghost use Rattle.gn_load.specs.declared.answer.Filed.TheVariants.{Content as content_filed};
+ghost use Rattle.gn_core.specs.Keys.{Read, Filed as Answers};
+ghost use Rattle.gn_outside.specs.Tree.{Tree};
+ghost use Rattle.gn_load.specs.Performing.{IsContent, IsPerformed, IsOfTree, IsWorkOf};
+
+use crate::answer::{FileContent, Filed};
+use crate::file_bytes::FileBytes;
+use crate::work::{PerformStop, Performed};
+use gn_outside::{ReadStop, Source};
+use gn_paths::Path;
+use std::alloc::Global;
+
+fn content(content: FileContent) -> Performed
+    ensures { result ≡ Answered (content_filed content) }
+{
+    Performed::Answered(Filed::Content(content))
+}
+
+// The bytes of a file, parsed.
+fn content_of(alloc: Global, bytes: Vec<u8>) -> Result<Performed, PerformStop>
+    requires { length bytes.items ≤ 16777216 }
+    ensures { IsContent bytes.items result }
+{
+    match FileBytes::new(alloc, bytes) {
+        Ok(file) => Ok(content(FileContent::Bytes(file))),
+        Err(_) => Err(PerformStop::Memory),
+    }
+}
+
+/// The work on the claim of a read: what the source has at the path. It looks at no part of the answers that are filed.
+pub(crate) fn perform_read<S: Source>(
+    alloc: Global,
+    path: &Path,
+    source: &mut S,
+) -> Result<Performed, PerformStop>
+    ensures done { IfOk result (λ done. (part : Answers) → IsPerformed part (Read path.now) done) }
+    ensures tree { IfOk result (λ done. (tree : Tree) → (S.state source.old).tree ≡ Some tree → IsOfTree tree (Read path.now) done) }
+    ensures reads { IsWorkOf (Read path.now) (S.state source.old) (S.state source.new) result }
+{
+    match source.read(alloc, path.as_str()) {
+        Ok(Some(bytes)) => content_of(alloc, bytes),
+        Ok(None) => Ok(content(FileContent::Absent)),
+        Err(ReadStop::TooBig(_)) => Ok(content(FileContent::TooBig)),
+        Err(ReadStop::Failed) => Err(PerformStop::Failed),
+        Err(ReadStop::Memory) => Err(PerformStop::Memory),
+    }
+}
