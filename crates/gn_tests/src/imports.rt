@@ -112,6 +112,49 @@ const TREES: &str = trees! {
     "//BUILD.gn": "import(\"//a.gni\")\nprint(nope)\n",
     "//a.gni": "\nread_file(\"no.txt\", \"string\")\n",
     => 1 "ERROR at //a.gni:2:11: No such file \"//no.txt\".\n";
+    // Contents that are expressions, in an empty scope of their own.
+    "//BUILD.gn": "print(read_file(\"v.txt\", \"value\"), read_file(\"v.txt\", \"trim value\"))\n",
+    "//v.txt": "\n[ 1, \"a\" + 2 ] # a list\n",
+    => 0 "[1, \"a2\"] [1, \"a2\"]\n";
+    "//BUILD.gn": "x = read_file(\"v.txt\", \"value\")\nprint(x.b, x.c)\n",
+    "//v.txt": "{\n  a = 1\n  print(\"in\")\n  import(\"w.gni\")\n  b = a + 1\n}\n",
+    "//w.gni": "c = 3\n",
+    => 0 "in\n2 3\n";
+    "//BUILD.gn": "print(read_file(\"v.txt\", \"value\"))\n",
+    "//v.txt": "1 2\n",
+    => 1 "ERROR at //BUILD.gn:1:7: Wrong arguments to \"read_file\".\n";
+    "//BUILD.gn": "x = 1\nprint(x, read_file(\"v.txt\", \"value\"))\n",
+    "//v.txt": "x",
+    => 1 "ERROR at //BUILD.gn:2:10: Wrong arguments to \"read_file\".\n";
+    "//BUILD.gn": "print(read_file(\"v.txt\", \"value\"))\n",
+    "//v.txt": "read_file(\"v.txt\", \"value\")",
+    => 1 "ERROR at //BUILD.gn:1:7: Wrong arguments to \"read_file\".\n";
+    "//BUILD.gn": "read_file(\"v.txt\", \"value\")\n",
+    "//v.txt": "{ import(\"w.gni\") }",
+    "//w.gni": "x = nope\n",
+    => 1 "ERROR at //w.gni:1:5: Undefined identifier \"nope\".\n";
+    "//BUILD.gn": "read_file(\"v.txt\", \"trim value\")\n",
+    "//v.txt": " \n",
+    => 1 "ERROR at //BUILD.gn:1:1: Wrong arguments to \"read_file\".\n";
+    "//BUILD.gn": "read_file(\"no.txt\", \"value\")\n",
+    "//v.txt": "1",
+    => 1 "ERROR at //BUILD.gn:1:11: No such file \"//no.txt\".\n";
+    // What may be called in such an expression: no template of the reader, items where the reader may define them.
+    "//BUILD.gn": "template(\"t\") {\n}\nread_file(\"v.txt\", \"value\")\n",
+    "//v.txt": "{ t(\"x\") { } }",
+    => 1 "ERROR at //BUILD.gn:3:1: Wrong arguments to \"read_file\".\n";
+    "//BUILD.gn": "read_file(\"v.txt\", \"value\")\n",
+    "//v.txt": "{ group(\"h\") { } }",
+    => 0 "//:h\n";
+    "//BUILD.gn": "group(\"g\") {\n  read_file(\"v.txt\", \"value\")\n}\n",
+    "//v.txt": "{ group(\"h\") { } }",
+    => 1 "ERROR at //BUILD.gn:2:3: Wrong arguments to \"read_file\".\n";
+    // An import in it may bring the template whose body reads it.
+    "//BUILD.gn": "import(\"//d.gni\")\nt(\"out\") {\n  file = \"//v.txt\"\n}\n",
+    "//d.gni": "template(\"t\") {\n  x = read_file(invoker.file, \"value\")\n  print(target_name, x)\n}\n",
+    "//v.txt": "{ import(\"//d.gni\") t(\"in\") { file = \"//w.txt\" } }",
+    "//w.txt": "1",
+    => 0 "in 1\nout {\n}\n";
     // How deep an import may stand.
     "//BUILD.gn": "if (true) {\nif (true) {\nif (true) {\nif (true) {\nimport(\"//d.gni\")\n}\n}\n}\n}\n",
     "//d.gni": "",

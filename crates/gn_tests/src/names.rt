@@ -21,10 +21,7 @@ static FUNCTIONS: [(&[u8], Named); 22] = [
         Named::Function(Function::Changing(Changing::NotNeeded)),
     ),
     (b"print", Named::Function(Function::Plain(Plain::Print))),
-    (
-        b"read_file",
-        Named::Function(Function::Changing(Changing::ReadFile)),
-    ),
+    (b"read_file", Named::Function(Function::ReadFile)),
     (
         b"set_defaults",
         Named::Function(Function::Opening(Opening::SetDefaults)),

@@ -53,10 +53,11 @@ fn push_scope(alloc: Global, file: &mut String, number: u32) -> Result<(), Alloc
     file.push_str(line.as_str())
 }
 
-// So many templates, each of which but the first calls the one before it in its body.
-fn called_templates(alloc: Global, count: u32) -> Result<String, AllocError> {
-    let first = "template(\"t0\") {\n  print(target_name)\n}\n";
-    let mut file = String::from_str(alloc, first)?;
+// So many templates, each of which calls the one before it in its body, but the first, whose body is given.
+fn called_templates(alloc: Global, body: &str, count: u32) -> Result<String, AllocError> {
+    let mut file = String::from_str(alloc, "template(\"t0\") {\n  ")?;
+    file.push_str(body)?;
+    file.push_str("\n}\n")?;
     for number in 1..count {
         push_template(alloc, &mut file, number)?;
     }
@@ -71,15 +72,16 @@ fn push_template(alloc: Global, file: &mut String, number: u32) -> Result<(), Al
     file.push_str(text.as_str())
 }
 
-// Whether a file with so many templates that call one another ends so.
+// Whether a file with so many templates that call one another, the first of which has this body, ends so.
 fn templates_say<R: Threads + Sync>(
     rt: &R,
     alloc: Global,
+    body: &str,
     count: u32,
     behind: &str,
     end: &str,
 ) -> Result<bool, AllocError> {
-    let mut file = called_templates(alloc, count)?;
+    let mut file = called_templates(alloc, body, count)?;
     file.push_str(behind)?;
     file_says(rt, alloc, file.as_bytes(), end)
 }
@@ -137,9 +139,25 @@ fn brackets_nest_up_to_the_limit(rt: HostRuntime) -> Result<(), Fail> {
 #[test]
 fn calls_nest_up_to_the_limit(rt: HostRuntime) -> Result<(), Fail> {
     let (greatest, above) = ("t199(\"n\") {\n}\n", "t200(\"n\") {\n}\n");
+    let body = "print(target_name)";
     let deep = "1ERROR at //BUILD.gn:5:3: Evaluation is nested too deeply.\n";
-    assert!(rt; templates_say(&rt, rt.alloc(), 200, greatest, "0x\n")?);
-    assert!(rt; templates_say(&rt, rt.alloc(), 201, above, deep)?);
+    assert!(rt; templates_say(&rt, rt.alloc(), body, 200, greatest, "0x\n")?);
+    assert!(rt; templates_say(&rt, rt.alloc(), body, 201, above, deep)?);
+    Ok(())
+}
+
+// An expression that is read makes the evaluation deeper as a call of a template does, which is judged after the conversion and
+// before the path.
+#[test]
+fn readings_nest_up_to_the_limit(rt: HostRuntime) -> Result<(), Fail> {
+    let (greatest, above) = ("t198(\"n\") {\n}\n", "t199(\"n\") {\n}\n");
+    let (value, other) = ("read_file(\"\", \"value\")", "read_file(\"\", \"json\")");
+    let path = "1ERROR at //BUILD.gn:2:13: Invalid path.\n";
+    let deep = "1ERROR at //BUILD.gn:2:3: Evaluation is nested too deeply.\n";
+    let unknown = "1ERROR at //BUILD.gn:2:3: \"json\" is not in this profile.\n";
+    assert!(rt; templates_say(&rt, rt.alloc(), value, 199, greatest, path)?);
+    assert!(rt; templates_say(&rt, rt.alloc(), value, 200, above, deep)?);
+    assert!(rt; templates_say(&rt, rt.alloc(), other, 200, above, unknown)?);
     Ok(())
 }
 

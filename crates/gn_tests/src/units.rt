@@ -42,7 +42,6 @@ impl Library for OneFile<'_> {
       told = None;
       need = record { question = content_of []; place = record { file = []; line = 1; column = 1 } };
       stops = s.stops;
-      seat = [];
     } };
 
     fn import(&mut self, _: Global, _: &Path, _: &Place) -> Result<Imported, LibStop> {
@@ -151,7 +150,7 @@ fn is_so(done: &Done, expected: Expected<'_>) -> bool {
         (Ok((_, Unit::Wrong(fault, asked))), Expected::Wrong(code, file, line)) => {
             is_fault(fault, code, file, line) && is_own(asked.as_slice(), file)
         }
-        (Err((_, EvalStop::Stopped)), Expected::Stopped) => true,
+        (Err((_, EvalStop::Stopped(asked))), Expected::Stopped) => asked.is_empty(),
         (Err((_, EvalStop::Memory)), Expected::Memory) => true,
         _ => false,
     }
