@@ -23,11 +23,15 @@ abbrev pub out_named : List ℕ → Option Named → List ℕ
 out_named build (Some part) = or_directory build (path_meant build part.name)
 out_named build None = build
 
--- `root_out_dir` of a toolchain: the build directory for the default one, and in it the directory of the toolchain's
--- name for another
-unfoldable pub root_out_of : Where → List ℕ → List ℕ
-root_out_of w toolchain =
-    if bytes_eq toolchain w.default_toolchain then w.build else out_named w.build (toolchain_named toolchain)
+-- `root_out_dir` of a toolchain, in this build directory and under this default toolchain: the build directory for the default
+-- one, and in it the directory of the toolchain's name for another
+unfoldable pub out_directory : (build default_toolchain toolchain : List ℕ) → List ℕ
+out_directory build default_toolchain toolchain =
+    if bytes_eq toolchain default_toolchain then build else out_named build (toolchain_named toolchain)
+
+-- that of a toolchain where a call stands
+abbrev pub root_out_of : Where → List ℕ → List ℕ
+root_out_of w toolchain = out_directory w.build w.default_toolchain toolchain
 
 -- that of the current toolchain
 abbrev pub root_out : Where → List ℕ

@@ -49,7 +49,7 @@ fn copy_into(alloc: Global, items: &mut Items, texts: &[Text]) -> Result<(), All
 }
 
 /// Texts as a list of strings, where each and all of them are within the limits.
-pub(crate) fn strings(alloc: Global, texts: &[Text]) -> Result<Value, CallError>
+pub fn strings(alloc: Global, texts: &[Text]) -> Result<Value, CallError>
     ensures { Settles val_of result (texts_answer texts.now) }
 {
     if texts.len() > MAX_ITEMS || !all_fit(texts) {

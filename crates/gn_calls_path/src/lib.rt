@@ -13,9 +13,11 @@ mod reading;
 mod rebasing;
 mod templates;
 
+pub use answers::strings;
 pub use call::{PathCall, call_path};
 pub use laws::{
     a_label_is_its_parts, a_label_matches_itself, a_list_of_paths_is_told_one_by_one,
     a_source_is_its_path, what_is_rebased_leads_back,
 };
-pub use place::Where;
+pub use place::{Where, out_directory};
+pub use reading::read_label;

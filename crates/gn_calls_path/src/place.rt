@@ -3,7 +3,7 @@
 ghost use Rattle.std.specs.Prelude.{◌≡◌, IfOk};
 ghost use Rattle.gn_labels.specs.Toolchains.{toolchain_named};
 ghost use Rattle.gn_paths.specs.Resolve.{path_meant};
-ghost use Rattle.gn_calls_path.specs.Directories.{or_directory, out_named, root_out_of};
+ghost use Rattle.gn_calls_path.specs.Directories.{or_directory, out_named, out_directory, root_out_of};
 
 use gn_labels::Named;
 use gn_paths::{Path, Text, path_meant};
@@ -25,17 +25,29 @@ pub struct Where {
 }
 
 impl Where {
-    /// `root_out_dir` of a toolchain: the build directory for the default one, and in it the directory of the toolchain's
-    /// name for another.
-    #[tactic(auto, unfolding(crate::specs::Directories::root_out_of))]
+    /// `root_out_dir` of a toolchain where the call stands.
     pub(crate) fn root_out_of(&self, alloc: Global, toolchain: &Text) -> Result<Path, AllocError>
         ensures { IfOk result (λ d. d ≡ root_out_of self.now toolchain.now) }
     {
-        if *toolchain == self.default_toolchain {
-            return self.build.copy(alloc);
-        }
-        out_named(alloc, &self.build, toolchain.as_bytes())
+        out_directory(alloc, &self.build, &self.default_toolchain, toolchain)
     }
+}
+
+/// `root_out_dir` of a toolchain, in this build directory and under this default toolchain: the build directory for the default
+/// one, and in it the directory of the toolchain's name for another.
+#[tactic(auto, unfolding(crate::specs::Directories::out_directory))]
+pub fn out_directory(
+    alloc: Global,
+    build: &Path,
+    default_toolchain: &Text,
+    toolchain: &Text,
+) -> Result<Path, AllocError>
+    ensures { IfOk result (λ d. d ≡ out_directory build.now default_toolchain.now toolchain.now) }
+{
+    if *toolchain == *default_toolchain {
+        return build.copy(alloc);
+    }
+    out_named(alloc, build, toolchain.as_bytes())
 }
 
 /// The directory of a toolchain's name in the build directory.

@@ -88,8 +88,7 @@ fn label_refused(error: LabelError) -> CallError
 }
 
 /// The label that the text of the first argument means.
-
-pub(crate) fn read_label(alloc: Global, at: &Where, text: &[u8]) -> Result<Label, CallError>
+pub fn read_label(alloc: Global, at: &Where, text: &[u8]) -> Result<Label, CallError>
     ensures { IsFound (λ l. l) 0 result (label_at at.now text.now) }
 {
     match Label::read(alloc, text, &at.directory, &at.toolchain) {

@@ -68,6 +68,124 @@ const ITEMS: &str = items! {
     tool("cc") { command = "{{x}}"; } => UnknownSubstitution;
 };
 
+// A value of a wrong type and a bad content of each row.
+const BAD_VALUES: &str = items! {
+    group("g") { testonly = "x"; } => WrongType("testonly");
+    group("g") { check_includes = "x"; } => WrongType("check_includes");
+    group("g") { output_prefix_override = "x"; } => WrongType("output_prefix_override");
+    group("g") { visibility = 1; } => WrongType("visibility");
+    group("g") { visibility = ["*", "a␊"]; } => WrongType("visibility");
+    group("g") { visibility = ""; } => BadPattern;
+    group("g") { public_deps = ":a"; } => WrongType("public_deps");
+    group("g") { public_deps = [":a␀"]; } => WrongType("public_deps");
+    group("g") { public_deps = [":a", "a/b:"]; } => BadLabel;
+    group("g") { deps = ":a"; } => WrongType("deps");
+    group("g") { deps = [":a␀"]; } => WrongType("deps");
+    group("g") { deps = [":a", "a/b:"]; } => BadLabel;
+    group("g") { data_deps = ":a"; } => WrongType("data_deps");
+    group("g") { data_deps = [":a␀"]; } => WrongType("data_deps");
+    group("g") { data_deps = [":a", "a/b:"]; } => BadLabel;
+    group("g") { configs = ":a"; } => WrongType("configs");
+    group("g") { configs = [":a␀"]; } => WrongType("configs");
+    group("g") { configs = [":a", "a/b:"]; } => BadLabel;
+    group("g") { public_configs = ":a"; } => WrongType("public_configs");
+    group("g") { public_configs = [":a␀"]; } => WrongType("public_configs");
+    group("g") { public_configs = [":a", "a/b:"]; } => BadLabel;
+    group("g") { all_dependent_configs = ":a"; } => WrongType("all_dependent_configs");
+    group("g") { all_dependent_configs = [":a␀"]; } => WrongType("all_dependent_configs");
+    group("g") { all_dependent_configs = [":a", "a/b:"]; } => BadLabel;
+    group("g") { allow_circular_includes_from = ":a"; } => WrongType("allow_circular_includes_from");
+    group("g") { allow_circular_includes_from = [":a␀"]; } => WrongType("allow_circular_includes_from");
+    group("g") { allow_circular_includes_from = [":a", "a/b:"]; } => BadLabel;
+    group("g") { assert_no_deps = "*"; } => WrongType("assert_no_deps");
+    group("g") { assert_no_deps = ["*", 1]; } => WrongType("assert_no_deps");
+    group("g") { assert_no_deps = ["*a"]; } => BadPattern;
+    group("g") { sources = "a"; } => WrongType("sources");
+    group("g") { sources = ["a␊"]; } => WrongType("sources");
+    group("g") { sources = ["a", "../b"]; } => AboveRoot;
+    group("g") { public = "a"; } => WrongType("public");
+    group("g") { public = ["a␊"]; } => WrongType("public");
+    group("g") { public = ["a", "../b"]; } => AboveRoot;
+    group("g") { inputs = "a"; } => WrongType("inputs");
+    group("g") { inputs = ["a␊"]; } => WrongType("inputs");
+    group("g") { inputs = ["a", "../b"]; } => AboveRoot;
+    group("g") { data = "a"; } => WrongType("data");
+    group("g") { data = ["a␊"]; } => WrongType("data");
+    group("g") { data = ["a", "../b"]; } => AboveRoot;
+    group("g") { include_dirs = "a"; } => WrongType("include_dirs");
+    group("g") { include_dirs = ["a␊"]; } => WrongType("include_dirs");
+    group("g") { include_dirs = ["a", "../b"]; } => AboveRoot;
+    group("g") { lib_dirs = "a"; } => WrongType("lib_dirs");
+    group("g") { lib_dirs = ["a␊"]; } => WrongType("lib_dirs");
+    group("g") { lib_dirs = ["a", "../b"]; } => AboveRoot;
+    group("g") { defines = "a"; } => WrongType("defines");
+    group("g") { defines = ["a␊"]; } => WrongType("defines");
+    group("g") { asmflags = "a"; } => WrongType("asmflags");
+    group("g") { asmflags = ["a␊"]; } => WrongType("asmflags");
+    group("g") { cflags = "a"; } => WrongType("cflags");
+    group("g") { cflags = ["a␊"]; } => WrongType("cflags");
+    group("g") { cflags_c = "a"; } => WrongType("cflags_c");
+    group("g") { cflags_c = ["a␊"]; } => WrongType("cflags_c");
+    group("g") { cflags_cc = "a"; } => WrongType("cflags_cc");
+    group("g") { cflags_cc = ["a␊"]; } => WrongType("cflags_cc");
+    group("g") { ldflags = "a"; } => WrongType("ldflags");
+    group("g") { ldflags = ["a␊"]; } => WrongType("ldflags");
+    group("g") { libs = "a"; } => WrongType("libs");
+    group("g") { libs = ["a␊"]; } => WrongType("libs");
+    group("g") { args = "a"; } => WrongType("args");
+    group("g") { args = ["a␊"]; } => WrongType("args");
+    group("g") { response_file_contents = "a"; } => WrongType("response_file_contents");
+    group("g") { response_file_contents = ["a␊"]; } => WrongType("response_file_contents");
+    group("g") { output_name = ["a"]; } => WrongType("output_name");
+    group("g") { output_name = "a␊"; } => WrongType("output_name");
+    group("g") { output_extension = ["a"]; } => WrongType("output_extension");
+    group("g") { output_extension = "a␊"; } => WrongType("output_extension");
+    group("g") { output_dir = ["a"]; } => WrongType("output_dir");
+    group("g") { output_dir = "a␊"; } => WrongType("output_dir");
+    group("g") { output_dir = "../a"; } => AboveRoot;
+    group("g") { script = ["a"]; } => WrongType("script");
+    group("g") { script = "a␊"; } => WrongType("script");
+    group("g") { script = "../a"; } => AboveRoot;
+    group("g") { outputs = "//out/a"; } => WrongType("outputs");
+    group("g") { outputs = ["//out/a␊"]; } => WrongType("outputs");
+    group("g") { outputs = ["{{source}}"]; } => UnknownSubstitution;
+    group("g") { depfile = ["a"]; } => WrongType("depfile");
+    group("g") { depfile = "a␊"; } => WrongType("depfile");
+    group("g") { pool = [":a"]; } => WrongType("pool");
+    group("g") { pool = ":a␊"; } => WrongType("pool");
+    group("g") { pool = ""; } => BadLabel;
+    config("g") { defines = "a"; } => WrongType("defines");
+    config("g") { asmflags = "a"; } => WrongType("asmflags");
+    config("g") { cflags = "a"; } => WrongType("cflags");
+    config("g") { cflags_c = "a"; } => WrongType("cflags_c");
+    config("g") { cflags_cc = "a"; } => WrongType("cflags_cc");
+    config("g") { ldflags = "a"; } => WrongType("ldflags");
+    config("g") { libs = "a"; } => WrongType("libs");
+    config("g") { include_dirs = "a"; } => WrongType("include_dirs");
+    config("g") { lib_dirs = "a"; } => WrongType("lib_dirs");
+    config("g") { visibility = 1; } => WrongType("visibility");
+    pool("g") { depth = "1"; } => WrongType("depth");
+    tool("cc") { command = ["a"]; } => WrongType("command");
+    tool("cc") { depfile = ["a"]; } => WrongType("depfile");
+    tool("cc") { depsformat = ["a"]; } => WrongType("depsformat");
+    tool("cc") { description = ["a"]; } => WrongType("description");
+    tool("cc") { rspfile = ["a"]; } => WrongType("rspfile");
+    tool("cc") { rspfile_content = ["a"]; } => WrongType("rspfile_content");
+    tool("cc") { lib_switch = ["a"]; } => WrongType("lib_switch");
+    tool("cc") { lib_dir_switch = ["a"]; } => WrongType("lib_dir_switch");
+    tool("cc") { default_output_extension = ["a"]; } => WrongType("default_output_extension");
+    tool("cc") { default_output_dir = ["a"]; } => WrongType("default_output_dir");
+    tool("cc") { output_prefix = ["a"]; } => WrongType("output_prefix");
+    tool("cc") { link_output = ["a"]; } => WrongType("link_output");
+    tool("cc") { depend_output = ["a"]; } => WrongType("depend_output");
+    tool("cc") { pool = ["a"]; } => WrongType("pool");
+    tool("cc") { outputs = "a"; } => WrongType("outputs");
+    tool("cc") { restat = "a"; } => WrongType("restat");
+    tool("cc") { default_output_dir = "{{source}}"; } => UnknownSubstitution;
+    tool("cc") { link_output = "{{source}}"; } => UnknownSubstitution;
+    tool("cc") { depend_output = "{{source}}"; } => UnknownSubstitution;
+};
+
 static KINDS: [ItemKind; 13] = [
     ItemKind::Group,
     ItemKind::Executable,
@@ -183,7 +301,7 @@ fn has(alloc: Global, held: &Field, text: &str) -> Result<bool, AllocError> {
 
 // What the variable of this name holds.
 fn field_named<'a>(fields: &'a Fields, name: &str) -> Option<&'a Field> {
-    for entry in &fields.entries {
+    for entry in fields.entries() {
         if entry.variable.name() == name.as_bytes() {
             return fields.get(entry.variable);
         }
@@ -237,6 +355,14 @@ fn is_defined(alloc: Global, row: &str) -> Result<bool, PathError> {
         Some(kind) => defines(alloc, row, kind),
         None => Ok(false),
     }
+}
+
+#[test]
+fn bad_values_are_refused(rt: HostRuntime) -> Result<(), Fail> {
+    for row in BAD_VALUES.split_terminator('\x1e') {
+        assert!(rt; is_defined(rt.alloc(), row)?, "at {row}");
+    }
+    Ok(())
 }
 
 #[test]

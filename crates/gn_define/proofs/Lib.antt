@@ -1,4 +1,3 @@
 pub mod Lists
 pub mod FoldLemmas
 pub mod FileLemmas
-pub mod GroupLemmas

@@ -1,7 +1,5 @@
 -- Laws of the fold over rows.
-use Rattle.std.specs.Prelude.{ℕ, ◌≡◌, ◌≤◌, List, [], ◌∷◌, ◌++◌, map, Bool, true, Option, Some, None, Result, Ok, Err, is_some, if◌then◌else◌}
-use Rattle.std.specs.List.{list_all}
-use Rattle.gn_faults.specs.declared.code.Code.TheVariants.{WrongType}
+use Rattle.std.specs.Prelude.{ℕ, ◌≡◌, ◌≤◌, List, [], ◌∷◌, ◌++◌, map, Bool, true, Option, Some, None, Ok, is_some, if◌then◌else◌}
 use Rattle.gn_paths.specs.Directory.{is_below}
 use Rattle.gn_paths.specs.Resolve.{path_meant}
 use Rattle.gn_rows.specs.declared.row.Demand.{Demand}
@@ -9,20 +7,17 @@ use Rattle.gn_rows.specs.declared.row.Row.{Row}
 use Rattle.gn_rows.specs.declared.row.Rule.{Rule}
 use Rattle.gn_rows.specs.declared.row.Rule.TheVariants.{Required, Excluded, AtMostOne}
 use Rattle.gn_rows.specs.declared.variable.Variable.{Variable}
-use Rattle.gn_rows.specs.declared.variable.Variable.TheVariants.{Deps, Sources}
+use Rattle.gn_rows.specs.declared.variable.Variable.TheVariants.{Sources}
 use Rattle.gn_rows.specs.Names.{variable_name}
 use Rattle.gn_substs.specs.declared.subst.Subst.{Subst}
-use Rattle.gn_values.specs.Val.{Val, vlist, list_of}
-use Rattle.gn_define.specs.declared.fault.ItemFault.{ItemFault}
-use Rattle.gn_define.specs.declared.fault.ItemFault.TheVariants as faults
+use Rattle.gn_values.specs.Val.{Val}
 use Rattle.gn_define.specs.declared.forms.FileRole.{FileRole}
 use Rattle.gn_define.specs.declared.place.Where.{Where}
 use Rattle.gn_define.specs.Checking.{checked}
 use Rattle.gn_define.specs.Demands.{size_of}
 use Rattle.gn_define.specs.Fields.{field_at, paths_of}
 use Rattle.gn_define.specs.Files.{file_position, has_names, text_of_source, text_alone}
-use Rattle.gn_define.specs.Held.{Held, texts}
-use Rattle.gn_define.specs.Reading.{bytes_of, is_plain}
+use Rattle.gn_define.specs.Held.{Held}
 
 -- whether a block sets the variable of a row
 abbrev pub is_set : (List ℕ → Option Val) → Row → Bool
@@ -57,10 +52,3 @@ Meets AtMostOne field = size_of field ≤ 1
 abbrev pub AreMet : List (Variable × Held) → List Demand → Type 0
 AreMet fields [] = Unit {0}
 AreMet fields (d ∷ ds) = Meets d.rule (field_at fields d.variable) × AreMet fields ds
-
--- what is built of groups so far, by the value of `deps`: it may be a list of strings
-abbrev pub built_group : Option Val → Result (List (Variable × Held)) ItemFault
-built_group None = Ok []
-built_group (Some (vlist vs)) =
-    if list_all is_plain (list_of vs) then Ok ((Deps, texts (map bytes_of (list_of vs))) ∷ []) else Err (faults.Variable Deps WrongType)
-built_group (Some _) = Err (faults.Variable Deps WrongType)

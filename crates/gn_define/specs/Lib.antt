@@ -2,8 +2,10 @@ pub mod Faults
 pub mod Reading
 pub mod Files
 pub mod Held
+pub mod HeldCode
 pub mod Checking
 pub mod Fields
 pub mod Demands
 pub mod Defining
+pub mod Outputs
 pub mod Laws

@@ -2,7 +2,6 @@
 
 ghost use Rattle.std.specs.Prelude.{◌≡◌, Ok, Err, IfOk, IfErr, MatchResult};
 ghost use Rattle.gn_define.specs.Faults.{IsItemFault};
-ghost use Rattle.gn_define.specs.Fields.{entries_of};
 ghost use Rattle.gn_define.specs.Defining.{tool_fault, label_fault, name_fault, complete, block_defines};
 
 use crate::block::Block;
@@ -48,8 +47,8 @@ pub fn name_fault(kind: ItemKind, name: &[u8]) -> Option<ItemFault>
 // The fields, where all demands are met.
 fn complete(kind: ItemKind, name: &[u8], fields: Fields) -> Result<Fields, ItemFault>
     ensures { MatchResult result
-        (λ r. complete kind name.now (entries_of fields.entries.items) ≡ Ok (entries_of r.entries.items))
-        (λ e. complete kind name.now (entries_of fields.entries.items) ≡ Err e) }
+        (λ r. complete kind name.now fields ≡ Ok r)
+        (λ e. complete kind name.now fields ≡ Err e) }
 {
     match first_broken(&fields, demands_of(kind, name)) {
         None => Ok(fields),
@@ -67,7 +66,7 @@ pub fn define<B: Block>(
     name: &[u8],
     block: &B,
 ) -> Result<Fields, DefineError>
-    ensures ok { IfOk result (λ r. block_defines place.now rows.now name.now (B.values block.now) ≡ Ok (entries_of r.entries.items)) }
+    ensures ok { IfOk result (λ r. block_defines place.now rows.now name.now (B.values block.now) ≡ Ok r) }
     ensures wrong { IfErr result (λ e. IsItemFault e (block_defines place.now rows.now name.now (B.values block.now))) }
 {
     if let Some(fault) = name_fault(place.kind, name) {

@@ -1,7 +1,6 @@
 // What a kind demands of the fields of an item.
 
 ghost use Rattle.std.specs.Prelude.{◌≡◌, option_map};
-ghost use Rattle.gn_define.specs.Fields.{entries_of};
 ghost use Rattle.gn_define.specs.Held.{held_of};
 ghost use Rattle.gn_define.specs.Demands.{size_of, broken, first_broken};
 
@@ -40,7 +39,7 @@ fn broken(rule: Rule, field: Option<&Field>) -> Option<Code>
 
 /// The fault of the first demand that isn't met.
 pub(crate) fn first_broken(fields: &Fields, demands: &[Demand]) -> Option<ItemFault>
-    ensures { result ≡ first_broken (entries_of fields.now.entries.items) demands.now }
+    ensures { result ≡ first_broken fields.now demands.now }
 {
     for demand in demands {
         let variable = demand.variable;

@@ -14,7 +14,8 @@ use gn_rows::ItemKind;
 use gn_substs::{Around, Given, Position, Subst};
 use std::alloc::{AllocError, Global};
 
-fn file_position(kind: ItemKind, role: FileRole) -> Position
+/// The position of a text that names a file of an item of this kind.
+pub(crate) fn file_position(kind: ItemKind, role: FileRole) -> Position
     ensures { result ≡ file_position kind role }
 {
     match (kind, role) {
@@ -25,7 +26,8 @@ fn file_position(kind: ItemKind, role: FileRole) -> Position
     }
 }
 
-fn has_names(position: Position) -> bool
+/// Whether a position has substitutions.
+pub(crate) fn has_names(position: Position) -> bool
     ensures { result ≡ has_names position }
 {
     !matches!(position, Position::NoNames)
@@ -57,8 +59,8 @@ fn place_fault(place: &Where, role: FileRole, path: &Path) -> Option<Code>
     }
 }
 
-// A text with the substitutions of a source.
-fn text_of_source(
+/// A text with the substitutions of a source.
+pub(crate) fn text_of_source(
     alloc: Global,
     place: &Where,
     position: Position,
@@ -76,8 +78,8 @@ fn text_of_source(
     subst.expand(alloc, &given)
 }
 
-// A text of a position without substitutions.
-fn text_alone(alloc: Global, subst: &Subst) -> Result<Text, AllocError>
+/// A text of a position without substitutions.
+pub(crate) fn text_alone(alloc: Global, subst: &Subst) -> Result<Text, AllocError>
     ensures { IfOk result (λ t. t ≡ text_alone subst.now) }
 {
     let given = Given::new(Position::NoNames, Texts::new(alloc));

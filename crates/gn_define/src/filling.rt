@@ -74,12 +74,15 @@ pub(crate) fn fill<B: Block>(
     rows: &[Row],
     block: &B,
 ) -> Result<Fields, DefineError>
-    ensures ok { IfOk result (λ r. filled place.now (B.values block.now) [] rows.now ≡ Ok (entries_of r.entries.items)) }
+    ensures ok { IfOk result (λ r. filled place.now (B.values block.now) [] rows.now ≡ Ok r) }
     ensures wrong { IfErr result (λ e. IsItemFault e (filled place.now (B.values block.now) [] rows.now)) }
 {
     let mut entries = Vec::new(alloc);
     for row in rows {
         fill_row(alloc, place, *row, block, &mut entries)?;
     }
-    Ok(Fields { entries })
+    match Fields::from_vec(alloc, entries) {
+        Ok(fields) => Ok(fields),
+        Err(_) => Err(DefineError::Memory),
+    }
 }

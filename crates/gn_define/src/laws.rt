@@ -1,11 +1,10 @@
 //! Laws of what blocks define, each as a call that does nothing and whose contract is the law.
 
-ghost use Rattle.std.specs.Prelude.{◌≡◌, ℕ, List, [], ◌++◌, Option, Ok, codes};
+ghost use Rattle.std.specs.Prelude.{◌≡◌, ℕ, List, [], ◌++◌, Option, Ok};
 ghost use Rattle.std.specs.List.{filter};
 ghost use Rattle.gn_rows.specs.declared.row.Row.{Row};
-ghost use Rattle.gn_rows.specs.declared.kinds.ItemKind.TheVariants.{Group};
 ghost use Rattle.gn_rows.specs.declared.variable.Variable.{Variable};
-ghost use Rattle.gn_rows.specs.Tables.{built_rows_of, demands_of};
+ghost use Rattle.gn_rows.specs.Tables.{demands_of};
 ghost use Rattle.gn_substs.specs.declared.subst.Subst.{Subst};
 ghost use Rattle.gn_values.specs.Val.{Val};
 ghost use Rattle.gn_define.specs.declared.forms.FileRole.TheVariants.{Output};
@@ -14,7 +13,7 @@ ghost use Rattle.gn_define.specs.Defining.{block_defines};
 ghost use Rattle.gn_define.specs.Fields.{filled};
 ghost use Rattle.gn_define.specs.Files.{file_in};
 ghost use Rattle.gn_define.specs.Held.{Held};
-ghost use Rattle.gn_define.specs.Laws.{is_set, AreFieldsOf, file_texts, StandBelow, AreMet, built_group};
+ghost use Rattle.gn_define.specs.Laws.{is_set, AreFieldsOf, file_texts, StandBelow, AreMet};
 ghost use Rattle.gn_define.specs.Reading.{then_do};
 
 /// The first rows are judged before the others: their fault stands, and else the others go on from their fields.
@@ -40,10 +39,4 @@ pub fn demands_are_met()
 #[tactic(auto, using(crate::proofs::FileLemmas::outputs_below))]
 pub fn outputs_stand_below_the_build_directory()
     ensures { (w : Where) (sources : List (List ℕ)) (text : List ℕ) (subst : Subst) → file_in w Output sources text ≡ Ok subst → StandBelow w (file_texts w Output sources subst) }
-{}
-
-/// What is built of groups so far is `deps` alone: without a value, or a list of strings.
-#[tactic(auto, using(crate::proofs::GroupLemmas::built_group_is))]
-pub fn built_groups_are_their_deps()
-    ensures { (w : Where) (values : List ℕ → Option Val) → filled w values [] (built_rows_of Group) ≡ built_group (values (codes "deps")) }
 {}

@@ -12,6 +12,7 @@ mod files;
 mod filling;
 mod forms;
 mod laws;
+mod outputs;
 mod place;
 mod reading;
 mod strings;
@@ -22,7 +23,8 @@ pub use fault::{DefineError, ItemFault};
 pub use field::Field;
 pub use fields::{Entry, Fields};
 pub use laws::{
-    built_groups_are_their_deps, demands_are_met, fields_are_of_the_block, first_rows_come_first,
+    demands_are_met, fields_are_of_the_block, first_rows_come_first,
     outputs_stand_below_the_build_directory,
 };
+pub use outputs::{has_outputs, outputs_of};
 pub use place::Where;

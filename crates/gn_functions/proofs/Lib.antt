@@ -1,1 +1,2 @@
+pub mod KindsOfCalls
 pub mod RowsOfCalls

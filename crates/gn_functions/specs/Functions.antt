@@ -2,40 +2,33 @@
 use Rattle.std.specs.Prelude.{ℕ, List, [], ◌∷◌, if◌then◌else◌, Option, Some, None, codes}
 use Rattle.std.specs.List.{list_any}
 use Rattle.std.specs.Str.{bytes_eq}
-use Rattle.gn_rows.specs.declared.kinds.ItemKind.TheVariants.{Group}
+use Rattle.gn_rows.specs.declared.kinds.ItemKind.{ItemKind}
+use Rattle.gn_rows.specs.Names.{is_target, kind_named}
 use Rattle.gn_calls_text.specs.declared.call.TextCall.TheVariants.{FilterInclude, FilterExclude, SplitList, StringJoin, StringReplace, StringSplit}
 use Rattle.gn_calls_path.specs.declared.call.PathCall.TheVariants.{GetLabelInfo, GetPathInfo, LabelMatches, ProcessFileTemplate, RebasePath}
-use Rattle.gn_functions.specs.declared.function.TargetKind.{TargetKind}
-use Rattle.gn_functions.specs.declared.function.TargetKind.TheVariants.{Built, NotBuilt, NoKind}
 use Rattle.gn_functions.specs.declared.function.Named.{Named}
 use Rattle.gn_functions.specs.declared.function.Named.TheVariants.{Function as OfFunction, Excluded, Unknown}
 use Rattle.gn_functions.specs.declared.function.Function.TheVariants.{Plain as OfPlain, Changing, Opening, Defined, Foreach, ReadFile}
 use Rattle.gn_functions.specs.declared.function.Plain.{Plain}
-use Rattle.gn_functions.specs.declared.function.Plain.TheVariants.{Assert, Print, WriteFile, Text, Path}
+use Rattle.gn_functions.specs.declared.function.Plain.TheVariants.{Assert, Print, WriteFile, Text, Path, TargetOutputs}
 use Rattle.gn_functions.specs.declared.function.Changing.TheVariants.{Import, Template, ForwardVariablesFrom, NotNeeded}
 use Rattle.gn_functions.specs.declared.function.Opening.TheVariants.{Item, Target, SetDefaults}
 
--- the functions of GN that are left out: those that the profile leaves out for good, and those that aren't built yet
+-- the functions of GN that define no items and are left out: those that the profile leaves out for good, and those that aren't built yet
 unfoldable pub excluded_names : List (List ℕ)
 excluded_names =
-    codes "action" ∷ codes "action_foreach" ∷ codes "bundle_data" ∷ codes "config" ∷ codes "copy" ∷ codes "create_bundle" ∷ codes "declare_args"
-    ∷ codes "exec_script" ∷ codes "executable" ∷ codes "filter_labels_exclude" ∷ codes "filter_labels_include"
-    ∷ codes "generated_file" ∷ codes "get_target_outputs" ∷ codes "getenv" ∷ codes "loadable_module" ∷ codes "path_exists" ∷ codes "pool"
-    ∷ codes "rust_library" ∷ codes "rust_proc_macro" ∷ codes "set_default_toolchain" ∷ codes "shared_library"
-    ∷ codes "source_set" ∷ codes "static_library" ∷ codes "string_hash" ∷ codes "tool" ∷ codes "toolchain" ∷ []
+    codes "bundle_data" ∷ codes "create_bundle" ∷ codes "declare_args" ∷ codes "exec_script" ∷ codes "filter_labels_exclude"
+    ∷ codes "filter_labels_include" ∷ codes "generated_file" ∷ codes "getenv" ∷ codes "path_exists"
+    ∷ codes "rust_library" ∷ codes "rust_proc_macro" ∷ codes "set_default_toolchain" ∷ codes "string_hash" ∷ []
 
--- the kinds of targets that aren't built yet
-unfoldable pub excluded_kinds : List (List ℕ)
-excluded_kinds =
-    codes "action" ∷ codes "action_foreach" ∷ codes "copy" ∷ codes "executable" ∷ codes "loadable_module" ∷ codes "shared_library"
-    ∷ codes "source_set" ∷ codes "static_library" ∷ []
+-- the kind, if it is one of targets
+abbrev pub as_target : Option ItemKind → Option ItemKind
+as_target (Some kind) = if is_target kind then Some kind else None
+as_target None = None
 
 -- the kind of target that a text names: `target` takes no kinds of other items
-unfoldable pub target_kind_of : List ℕ → TargetKind
-target_kind_of name =
-    if bytes_eq name (codes "group") then Built Group
-    else if list_any (bytes_eq name) excluded_kinds then NotBuilt
-    else NoKind
+abbrev pub target_kind_of : List ℕ → Option ItemKind
+target_kind_of name = as_target (kind_named name)
 
 -- the plain call of this name
 unfoldable pub plain_of : List ℕ → Option Plain
@@ -54,14 +47,14 @@ plain_of name =
     else if bytes_eq name (codes "label_matches") then Some (Path LabelMatches)
     else if bytes_eq name (codes "process_file_template") then Some (Path ProcessFileTemplate)
     else if bytes_eq name (codes "rebase_path") then Some (Path RebasePath)
+    else if bytes_eq name (codes "get_target_outputs") then Some TargetOutputs
     else None
 
--- what a name calls that is no plain call's
+-- what a name calls that is no plain call's and defines no item
 unfoldable pub other_function_of : List ℕ → Named
 other_function_of name =
     if bytes_eq name (codes "defined") then OfFunction Defined
     else if bytes_eq name (codes "foreach") then OfFunction Foreach
-    else if bytes_eq name (codes "group") then OfFunction (Opening (Item Group))
     else if bytes_eq name (codes "import") then OfFunction (Changing Import)
     else if bytes_eq name (codes "template") then OfFunction (Changing Template)
     else if bytes_eq name (codes "target") then OfFunction (Opening Target)
@@ -72,10 +65,15 @@ other_function_of name =
     else if list_any (bytes_eq name) excluded_names then Excluded
     else Unknown
 
+-- the name of a kind of items calls that kind
+abbrev pub item_or_other : Option ItemKind → List ℕ → Named
+item_or_other (Some kind) name = OfFunction (Opening (Item kind))
+item_or_other None name = other_function_of name
+
 -- what a name calls
 abbrev pub plain_or_other : Option Plain → List ℕ → Named
 plain_or_other (Some f) name = OfFunction (OfPlain f)
-plain_or_other None name = other_function_of name
+plain_or_other None name = item_or_other (kind_named name) name
 
 unfoldable pub function_of : List ℕ → Named
 function_of name = plain_or_other (plain_of name) name

@@ -6,7 +6,7 @@ use Rattle.gn_functions.specs.declared.rule.Rule.{Rule}
 use Rattle.gn_functions.specs.declared.rule.Allowed.TheVariants.{Everywhere, WhereItems}
 use Rattle.gn_functions.specs.declared.function.Function.{Function}
 use Rattle.gn_functions.specs.declared.function.Function.TheVariants.{Plain, Changing, Opening, Defined, Foreach, ReadFile}
-use Rattle.gn_functions.specs.declared.function.Plain.TheVariants.{Assert, Print, WriteFile, Text, Path}
+use Rattle.gn_functions.specs.declared.function.Plain.TheVariants.{Assert, Print, WriteFile, Text, Path, TargetOutputs}
 use Rattle.gn_functions.specs.declared.function.Changing.TheVariants.{Import, Template, ForwardVariablesFrom, NotNeeded}
 use Rattle.gn_functions.specs.declared.function.Opening.TheVariants.{Item, Target, SetDefaults}
 
@@ -33,11 +33,12 @@ rule_of (Plain (Path GetPathInfo)) = without_block 2 (Some 2)
 rule_of (Plain (Path LabelMatches)) = without_block 2 (Some 2)
 rule_of (Plain (Path ProcessFileTemplate)) = without_block 2 (Some 2)
 rule_of (Plain (Path RebasePath)) = without_block 1 (Some 3)
+rule_of (Plain TargetOutputs) = without_block 1 (Some 1)
 rule_of (Changing Import) = record (without_block 1 (Some 1)) { imports = true }
 rule_of (Changing Template) = with_block 1
 rule_of (Changing ForwardVariablesFrom) = without_block 2 (Some 3)
 rule_of (Changing NotNeeded) = without_block 1 (Some 3)
-rule_of (Opening (Item kind)) = record (with_block 1) { allowed = WhereItems }
+rule_of (Opening (Item kind)) = record (with_block 1) { allowed = WhereItems kind }
 rule_of (Opening Target) = with_block 2
 rule_of (Opening SetDefaults) = with_block 1
 rule_of Defined = without_block 1 (Some 1)

@@ -3,13 +3,13 @@
 ghost use Rattle.std.specs.Prelude.{◌≡◌};
 ghost use Rattle.std.specs.List.{list_any};
 ghost use Rattle.std.specs.Str.{bytes_eq};
-ghost use Rattle.gn_functions.specs.Functions.{excluded_names, excluded_kinds, plain_of, other_function_of, function_of, target_kind_of};
+ghost use Rattle.gn_functions.specs.Functions.{excluded_names, plain_of, other_function_of, item_or_other, function_of, as_target, target_kind_of};
 
 use gn_calls_path::PathCall;
 use gn_calls_text::TextCall;
-use gn_items::ItemKind;
+use gn_rows::ItemKind;
 
-/// A function that needs nothing but the values of its arguments and where it stands.
+/// A function that needs nothing but the values of its arguments, where it stands and what has been defined before.
 #[derive(Clone, Copy, Debug, PartialEq, Eq)]
 pub enum Plain {
     /// `assert`
@@ -22,6 +22,8 @@ pub enum Plain {
     Text(TextCall),
     /// A call on paths and labels.
     Path(PathCall),
+    /// `get_target_outputs`
+    TargetOutputs,
 }
 
 /// A function that needs the values of its arguments and changes where it stands.
@@ -76,57 +78,22 @@ pub enum Named {
     Unknown,
 }
 
-/// What the first argument of `target` names, where no template in scope has that name.
-#[derive(Clone, Copy, Debug, PartialEq, Eq)]
-pub enum TargetKind {
-    /// A kind of target.
-    Built(ItemKind),
-    /// A kind of target of GN that this program doesn't build yet.
-    NotBuilt,
-    /// No kind of target.
-    NoKind,
-}
-
-// The functions of GN that are left out: those that the profile leaves out for good, and those that aren't built yet.
-const EXCLUDED: [&[u8]; 26] = [
-    b"action",
-    b"action_foreach",
+// The functions of GN that define no items and are left out: those that the profile leaves out for good, and those that aren't
+// built yet.
+const EXCLUDED: [&[u8]; 13] = [
     b"bundle_data",
-    b"config",
-    b"copy",
     b"create_bundle",
     b"declare_args",
     b"exec_script",
-    b"executable",
     b"filter_labels_exclude",
     b"filter_labels_include",
     b"generated_file",
-    b"get_target_outputs",
     b"getenv",
-    b"loadable_module",
     b"path_exists",
-    b"pool",
     b"rust_library",
     b"rust_proc_macro",
     b"set_default_toolchain",
-    b"shared_library",
-    b"source_set",
-    b"static_library",
     b"string_hash",
-    b"tool",
-    b"toolchain",
-];
-
-// The kinds of targets that aren't built yet.
-const EXCLUDED_KINDS: [&[u8]; 8] = [
-    b"action",
-    b"action_foreach",
-    b"copy",
-    b"executable",
-    b"loadable_module",
-    b"shared_library",
-    b"source_set",
-    b"static_library",
 ];
 
 impl Named {
@@ -137,8 +104,18 @@ impl Named {
     {
         match plain_of(name) {
             Some(plain) => Named::Function(Function::Plain(plain)),
-            None => other_function_of(name),
+            None => item_or_other(ItemKind::named(name), name),
         }
+    }
+}
+
+// What a name calls that is no plain call's, where it is that of this kind of items, if it is one.
+fn item_or_other(kind: Option<ItemKind>, name: &[u8]) -> Named
+    ensures { result ≡ item_or_other kind name.now }
+{
+    match kind {
+        Some(kind) => Named::Function(Function::Opening(Opening::Item(kind))),
+        None => other_function_of(name),
     }
 }
 
@@ -175,12 +152,14 @@ fn plain_of(name: &[u8]) -> Option<Plain>
         Some(Plain::Path(PathCall::ProcessFileTemplate))
     } else if name == b"rebase_path".as_slice() {
         Some(Plain::Path(PathCall::RebasePath))
+    } else if name == b"get_target_outputs".as_slice() {
+        Some(Plain::TargetOutputs)
     } else {
         None
     }
 }
 
-// What a name calls that is no plain call's.
+// What a name calls that is no plain call's and defines no item.
 #[tactic(auto, unfolding(crate::specs::Functions::other_function_of))]
 fn other_function_of(name: &[u8]) -> Named
     ensures { result ≡ other_function_of name.now }
@@ -189,8 +168,6 @@ fn other_function_of(name: &[u8]) -> Named
         Named::Function(Function::Defined)
     } else if name == b"foreach".as_slice() {
         Named::Function(Function::Foreach)
-    } else if name == b"group".as_slice() {
-        Named::Function(Function::Opening(Opening::Item(ItemKind::Group)))
     } else if name == b"import".as_slice() {
         Named::Function(Function::Changing(Changing::Import))
     } else if name == b"template".as_slice() {
@@ -212,20 +189,22 @@ fn other_function_of(name: &[u8]) -> Named
     }
 }
 
-impl TargetKind {
-    /// The kind of target that the text names. It takes no memory.
-    #[tactic(auto, unfolding(crate::specs::Functions::target_kind_of))]
-    pub fn named(name: &[u8]) -> TargetKind
-        ensures { result ≡ target_kind_of name.now }
-    {
-        if name == b"group".as_slice() {
-            TargetKind::Built(ItemKind::Group)
-        } else if is_excluded_kind(name) {
-            TargetKind::NotBuilt
-        } else {
-            TargetKind::NoKind
-        }
+// The kind, if it is one of targets.
+fn as_target(kind: Option<ItemKind>) -> Option<ItemKind>
+    ensures { result ≡ as_target kind }
+{
+    match kind {
+        Some(kind) if kind.is_target() => Some(kind),
+        _ => None,
     }
+}
+
+/// The kind of target that a text names, as the first argument of `target` does where no template in scope has that name; None
+/// exactly where it names none. It takes no memory.
+pub fn target_kind(name: &[u8]) -> Option<ItemKind>
+    ensures { result ≡ target_kind_of name.now }
+{
+    as_target(ItemKind::named(name))
 }
 
 // Whether the name is one of a function that is left out.
@@ -234,14 +213,6 @@ fn is_excluded(name: &[u8]) -> bool
     ensures { result ≡ list_any (bytes_eq name.now) excluded_names }
 {
     is_one_of(name, &EXCLUDED)
-}
-
-// Whether the name is one of a kind of target that isn't built yet.
-#[tactic(auto, unfolding(crate::specs::Functions::excluded_kinds))]
-fn is_excluded_kind(name: &[u8]) -> bool
-    ensures { result ≡ list_any (bytes_eq name.now) excluded_kinds }
-{
-    is_one_of(name, &EXCLUDED_KINDS)
 }
 
 // Whether the name is one of these.

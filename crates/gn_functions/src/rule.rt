@@ -6,14 +6,16 @@ ghost use Rattle.gn_functions.specs.Rules.{rule_of, template_rule, takes, withou
 use crate::function::{Changing, Function, Opening, Plain};
 use gn_calls_path::PathCall;
 use gn_calls_text::TextCall;
+use gn_rows::ItemKind;
 
 /// Where a function may be called.
 #[derive(Clone, Copy, Debug, PartialEq, Eq)]
 pub enum Allowed {
     /// Everywhere.
     Everywhere,
-    /// Where items may be defined: in a build file, outside the blocks of other items.
-    WhereItems,
+    /// Where an item of this kind may be defined: a tool in the block of a toolchain, all others in a build file, outside the
+    /// blocks of other items.
+    WhereItems(ItemKind),
 }
 
 /// What is judged of a call before its arguments are evaluated, in this order: whether it is allowed where it stands, its
@@ -81,6 +83,7 @@ impl Function {
                 without_block(2, Some(2))
             }
             Function::Plain(Plain::Path(PathCall::RebasePath)) => without_block(1, Some(3)),
+            Function::Plain(Plain::TargetOutputs) => without_block(1, Some(1)),
             Function::Changing(Changing::Import) => Rule {
                 least: 1,
                 most: Some(1),
@@ -91,7 +94,7 @@ impl Function {
             Function::Changing(Changing::Template) => with_block(1, Allowed::Everywhere),
             Function::Changing(Changing::ForwardVariablesFrom) => without_block(2, Some(3)),
             Function::Changing(Changing::NotNeeded) => without_block(1, Some(3)),
-            Function::Opening(Opening::Item(_)) => with_block(1, Allowed::WhereItems),
+            Function::Opening(Opening::Item(kind)) => with_block(1, Allowed::WhereItems(kind)),
             Function::Opening(Opening::Target) => with_block(2, Allowed::Everywhere),
             Function::Opening(Opening::SetDefaults) => with_block(1, Allowed::Everywhere),
             Function::Defined => without_block(1, Some(1)),

@@ -1,7 +1,8 @@
 // What an execution leaves.
 
 use crate::rows::{field, is_shown, number, table};
-use gn_items::{Item, ItemKind, Outcome, Question};
+use gn_define::Fields;
+use gn_items::{Item, ItemKind, Outcome, Question, Tools};
 use gn_labels::Label;
 use gn_paths::{Path, PathError, Place, Text, resolve};
 use std::alloc::{AllocError, Global};
@@ -56,6 +57,8 @@ fn item(alloc: Global, row: &str) -> Result<Item, AllocError> {
         kind: ItemKind::Group,
         label,
         place: place(alloc, line(row))?,
+        fields: Fields::from_vec(alloc, Vec::new(alloc))?,
+        tools: Tools::new(alloc),
     })
 }
 

@@ -1,5 +1,5 @@
 -- The names of variables, of kinds of items and of tools.
-use Rattle.std.specs.Prelude.{ℕ, List, [], ◌∷◌, Option, None, Some, codes, if◌then◌else◌}
+use Rattle.std.specs.Prelude.{ℕ, Bool, true, false, List, [], ◌∷◌, Option, None, Some, codes, if◌then◌else◌}
 use Rattle.std.specs.Str.{bytes_eq}
 use Rattle.gn_rows.specs.declared.variable.Variable.{Variable}
 use Rattle.gn_rows.specs.declared.variable.Variable.TheVariants as variables
@@ -7,7 +7,7 @@ use Rattle.gn_rows.specs.declared.kinds.ItemKind.{ItemKind}
 use Rattle.gn_rows.specs.declared.kinds.ItemKind.TheVariants as kinds
 use Rattle.gn_rows.specs.declared.kinds.ToolName.{ToolName}
 use Rattle.gn_rows.specs.declared.kinds.ToolName.TheVariants as tools
-use Rattle.gn_rows.specs.declared.kinds.TheConstants.{TOOLS}
+use Rattle.gn_rows.specs.declared.kinds.TheConstants.{KINDS, TOOLS}
 
 -- the name of a variable
 abbrev pub variable_name : Variable → List ℕ
@@ -85,6 +85,23 @@ kind_name kinds.Config = codes "config"
 kind_name kinds.Pool = codes "pool"
 kind_name kinds.Toolchain = codes "toolchain"
 kind_name kinds.Tool = codes "tool"
+
+-- whether it is a kind of target
+abbrev pub is_target : ItemKind → Bool
+is_target kinds.Config = false
+is_target kinds.Pool = false
+is_target kinds.Toolchain = false
+is_target kinds.Tool = false
+is_target _ = true
+
+-- the first of these kinds that has the name
+abbrev pub first_kind_named : List ItemKind → List ℕ → Option ItemKind
+first_kind_named [] name = None
+first_kind_named (k ∷ ks) name = if bytes_eq (kind_name k) name then Some k else first_kind_named ks name
+
+-- the kind of the item that a call of a name defines
+abbrev pub kind_named : List ℕ → Option ItemKind
+kind_named name = first_kind_named KINDS name
 
 -- the name of a tool
 abbrev pub tool_name : ToolName → List ℕ

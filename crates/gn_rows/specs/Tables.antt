@@ -6,7 +6,7 @@ use Rattle.gn_rows.specs.declared.kinds.ToolName.{ToolName}
 use Rattle.gn_rows.specs.declared.kinds.ToolName.TheVariants as tools
 use Rattle.gn_rows.specs.declared.row.Row.{Row}
 use Rattle.gn_rows.specs.declared.row.Demand.{Demand}
-use Rattle.gn_rows.specs.declared.targets.TheConstants.{TARGET_ROWS, BUILT_GROUP_ROWS, ACTION_DEMANDS, FOREACH_DEMANDS, COPY_DEMANDS}
+use Rattle.gn_rows.specs.declared.targets.TheConstants.{TARGET_ROWS, ACTION_DEMANDS, FOREACH_DEMANDS, COPY_DEMANDS}
 use Rattle.gn_rows.specs.declared.others.TheConstants.{CONFIG_ROWS, POOL_ROWS, POOL_DEMANDS, TOOLCHAIN_ROWS, TOOL_ROWS, TOOL_DEMANDS, PLAIN_TOOL_DEMANDS}
 use Rattle.gn_rows.specs.Names.{tool_named}
 
@@ -17,11 +17,6 @@ rows_of kinds.Pool = POOL_ROWS
 rows_of kinds.Toolchain = TOOLCHAIN_ROWS
 rows_of kinds.Tool = TOOL_ROWS
 rows_of _ = TARGET_ROWS
-
--- the rows of a kind as far as it is built: nothing is built of any kind but groups
-abbrev pub built_rows_of : ItemKind → List Row
-built_rows_of kinds.Group = BUILT_GROUP_ROWS
-built_rows_of _ = []
 
 -- what a tool demands: `copy` and `stamp` have no outputs of their own
 abbrev pub tool_demands : Option ToolName → List Demand

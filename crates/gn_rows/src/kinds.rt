@@ -1,7 +1,7 @@
 // The kinds of items, and the names of tools.
 
 ghost use Rattle.std.specs.Prelude.{◌≡◌};
-ghost use Rattle.gn_rows.specs.Names.{kind_name, tool_name, first_named, tool_named};
+ghost use Rattle.gn_rows.specs.Names.{kind_name, is_target, first_kind_named, kind_named, tool_name, first_named, tool_named};
 
 /// The kind of an item: the nine kinds of targets, and what else a build file defines.
 #[derive(Clone, Copy, Debug, PartialEq, Eq)]
@@ -57,6 +57,23 @@ pub enum ToolName {
     Stamp,
 }
 
+// All kinds.
+static KINDS: [ItemKind; 13] = [
+    ItemKind::Group,
+    ItemKind::Executable,
+    ItemKind::StaticLibrary,
+    ItemKind::SharedLibrary,
+    ItemKind::SourceSet,
+    ItemKind::LoadableModule,
+    ItemKind::Action,
+    ItemKind::ActionForeach,
+    ItemKind::Copy,
+    ItemKind::Config,
+    ItemKind::Pool,
+    ItemKind::Toolchain,
+    ItemKind::Tool,
+];
+
 // All tools, by their names.
 static TOOLS: [ToolName; 9] = [
     ToolName::Alink,
@@ -91,6 +108,35 @@ impl ItemKind {
             ItemKind::Tool => b"tool",
         }
     }
+
+    /// The kind of the item that a call of this name defines; None exactly where there is none.
+    pub fn named(name: &[u8]) -> Option<ItemKind>
+        ensures { result ≡ kind_named name.now }
+    {
+        first_kind_named(&KINDS, name)
+    }
+
+    /// Whether it is a kind of target.
+    pub fn is_target(self) -> bool
+        ensures { result ≡ is_target self }
+    {
+        !matches!(
+            self,
+            ItemKind::Config | ItemKind::Pool | ItemKind::Toolchain | ItemKind::Tool
+        )
+    }
+}
+
+// The first of these kinds that has the name.
+fn first_kind_named(kinds: &[ItemKind], name: &[u8]) -> Option<ItemKind>
+    ensures { result ≡ first_kind_named kinds.now name.now }
+{
+    for kind in kinds {
+        if kind.name() == name {
+            return Some(*kind);
+        }
+    }
+    None
 }
 
 impl ToolName {

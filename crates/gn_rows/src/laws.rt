@@ -3,7 +3,7 @@
 ghost use Rattle.std.specs.Prelude.{◌≡◌, ℕ, List, Some, true};
 ghost use Rattle.gn_rows.specs.declared.kinds.ItemKind.{ItemKind};
 ghost use Rattle.gn_rows.specs.declared.kinds.ToolName.{ToolName};
-ghost use Rattle.gn_rows.specs.Names.{tool_name, tool_named};
+ghost use Rattle.gn_rows.specs.Names.{kind_name, kind_named, tool_name, tool_named};
 ghost use Rattle.gn_rows.specs.Tables.{rows_of, demands_of};
 ghost use Rattle.gn_rows.specs.Laws.{names_differ, have_rows};
 
@@ -20,4 +20,10 @@ pub fn what_is_demanded_is_looked_at()
 /// Each tool is found by its name.
 pub fn tools_are_found_by_their_names()
     ensures { (tool : ToolName) → tool_named (tool_name tool) ≡ Some tool }
+{}
+
+/// Each kind of item is found by the name of the call that defines it, and has the name by which it is found.
+pub fn kinds_are_found_by_their_names()
+    ensures found { (kind : ItemKind) → kind_named (kind_name kind) ≡ Some kind }
+    ensures named { (name : List ℕ) (kind : ItemKind) → kind_named name ≡ Some kind → name ≡ kind_name kind }
 {}

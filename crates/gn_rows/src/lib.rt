@@ -12,8 +12,9 @@ mod variable;
 
 pub use kinds::{ItemKind, ToolName};
 pub use laws::{
-    names_of_a_table_differ, tools_are_found_by_their_names, what_is_demanded_is_looked_at,
+    kinds_are_found_by_their_names, names_of_a_table_differ, tools_are_found_by_their_names,
+    what_is_demanded_is_looked_at,
 };
 pub use row::{Demand, Row, RowType, Rule, StringKind};
-pub use tables::{built_rows_of, demands_of, rows_of};
+pub use tables::{demands_of, rows_of};
 pub use variable::Variable;

@@ -1,7 +1,7 @@
 // Which rows and which demands a kind has.
 
 ghost use Rattle.std.specs.Prelude.{◌≡◌};
-ghost use Rattle.gn_rows.specs.Tables.{rows_of, built_rows_of, demands_of, tool_demands};
+ghost use Rattle.gn_rows.specs.Tables.{rows_of, demands_of, tool_demands};
 
 use crate::kinds::{ItemKind, ToolName};
 use crate::others::{
@@ -9,9 +9,7 @@ use crate::others::{
     TOOLCHAIN_ROWS,
 };
 use crate::row::{Demand, Row};
-use crate::targets::{
-    ACTION_DEMANDS, BUILT_GROUP_ROWS, COPY_DEMANDS, FOREACH_DEMANDS, TARGET_ROWS,
-};
+use crate::targets::{ACTION_DEMANDS, COPY_DEMANDS, FOREACH_DEMANDS, TARGET_ROWS};
 
 /// The rows of a kind, in the order in which they are looked at. The kinds of targets share theirs.
 pub fn rows_of(kind: ItemKind) -> &'static [Row]
@@ -23,17 +21,6 @@ pub fn rows_of(kind: ItemKind) -> &'static [Row]
         ItemKind::Toolchain => &TOOLCHAIN_ROWS,
         ItemKind::Tool => &TOOL_ROWS,
         _ => &TARGET_ROWS,
-    }
-}
-
-/// The rows of a kind as far as it is built: of a group `deps` alone, a list of strings that aren't read as labels yet. Of
-/// all other kinds nothing is built.
-pub fn built_rows_of(kind: ItemKind) -> &'static [Row]
-    ensures { result.now ≡ built_rows_of kind }
-{
-    match kind {
-        ItemKind::Group => &BUILT_GROUP_ROWS,
-        _ => &[],
     }
 }
 

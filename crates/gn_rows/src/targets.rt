@@ -69,6 +69,3 @@ pub(crate) static COPY_DEMANDS: [Demand; 3] = [
     demand!(Outputs, Required),
     demand!(Outputs, AtMostOne),
 ];
-
-// What is built of groups so far: their dependencies are strings, which aren't read as labels yet.
-pub(crate) static BUILT_GROUP_ROWS: [Row; 1] = [row!(Deps, Many(Text))];
