@@ -141,11 +141,12 @@ impl<A: Answer> Model for Book<A> {
     ghost use Rattle.gn_book.specs.Books.{log_in, IsWhole};
     ghost use Rattle.gn_book.specs.Graphs.{IsGraphed};
     ghost use Rattle.std.specs.Coded.{codes};
+    ghost use Rattle.gn_items.specs.Codes.{effects_code};
     ghost use Rattle.gn_values.specs.ImportedCode.{import_code};
 
     ghost Value = { Log };
 
-    ghost coded = { Prim.hlevel (codes, import_code) };
+    ghost coded = { Prim.hlevel (codes, import_code, effects_code) };
 
     ghost view = { λ b. log_in b.seats b.roster.keys b.roster.standings b.log.items };
 

@@ -87,6 +87,7 @@ impl<A: Answer> Model for Roster<A> {
     ghost use Rattle.std.specs.BTreeMap.{get};
     ghost use Rattle.std.specs.Ordering.{nat_cmp};
     ghost use Rattle.std.specs.Coded.{codes};
+    ghost use Rattle.gn_items.specs.Codes.{effects_code};
     ghost use Rattle.gn_values.specs.ImportedCode.{import_code};
     ghost use Rattle.gn_book.specs.Keys.{key_of};
     ghost use Rattle.gn_book.specs.Standings.{standing_of};
@@ -94,7 +95,7 @@ impl<A: Answer> Model for Roster<A> {
 
     ghost Value = { Table };
 
-    ghost coded = { Prim.hlevel (codes, import_code) };
+    ghost coded = { Prim.hlevel (codes, import_code, effects_code) };
 
     ghost view = { λ r. table_of (map key_of r.keys.keys) (map (standing_of A.meaning) r.statuses.items) };
 

@@ -1,4 +1,6 @@
 pub mod Effects
+pub mod Codes
 pub mod Labels
 pub mod Names
 pub mod Questions
+pub mod Tools

@@ -7,6 +7,8 @@ mod laws;
 mod names;
 mod outcome;
 mod question;
+mod tool;
+mod tools;
 mod written;
 
 pub use gn_rows::ItemKind;
@@ -16,4 +18,6 @@ pub use laws::executions_of_different_keys_differ;
 pub use names::{import_name, load_name};
 pub use outcome::Outcome;
 pub use question::Question;
+pub use tool::Tool;
+pub use tools::Tools;
 pub use written::Written;

@@ -1,28 +1,34 @@
 // What an execution leaves beside its variables.
 
-ghost use Rattle.std.specs.Prelude.{◌≡◌, OnOk, OnErr, map};
-ghost use Rattle.gn_items.specs.Effects.{no_effects, is_defined, with_item, with_print, with_written, with_asked};
+ghost use Rattle.std.specs.Prelude.{◌≡◌, [], OnOk, OnErr, map};
+ghost use Rattle.gn_items.specs.Effects.{no_effects, is_defined, with_item, with_tool, with_toolchain, with_print, with_written, with_asked};
+ghost use Rattle.gn_items.specs.Tools.{has_name};
 ghost use Rattle.gn_items.specs.Questions.{question_of};
 ghost use Rattle.gn_runs.specs.Runs.{content_of, import_of};
 
 use crate::item::Item;
 use crate::question::Question;
+use crate::tool::Tool;
+use crate::tools::Tools;
 use crate::written::Written;
 use gn_labels::Label;
 use gn_paths::{Path, Text};
 use std::alloc::{AllocError, Global};
 use std::collections::BTreeSet;
 use std::marker::Model;
+use std::mem;
 
-/// What an execution leaves beside its variables: the items that it defines, the lines that it prints, the files that it
-/// writes and the questions that it asks, each in order. Items of one label may stand in it twice; `has` tells in time whether
+/// What an execution leaves beside its variables: the items that it defines, toolchains with their tools, the lines that it
+/// prints, the files that it writes and the questions that it asks, each in order. Items of one label may stand in it twice; `has` tells in time whether
 /// a label is new. So may files of one path, of which the last counts.
-#[derive(Debug, Drop)]
+#[derive(Drop)]
 pub struct Outcome {
     alloc: Global,
     items: Vec<Item>,
     // The labels of the items.
     labels: BTreeSet<Label>,
+    // The tools of the toolchain whose block is open.
+    tools: Tools,
     prints: Vec<Text>,
     written: Vec<Written>,
     asked: Vec<Question>,
@@ -30,15 +36,18 @@ pub struct Outcome {
 
 impl Model for Outcome {
     ghost use Rattle.gn_items.specs.Effects.{Effects};
+    ghost use Rattle.gn_items.specs.Codes.{effects_code};
 
     ghost Value = { Effects };
+
+    ghost coded = { effects_code };
 
     ghost use Rattle.gn_labels.specs.declared.label.Label.{Label};
     ghost use Rattle.std.specs.Prelude.{map};
     ghost use Rattle.gn_items.specs.Labels.{HasLabels};
     ghost use Rattle.gn_items.specs.Questions.{question_of};
 
-    ghost view = { λ o. record { items = o.items.items; prints = o.prints.items; written = o.written.items; asked = map question_of o.asked.items } };
+    ghost view = { λ o. record { items = o.items.items; tools = o.tools; prints = o.prints.items; written = o.written.items; asked = map question_of o.asked.items } };
 
     ghost invariant = { λ o. HasLabels ⟦<Label as Ord>⟧.cmp o.labels o.items.items };
 }
@@ -52,6 +61,7 @@ impl Outcome {
             alloc,
             items: Vec::new(alloc),
             labels: BTreeSet::new(alloc),
+            tools: Tools::new(alloc),
             prints: Vec::new(alloc),
             written: Vec::new(alloc),
             asked: Vec::new(alloc),
@@ -76,6 +86,42 @@ impl Outcome {
         self.labels.insert(label)?;
         self.items.push(item)?;
         Ok(())
+    }
+
+    /// Whether the toolchain whose block is open has a tool of this name. It takes no memory.
+    pub fn has_tool(&self, name: &[u8]) -> bool
+        ensures { result ≡ has_name name.now self.now.tools }
+    {
+        self.tools.has(name)
+    }
+
+    /// Puts a tool behind those of the toolchain whose block is open. After want of memory nothing is changed, and the tool is
+    /// dropped.
+    #[tactic(auto, unfolding(crate::specs::Effects::with_tool))]
+    pub fn add_tool(&mut self, tool: Tool) -> Result<(), AllocError>
+        ensures ok { OnOk result (self.new ≡ with_tool tool self.old) }
+        ensures err { OnErr result (self.new ≡ self.old) }
+    {
+        self.tools.push(tool)
+    }
+
+    // The tools of the toolchain whose block is open, which has none from then on.
+    fn take_tools(&mut self) -> Tools
+        ensures tools { result ≡ self.old.tools }
+        ensures rest { self.new ≡ record self.old { tools = [] } }
+    {
+        let none = Tools::new(self.alloc);
+        mem::replace(&mut self.tools, none)
+    }
+
+    /// Puts a toolchain, whose block has ended, behind the other items, with the tools that were defined in it. After want of
+    /// memory the tools are gone, and the toolchain is dropped.
+    pub fn add_toolchain(&mut self, item: Item) -> Result<(), AllocError>
+        ensures { OnOk result (self.new ≡ with_toolchain item self.old) }
+    {
+        let mut item = item;
+        item.tools = self.take_tools();
+        self.add_item(item)
     }
 
     /// Puts a line behind the others. After want of memory nothing is changed, and the line is dropped.
