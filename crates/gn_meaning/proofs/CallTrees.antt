@@ -4,23 +4,26 @@ use Rattle.gn_tree.specs.declared.position.Position.{Position}
 use Rattle.gn_tree.specs.declared.tree.Call.{Call}
 use Rattle.gn_tree.specs.Counts.{expr_count}
 use Rattle.gn_tree.specs.Tree.{ExprTree}
+use Rattle.gn_values.specs.Val.{Val}
 use Rattle.gn_values.specs.Imported.{DefinitionState}
+use Rattle.gn_items.specs.Effects.{Effects}
 use Rattle.gn_runs.specs.Runs.{Answers}
+use Rattle.gn_environment.specs.Environment.{Environment}
 use Rattle.gn_environment.specs.Templates.{template_of}
 use Rattle.gn_meaning.specs.Steps.{Steps}
 use Rattle.gn_meaning.specs.Imports.{max_import_nesting}
 use Rattle.gn_functions.specs.Functions.{function_of}
 use Rattle.gn_functions.specs.Rules.{takes, rule_of, template_rule}
 use Rattle.gn_meaning.specs.ChangingCalls.{begins_with_invoker}
-use Rattle.gn_meaning.specs.OpeningCalls.{of_template, of_function}
-use Rattle.gn_meaning.specs.FunctionCalls.{allowed_here, ruled_runs, named_runs, accepted_runs, template_accepted_runs, Parts, given_runs, changing_runs, function_runs, built_in_runs, template_called_runs, template_or_built_in, called_runs}
+use Rattle.gn_meaning.specs.OpeningCalls.{of_template, of_function, opening_runs}
+use Rattle.gn_meaning.specs.FunctionCalls.{allowed_here, ruled_runs, named_runs, accepted_runs, template_accepted_runs, is_skipped, unless_skipped, Parts, given_runs, changing_runs, function_runs, built_in_runs, template_called_runs, template_or_built_in, called_runs}
 use Rattle.gn_functions.specs.declared.rule.Rule.{Rule}
 use Rattle.gn_functions.specs.declared.function.Function.{Function}
 use Rattle.gn_functions.specs.declared.function.Function.TheVariants.{Plain, Changing as OfChanging, Opening, Defined, Foreach, ReadFile}
 use Rattle.gn_functions.specs.declared.function.Changing.{Changing}
 use Rattle.gn_functions.specs.declared.function.Named.{Named}
 use Rattle.gn_functions.specs.declared.function.Named.TheVariants.{Function as OfFunction, Excluded, Unknown}
-use Rattle.gn_meaning.proofs.Steps.{AreQuiet, AreTrees, tree_do, tree_ends, tree_fails, tree_if}
+use Rattle.gn_meaning.proofs.Steps.{IsTreeBehind, AreQuiet, AreTrees, tree_do, tree_ends, tree_fails, tree_if}
 use Rattle.gn_meaning.proofs.Templates.{opened_tree}
 use Rattle.gn_meaning.proofs.PlainTrees.{plain_tree}
 use Rattle.gn_meaning.proofs.Contents.{read_file_tree}
@@ -48,6 +51,10 @@ unfolding template_accepted_runs
 template_accepted_tree n call env out =
     tree_if (takes template_rule (expr_count call.arguments) (is_some call.block)) _ _ (opened_tree n call.position _ (λ env1 out1. tree_ends env.depth env1 out1) env out) (tree_fails _ out)
 
+unless_tree : (skipped : Bool) (steps : Answers → Steps (Option Val)) (env : Environment) (out : Effects) → IsTreeBehind out.asked (λ a. steps a env out) → IsTreeBehind out.asked (λ a. unless_skipped skipped (steps a) env out)
+unless_tree true steps env out t = tree_ends None env out
+unless_tree false steps env out t = t
+
 -- the parts of a call, each of which is a tree
 pub record PartsAreTrees (parts : Answers → Parts) : Type 0 where
   pub values : AreTrees (λ a. (parts a).values)
@@ -71,7 +78,9 @@ module _ (body : Answers → DefinitionState → Position → Steps (Unit {0})) 
   unfolding function_runs
   function_tree (Plain f) env out = tree_do _ _ (t.values env out) (λ vs env1 out1. plain_tree f vs call env1 out1)
   function_tree (OfChanging f) env out = changing_tree f env out
-  function_tree (Opening f) env out = opening_tree body b (λ a. (parts a).block) t.block (of_function f) n call (λ a. (parts a).values) t.values env out
+  function_tree (Opening f) env out =
+      unless_tree (is_skipped f env) (λ a. opening_runs (body a) (of_function f) n call (parts a).values (parts a).block) env out
+      (opening_tree body b (λ a. (parts a).block) t.block (of_function f) n call (λ a. (parts a).values) t.values env out)
   function_tree Defined env out = t.tests env out
   function_tree Foreach env out = t.loops env out
   function_tree ReadFile env out =

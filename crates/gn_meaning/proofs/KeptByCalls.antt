@@ -3,6 +3,7 @@ use Rattle.std.proofs.Common.{◌≡◌, ℕ, ◌+◌, Bool, true, false, ◌&&�
 use Rattle.gn_tree.specs.declared.tree.Call.{Call}
 use Rattle.gn_tree.specs.declared.position.Position.{Position}
 use Rattle.gn_tree.specs.Counts.{expr_count}
+use Rattle.gn_values.specs.Val.{Val}
 use Rattle.gn_values.specs.Imported.{DefinitionState}
 use Rattle.gn_items.specs.Effects.{Effects}
 use Rattle.gn_runs.specs.Runs.{Answers}
@@ -17,10 +18,11 @@ use Rattle.gn_functions.specs.Functions.{function_of}
 use Rattle.gn_functions.specs.Rules.{takes, rule_of, template_rule}
 use Rattle.gn_meaning.specs.ChangingCalls.{begins_with_invoker}
 use Rattle.gn_meaning.specs.OpeningCalls.{of_template, of_function}
-use Rattle.gn_meaning.specs.FunctionCalls.{allowed_here, ruled_runs, named_runs, accepted_runs, template_accepted_runs, Parts, given_runs, changing_runs, function_runs, built_in_runs, template_called_runs, template_or_built_in, called_runs}
+use Rattle.gn_meaning.specs.FunctionCalls.{allowed_here, ruled_runs, named_runs, accepted_runs, template_accepted_runs, is_skipped, unless_skipped, Parts, given_runs, changing_runs, function_runs, built_in_runs, template_called_runs, template_or_built_in, called_runs}
 use Rattle.gn_functions.specs.declared.function.Function.{Function}
-use Rattle.gn_functions.specs.declared.function.Function.TheVariants.{Plain, Changing as OfChanging, Opening, Defined, Foreach, ReadFile}
+use Rattle.gn_functions.specs.declared.function.Function.TheVariants.{Plain, Changing as OfChanging, Opening as OfOpening, Defined, Foreach, ReadFile}
 use Rattle.gn_functions.specs.declared.function.Changing.{Changing}
+use Rattle.gn_functions.specs.declared.function.Opening.{Opening}
 use Rattle.gn_functions.specs.declared.function.Opening.TheVariants.{Item as ItemCall, Target, SetDefaults}
 use Rattle.gn_functions.specs.declared.function.Named.{Named}
 use Rattle.gn_functions.specs.declared.function.Named.TheVariants.{Function as OfFunction, Excluded, Unknown}
@@ -28,13 +30,13 @@ use Rattle.gn_meaning.proofs.Ends.{Ends, Leaves, Keep, ends_do, moved, keep_do, 
 use Rattle.gn_meaning.proofs.KeptBySteps.{plain_keeps}
 use Rattle.gn_meaning.proofs.Contents.{read_file_keeps}
 use Rattle.gn_meaning.proofs.KeptBySelections.{changed_keeps}
-use Rattle.gn_meaning.proofs.KeptByOpenings.{Before, BodiesKeep, nothing_open, opening_leaves}
+use Rattle.gn_meaning.proofs.KeptByOpenings.{Before, BodiesKeep, is_open_around, opening_leaves}
 
 -- what holds where a function is called: one that opens a scope begins it there
 abbrev pub IsReady : Environment → Function → Environment → Type 0
 IsReady s (Plain f) env = surroundings env ≡ s
 IsReady s (OfChanging f) env = surroundings env ≡ s
-IsReady s (Opening f) env = Before (of_function f) s env
+IsReady s (OfOpening f) env = Before (of_function f) s env
 IsReady s Defined env = surroundings env ≡ s
 IsReady s Foreach env = surroundings env ≡ s
 IsReady s ReadFile env = surroundings env ≡ s
@@ -46,9 +48,9 @@ allowed_is_ready : (f : Function) (env : Environment) → allowed_here (rule_of 
 unfolding rule_of
 allowed_is_ready (Plain f) env h = refl
 allowed_is_ready (OfChanging f) env h = refl
-allowed_is_ready (Opening (ItemCall kind)) env h = (refl, nothing_open env h)
-allowed_is_ready (Opening Target) env h = refl
-allowed_is_ready (Opening SetDefaults) env h = refl
+allowed_is_ready (OfOpening (ItemCall kind)) env h = (refl, is_open_around kind env h)
+allowed_is_ready (OfOpening Target) env h = refl
+allowed_is_ready (OfOpening SetDefaults) env h = refl
 allowed_is_ready Defined env h = refl
 allowed_is_ready Foreach env h = refl
 allowed_is_ready ReadFile env h = refl
@@ -77,6 +79,16 @@ template_accepted_so n call env out =
     so_if (takes template_rule (expr_count call.arguments) (is_some call.block)) _ _
     (so_if (nat_lt max_evaluation_depth (opened_depth n env)) _ _ (fails_so _ out) (record { so = depth_again (opened_depth n env) env })) (fails_so _ out)
 
+-- where a function that opens a scope is called, this stands around
+around_before : (f : Opening) (s env : Environment) → Before (of_function f) s env → surroundings env ≡ s
+around_before (ItemCall kind) s env b = b.0
+around_before Target s env b = b
+around_before SetDefaults s env b = b
+
+unless_leaves : (s : Environment) (skipped : Bool) (steps : Steps (Option Val)) (env : Environment) (out : Effects) → surroundings env ≡ s → Leaves s (steps env out) → Leaves s (unless_skipped skipped steps env out)
+unless_leaves s true steps env out h l = record { so = h }
+unless_leaves s false steps env out h l = l
+
 -- the parts of a call, each of which leaves what stands around its scope
 pub record PartsKeep (parts : Parts) : Type 0 where
   pub values : Keep parts.values
@@ -99,7 +111,8 @@ module _ (answers : Answers) (body : DefinitionState → Position → Steps (Uni
   unfolding function_runs
   function_leaves s (Plain f) env out r = moved r (keep_do _ _ (t.values env out) (λ vs env1 out1. plain_keeps f vs call env1 out1))
   function_leaves s (OfChanging f) env out r = moved r (changing_keeps f env out)
-  function_leaves s (Opening f) env out r = opening_leaves body b parts.block t.block s (of_function f) n call parts.values t.values env out r
+  function_leaves s (OfOpening f) env out r =
+      unless_leaves s (is_skipped f env) _ env out (around_before f s env r) (opening_leaves body b parts.block t.block s (of_function f) n call parts.values t.values env out r)
   function_leaves s Defined env out r = moved r (t.tests env out)
   function_leaves s Foreach env out r = moved r (t.loops env out)
   function_leaves s ReadFile env out r = moved r (keep_do _ _ (t.values env out) (λ vs env1 out1. read_file_keeps answers parts.reads vs n call env1 out1))

@@ -7,13 +7,14 @@ use Rattle.gn_values.specs.Imported.{DefinitionState}
 use Rattle.gn_faults.specs.declared.fault.Fault.{Fault}
 use Rattle.gn_items.specs.declared.item.Item.{Item}
 use Rattle.gn_rows.specs.declared.kinds.ItemKind.{ItemKind}
+use Rattle.gn_rows.specs.declared.kinds.ItemKind.TheVariants as kinds
 use Rattle.gn_rows.specs.declared.row.Row.{Row}
 use Rattle.gn_rows.specs.declared.variable.Variable.{Variable}
-use Rattle.gn_rows.specs.Names.{variable_name}
-use Rattle.gn_rows.specs.Tables.{built_rows_of}
+use Rattle.gn_rows.specs.Names.{variable_name, is_target}
+use Rattle.gn_rows.specs.Tables.{rows_of}
 use Rattle.gn_define.specs.declared.fault.ItemFault.{ItemFault}
 use Rattle.gn_define.specs.Held.{Held}
-use Rattle.gn_items.specs.Effects.{Effects, is_defined, with_item}
+use Rattle.gn_items.specs.Effects.{Effects, is_known, with_defined}
 use Rattle.gn_environment.specs.declared.context.OpenBlock.{OpenBlock}
 use Rattle.gn_environment.specs.declared.context.OpenBlock.TheVariants as block
 use Rattle.gn_environment.specs.Environment.{Environment, after_read, entered, left, reported_here, with_open}
@@ -23,12 +24,10 @@ use Rattle.gn_environment.proofs.Surroundings.{IsKept, read_keeps, left_keeps, d
 use Rattle.gn_environment.proofs.SurroundingsOfCalls.{block_ends, same_open}
 use Rattle.gn_meaning.specs.Steps.{Left, Steps, max_evaluation_depth}
 use Rattle.gn_meaning.specs.Items.{fields_here, rows_read, item_made, defined}
-use Rattle.gn_meaning.specs.Calls.{item_runs, item_end_runs, defaults_taken, scope_begun_runs}
-use Rattle.gn_meaning.specs.Templates.{opened_depth, invoker_checked, template_end_runs, is_build_file, is_inside, allows_items, defaults_end_runs}
+use Rattle.gn_meaning.specs.Calls.{open_in, open_around, item_runs, item_end_runs, defaults_taken, scope_begun_runs, item_scope, item_scope_begun_runs}
+use Rattle.gn_meaning.specs.Templates.{opened_depth, invoker_checked, template_end_runs, is_build_file, is_inside, allows_items, is_toolchain, allows, defaults_end_runs}
 use Rattle.gn_functions.specs.Functions.{target_kind_of}
 use Rattle.gn_meaning.specs.OpeningCalls.{Opener, of_template, of_function, Opened, opened_item, opened_template, opened_defaults, template_begun_runs, item_begun_runs, template_named_runs, item_named_runs, target_kind_runs, target_of_runs, target_runs, defaults_begun_runs, begun_runs, closed_runs, opened_call_runs, valued_runs, opening_runs}
-use Rattle.gn_functions.specs.declared.function.TargetKind.{TargetKind}
-use Rattle.gn_functions.specs.declared.function.TargetKind.TheVariants.{Built, NotBuilt, NoKind}
 use Rattle.gn_functions.specs.declared.function.Opening.TheVariants.{Item as ItemCall, Target, SetDefaults}
 use Rattle.gn_meaning.proofs.Ends.{Ends, Leaves, Keep, ends_do, moved, keep_ends, fails_so, so_if}
 use Rattle.gn_meaning.proofs.KeptBySteps.{checked_leaves}
@@ -37,7 +36,7 @@ use Rattle.gn_meaning.proofs.KeptBySteps.{checked_leaves}
 
 abbrev pub Before : Opener → Environment → Environment → Type 0
 Before (of_template definition depth) s env = surroundings (at_depth depth env) ≡ s
-Before (of_function (ItemCall kind)) s env = (surroundings env ≡ s) × (env.setting.inside ≡ block.Nothing)
+Before (of_function (ItemCall kind)) s env = (surroundings env ≡ s) × (env.setting.inside ≡ open_around kind)
 Before (of_function Target) s env = surroundings env ≡ s
 Before (of_function SetDefaults) s env = surroundings env ≡ s
 
@@ -50,7 +49,7 @@ before_moved (of_function SetDefaults) s env after h b = h ∙ b
 -- what stands around while the block of the call runs
 
 abbrev pub During : Opened → Environment → Environment → Type 0
-During (opened_item kind name) s env = (env0 : Environment) × (surroundings env0 ≡ s) × (env0.setting.inside ≡ block.Nothing) × (surroundings env ≡ surroundings (entered true (with_open block.Item env0)))
+During (opened_item kind name) s env = (env0 : Environment) × (surroundings env0 ≡ s) × (env0.setting.inside ≡ open_around kind) × (surroundings env ≡ surroundings (entered true (with_open (open_in kind) env0)))
 During (opened_template definition name depth) s env = (env0 : Environment) × (surroundings (at_depth depth env0) ≡ s) × (surroundings env ≡ surroundings (entered true env0))
 During (opened_defaults kind) s env = (env0 : Environment) × (surroundings env0 ≡ s) × (surroundings env ≡ surroundings (entered false env0))
 
@@ -66,23 +65,32 @@ taken_leaves (Err name) p begun env out h = fails_so _ out
 scope_begun_leaves : (kind name : List ℕ) (p : Position) (env : Environment) (out : Effects) → Leaves (surroundings (entered true env)) (scope_begun_runs kind name p env out)
 unfolding scope_begun_runs
 scope_begun_leaves kind name p env out =
-    moved (block_begins_so name env) (taken_leaves (defaults_given kind (block_begins name env)) p (block_begins name env) env out (defaults_given_keep kind (block_begins name env)))
+    moved (block_begins_so name env) (taken_leaves (defaults_given kind (block_begins name env)) p (block_begins name env) (block_begins name env) out (defaults_given_keep kind (block_begins name env)))
+
+item_scope_so : (target : Bool) (name : List ℕ) (env : Environment) → surroundings (if target then block_begins name env else entered true env) ≡ surroundings (entered true env)
+item_scope_so true name env = block_begins_so name env
+item_scope_so false name env = refl
+
+item_scope_begun_leaves : (kind : ItemKind) (kind_name name : List ℕ) (p : Position) (env : Environment) (out : Effects) → Leaves (surroundings (entered true env)) (item_scope_begun_runs kind kind_name name p env out)
+unfolding item_scope_begun_runs
+item_scope_begun_leaves kind kind_name name p env out =
+    moved (item_scope_so (is_target kind) name env) (taken_leaves (defaults_given kind_name (item_scope kind name env)) p (item_scope kind name env) (item_scope kind name env) out (defaults_given_keep kind_name (item_scope kind name env)))
 
 template_begun_so : (s : Environment) (d : DefinitionState) (depth : ℕ) (kind_name name : List ℕ) (p : Position) (env : Environment) (out : Effects) → surroundings (at_depth depth env) ≡ s → Ends (IsOpened s) (template_begun_runs d depth kind_name name p env out)
 unfolding template_begun_runs
 template_begun_so s d depth kind_name name p env out b =
     ends_do _ _ (scope_begun_leaves kind_name name p env out) (λ l h. record { so = (env, b, h) })
 
-item_begun_so : (s : Environment) (kind : ItemKind) (kind_name name : List ℕ) (p : Position) (env : Environment) (out : Effects) → surroundings env ≡ s → env.setting.inside ≡ block.Nothing → Ends (IsOpened s) (item_begun_runs kind kind_name name p env out)
+item_begun_so : (s : Environment) (kind : ItemKind) (kind_name name : List ℕ) (p : Position) (env : Environment) (out : Effects) → surroundings env ≡ s → env.setting.inside ≡ open_around kind → Ends (IsOpened s) (item_begun_runs kind kind_name name p env out)
 unfolding item_begun_runs
 item_begun_so s kind kind_name name p env out b e =
-    ends_do _ _ (scope_begun_leaves kind_name name p (with_open block.Item env) out) (λ l h. record { so = (env, b, e, h) })
+    ends_do _ _ (item_scope_begun_leaves kind kind_name name p (with_open (open_in kind) env) out) (λ l h. record { so = (env, b, e, h) })
 
 template_named_so : (s : Environment) (d : DefinitionState) (depth : ℕ) (v : Val) (call : Call) (env : Environment) (out : Effects) → surroundings (at_depth depth env) ≡ s → Ends (IsOpened s) (template_named_runs d depth v call env out)
 template_named_so s d depth (vstr name) call env out b = template_begun_so s d depth call.name name call.position env out b
 template_named_so s d depth v call env out b = fails_so _ out
 
-item_named_so : (s : Environment) (kind : ItemKind) (v : Val) (call : Call) (env : Environment) (out : Effects) → surroundings env ≡ s → env.setting.inside ≡ block.Nothing → Ends (IsOpened s) (item_named_runs kind v call env out)
+item_named_so : (s : Environment) (kind : ItemKind) (v : Val) (call : Call) (env : Environment) (out : Effects) → surroundings env ≡ s → env.setting.inside ≡ open_around kind → Ends (IsOpened s) (item_named_runs kind v call env out)
 item_named_so s kind (vstr name) call env out b e = item_begun_so s kind call.name name call.position env out b e
 item_named_so s kind v call env out b e = fails_so _ out
 
@@ -94,17 +102,28 @@ nothing_inside block.Toolchain r h = absurd (true≢false (sym h))
 nothing_inside block.Tool r h = absurd (true≢false (sym h))
 nothing_inside block.Arguments r h = absurd (true≢false (sym h))
 
-pub nothing_open : (env : Environment) → allows_items env ≡ true → env.setting.inside ≡ block.Nothing
+nothing_open : (env : Environment) → allows_items env ≡ true → env.setting.inside ≡ block.Nothing
 nothing_open env h = nothing_inside env.setting.inside (is_build_file env.setting.kind) h
 
-target_kind_so : (s : Environment) (kind : TargetKind) (kind_name name : List ℕ) (call : Call) (env : Environment) (out : Effects) → surroundings env ≡ s → Ends (IsOpened s) (target_kind_runs kind kind_name name call env out)
-target_kind_so s (Built kind) kind_name name call env out b = by (allows_items env) refl
+-- a tool's block opens in a toolchain's
+toolchain_inside : (inside : OpenBlock) → is_toolchain inside ≡ true → inside ≡ block.Toolchain
+toolchain_inside block.Toolchain h = refl
+toolchain_inside block.Nothing h = absurd (true≢false (sym h))
+toolchain_inside block.Item h = absurd (true≢false (sym h))
+toolchain_inside block.Tool h = absurd (true≢false (sym h))
+toolchain_inside block.Arguments h = absurd (true≢false (sym h))
+
+pub is_open_around : (kind : ItemKind) (env : Environment) → allows kind env ≡ true → env.setting.inside ≡ open_around kind
+is_open_around kinds.Tool env h = toolchain_inside env.setting.inside h
+is_open_around kind env h = nothing_open env h
+
+target_kind_so : (s : Environment) (kind : Option ItemKind) (kind_name name : List ℕ) (call : Call) (env : Environment) (out : Effects) → surroundings env ≡ s → Ends (IsOpened s) (target_kind_runs kind kind_name name call env out)
+target_kind_so s (Some kind) kind_name name call env out b = by (allows kind env) refl
   where
-    by : (r : Bool) → allows_items env ≡ r → Ends (IsOpened s) (target_kind_runs (Built kind) kind_name name call env out)
-    by true e = rw e (item_begun_so s kind kind_name name call.position env out b (nothing_open env e))
+    by : (r : Bool) → allows kind env ≡ r → Ends (IsOpened s) (target_kind_runs (Some kind) kind_name name call env out)
+    by true e = rw e (item_begun_so s kind kind_name name call.position env out b (is_open_around kind env e))
     by false e = rw e (fails_so _ out)
-target_kind_so s NotBuilt kind_name name call env out b = fails_so _ out
-target_kind_so s NoKind kind_name name call env out b = fails_so _ out
+target_kind_so s None kind_name name call env out b = fails_so _ out
 
 target_of_so : (s : Environment) (d : Option DefinitionState) (n : ℕ) (kind_name name : List ℕ) (call : Call) (env : Environment) (out : Effects) → surroundings env ≡ s → Ends (IsOpened s) (target_of_runs d n kind_name name call env out)
 target_of_so s (Some d) n kind_name name call env out b =
@@ -140,22 +159,22 @@ rows_read_keep [] env = refl
 rows_read_keep (row ∷ rows) env = rows_read_keep rows (after_read (variable_name row.variable) env) ∙ read_keeps (variable_name row.variable) env
 
 made_keeps : (kind : ItemKind) (name : List ℕ) (p : Position) (env : Environment) (r : Result (List (Variable × Held)) ItemFault) → IsDefinedAround env (item_made kind name p env r)
-made_keeps kind name p env (Ok fields) = rows_read_keep (built_rows_of kind) env
+made_keeps kind name p env (Ok fields) = rows_read_keep (rows_of kind) env
 made_keeps kind name p env (Err fault) = tt
 
 defined_keeps : (kind : ItemKind) (name : List ℕ) (p : Position) (env : Environment) → IsDefinedAround env (defined kind name p env)
 unfolding defined
 defined_keeps kind name p env = made_keeps kind name p env (fields_here kind name env)
 
-item_leaves : (r : Result (Item × Environment) Fault) (p : Position) (env0 env : Environment) (out : Effects) → surroundings env ≡ surroundings (entered true (with_open block.Item env0)) → env0.setting.inside ≡ block.Nothing → IsDefinedAround env r → Leaves (surroundings env0) (item_runs r p env out)
-item_leaves (Err fault) p env0 env out h e k = fails_so _ out
-item_leaves (Ok d) p env0 env out h e k =
-    so_if (is_defined d.0.label out) _ _ (fails_so _ out)
-    (checked_leaves (reported_here d.1) _ (with_open block.Nothing (left d.1)) d.1 (with_item d.0 out) (block_ends block.Item block.Nothing env0 (left d.1) (left_keeps true (with_open block.Item env0) d.1 (k ∙ h)) e))
+item_leaves : (kind : ItemKind) (r : Result (Item × Environment) Fault) (p : Position) (env0 env : Environment) (out : Effects) → surroundings env ≡ surroundings (entered true (with_open (open_in kind) env0)) → env0.setting.inside ≡ open_around kind → IsDefinedAround env r → Leaves (surroundings env0) (item_runs kind r p env out)
+item_leaves kind (Err fault) p env0 env out h e k = fails_so _ out
+item_leaves kind (Ok d) p env0 env out h e k =
+    so_if (is_known kind d.0 out) _ _ (fails_so _ out)
+    (checked_leaves (reported_here d.1) _ (with_open (open_around kind) (left d.1)) d.1 (with_defined kind d.0 out) (block_ends (open_in kind) (open_around kind) env0 (left d.1) (left_keeps true (with_open (open_in kind) env0) d.1 (k ∙ h)) e))
 
-item_end_leaves : (kind : ItemKind) (name : List ℕ) (p : Position) (env0 env : Environment) (out : Effects) → surroundings env ≡ surroundings (entered true (with_open block.Item env0)) → env0.setting.inside ≡ block.Nothing → Leaves (surroundings env0) (item_end_runs kind name p env out)
+item_end_leaves : (kind : ItemKind) (name : List ℕ) (p : Position) (env0 env : Environment) (out : Effects) → surroundings env ≡ surroundings (entered true (with_open (open_in kind) env0)) → env0.setting.inside ≡ open_around kind → Leaves (surroundings env0) (item_end_runs kind name p env out)
 unfolding item_end_runs
-item_end_leaves kind name p env0 env out h e = item_leaves (defined kind name p env) p env0 env out h e (defined_keeps kind name p env)
+item_end_leaves kind name p env0 env out h e = item_leaves kind (defined kind name p env) p env0 env out h e (defined_keeps kind name p env)
 
 invoker_checked_so : {s : Environment} (unread : Option (List ℕ × (List ℕ × Position))) (steps : Steps (Option Val)) (env : Environment) (out : Effects) → Leaves s (steps env out) → Leaves s (invoker_checked unread steps env out)
 invoker_checked_so (Some unread) steps env out t = fails_so _ out

@@ -224,4 +224,4 @@ settled_keeps (refuses c number detail) call env out = fails_so _ out
 settled_keeps refuses_values call env out = fails_so _ out
 
 pub plain_keeps : (f : Plain) (vs : List Val) (call : Call) → Keep (plain_runs f vs call)
-plain_keeps f vs call env out = settled_keeps (answer f env.setting vs) call env out
+plain_keeps f vs call env out = settled_keeps (answer f env.setting out.items vs) call env out

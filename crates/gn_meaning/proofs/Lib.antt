@@ -20,4 +20,4 @@ pub mod KeptByBlocks
 pub mod Lists
 pub mod SameRuns
 pub mod SameBlocks
-pub mod Groups
+pub mod Items

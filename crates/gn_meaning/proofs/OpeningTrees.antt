@@ -6,18 +6,16 @@ use Rattle.gn_values.specs.Val.{Val, vstr}
 use Rattle.gn_values.specs.Imported.{DefinitionState}
 use Rattle.gn_rows.specs.declared.kinds.ItemKind.{ItemKind}
 use Rattle.gn_runs.specs.Runs.{Answers}
-use Rattle.gn_environment.specs.declared.context.OpenBlock.TheVariants as block
 use Rattle.gn_environment.specs.Environment.{with_open}
 use Rattle.gn_environment.specs.Templates.{template_of, body_begins}
 use Rattle.gn_meaning.specs.Steps.{Steps}
-use Rattle.gn_meaning.specs.Templates.{allows_items}
+use Rattle.gn_meaning.specs.Calls.{open_in}
+use Rattle.gn_meaning.specs.Templates.{allows}
 use Rattle.gn_functions.specs.Functions.{target_kind_of}
 use Rattle.gn_meaning.specs.OpeningCalls.{Opener, of_template, of_function, Opened, opened_item, opened_template, opened_defaults, template_begun_runs, item_begun_runs, template_named_runs, item_named_runs, target_kind_runs, target_of_runs, target_runs, defaults_begun_runs, begun_runs, body_run, closed_runs, opened_call_runs, valued_runs, opening_runs}
-use Rattle.gn_functions.specs.declared.function.TargetKind.{TargetKind}
-use Rattle.gn_functions.specs.declared.function.TargetKind.TheVariants.{Built, NotBuilt, NoKind}
 use Rattle.gn_functions.specs.declared.function.Opening.TheVariants.{Item, Target, SetDefaults}
 use Rattle.gn_meaning.proofs.Steps.{AreQuiet, AreTrees, tree_do, tree_ends, tree_fails, tree_if}
-use Rattle.gn_meaning.proofs.Calls.{scope_begun_tree, item_end_tree}
+use Rattle.gn_meaning.proofs.Calls.{scope_begun_tree, item_scope_begun_tree, item_end_tree}
 use Rattle.gn_meaning.proofs.Templates.{opened_tree, template_end_tree, defaults_end_tree}
 
 template_begun_tree : (d : DefinitionState) (depth : ℕ) (kind_name name : List ℕ) (p : Position) → AreQuiet (template_begun_runs d depth kind_name name p)
@@ -26,7 +24,7 @@ template_begun_tree d depth kind_name name p env out = tree_do _ _ (scope_begun_
 
 item_begun_tree : (kind : ItemKind) (kind_name name : List ℕ) (p : Position) → AreQuiet (item_begun_runs kind kind_name name p)
 unfolding item_begun_runs
-item_begun_tree kind kind_name name p env out = tree_do _ _ (scope_begun_tree kind_name name p (with_open block.Item env) out) (λ _ env1 out1. tree_ends _ env1 out1)
+item_begun_tree kind kind_name name p env out = tree_do _ _ (item_scope_begun_tree kind kind_name name p (with_open (open_in kind) env) out) (λ _ env1 out1. tree_ends _ env1 out1)
 
 template_named_tree : (d : DefinitionState) (depth : ℕ) (v : Val) (call : Call) → AreQuiet (template_named_runs d depth v call)
 template_named_tree d depth (vstr name) call env out = template_begun_tree d depth call.name name call.position env out
@@ -36,10 +34,9 @@ item_named_tree : (kind : ItemKind) (v : Val) (call : Call) → AreQuiet (item_n
 item_named_tree kind (vstr name) call env out = item_begun_tree kind call.name name call.position env out
 item_named_tree kind v call env out = tree_fails _ out
 
-target_kind_tree : (kind : TargetKind) (kind_name name : List ℕ) (call : Call) → AreQuiet (target_kind_runs kind kind_name name call)
-target_kind_tree (Built kind) kind_name name call env out = tree_if (allows_items env) _ _ (item_begun_tree kind kind_name name call.position env out) (tree_fails _ out)
-target_kind_tree NotBuilt kind_name name call env out = tree_fails _ out
-target_kind_tree NoKind kind_name name call env out = tree_fails _ out
+target_kind_tree : (kind : Option ItemKind) (kind_name name : List ℕ) (call : Call) → AreQuiet (target_kind_runs kind kind_name name call)
+target_kind_tree (Some kind) kind_name name call env out = tree_if (allows kind env) _ _ (item_begun_tree kind kind_name name call.position env out) (tree_fails _ out)
+target_kind_tree None kind_name name call env out = tree_fails _ out
 
 target_of_tree : (d : Option DefinitionState) (n : ℕ) (kind_name name : List ℕ) (call : Call) → AreQuiet (target_of_runs d n kind_name name call)
 target_of_tree (Some d) n kind_name name call env out =

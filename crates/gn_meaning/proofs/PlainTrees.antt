@@ -19,4 +19,4 @@ settled_tree (refuses c number detail) call env out = tree_fails _ out
 settled_tree refuses_values call env out = tree_fails _ out
 
 pub plain_tree : (f : Plain) (vs : List Val) (call : Call) → AreQuiet (plain_runs f vs call)
-plain_tree f vs call env out = settled_tree (answer f env.setting vs) call env out
+plain_tree f vs call env out = settled_tree (answer f env.setting out.items vs) call env out

@@ -8,28 +8,25 @@ use Rattle.gn_values.specs.Imported.{DefinitionState}
 use Rattle.gn_items.specs.Effects.{Effects}
 use Rattle.gn_rows.specs.declared.kinds.ItemKind.{ItemKind}
 use Rattle.gn_runs.specs.Runs.{Answers, Question, End, ended, wrong, spoiled, needs, Run}
-use Rattle.gn_environment.specs.declared.context.OpenBlock.TheVariants as block
 use Rattle.gn_environment.specs.Environment.{Environment, with_open, entered}
 use Rattle.gn_environment.specs.Templates.{template_of, at_depth, body_begins, same_place}
 use Rattle.gn_environment.specs.Surroundings.{surroundings}
 use Rattle.gn_environment.specs.Within.{IsWithin}
 use Rattle.gn_environment.proofs.WithinBodies.{not_found_within}
 use Rattle.gn_meaning.specs.Steps.{Left, Steps, onward, then_do, max_evaluation_depth}
-use Rattle.gn_meaning.specs.Calls.{scope_begun_runs}
-use Rattle.gn_meaning.specs.Templates.{opened_depth, allows_items}
+use Rattle.gn_meaning.specs.Calls.{open_in, scope_begun_runs, item_scope_begun_runs}
+use Rattle.gn_meaning.specs.Templates.{opened_depth, allows}
 use Rattle.gn_functions.specs.Functions.{target_kind_of}
 use Rattle.gn_meaning.specs.ChangingCalls.{begins_with_invoker, changed_runs}
 use Rattle.gn_meaning.specs.PlainCalls.{plain_runs}
 use Rattle.gn_meaning.specs.Contents.{read_file_runs}
 use Rattle.gn_meaning.specs.OpeningCalls.{Opener, of_template, of_function, Opened, opened_item, opened_template, opened_defaults, template_begun_runs, item_begun_runs, template_named_runs, item_named_runs, target_kind_runs, target_of_runs, target_runs, defaults_begun_runs, begun_runs, body_run, closed_runs, opened_call_runs, valued_runs, opening_runs}
-use Rattle.gn_meaning.specs.FunctionCalls.{accepted_runs, template_accepted_runs, Parts, given_runs, changing_runs, function_runs, built_in_runs, template_called_runs, template_or_built_in, called_runs}
+use Rattle.gn_meaning.specs.FunctionCalls.{accepted_runs, template_accepted_runs, is_skipped, unless_skipped, Parts, given_runs, changing_runs, function_runs, built_in_runs, template_called_runs, template_or_built_in, called_runs}
 use Rattle.gn_meaning.specs.TemplateLaws.{AreTheSameBut}
 use Rattle.gn_functions.specs.declared.function.Function.{Function}
 use Rattle.gn_functions.specs.declared.function.Function.TheVariants.{Plain, Changing as OfChanging, Opening, Defined, Foreach, ReadFile}
 use Rattle.gn_functions.specs.declared.function.Changing.{Changing}
 use Rattle.gn_functions.specs.declared.function.Opening.TheVariants.{Item as ItemCall, Target, SetDefaults}
-use Rattle.gn_functions.specs.declared.function.TargetKind.{TargetKind}
-use Rattle.gn_functions.specs.declared.function.TargetKind.TheVariants.{Built, NotBuilt, NoKind}
 use Rattle.gn_meaning.proofs.Ends.{IfEnded, Ends, Leaves, Keep, ends_do, fails_so, so_if}
 use Rattle.gn_meaning.proofs.KeptByOpenings.{Before, During, IsOpened, begun_so, before_moved}
 use Rattle.gn_meaning.proofs.KeptByCalls.{IsReady, IsAccepted, PartsKeep, accepted_so, template_accepted_so}
@@ -48,6 +45,11 @@ module _ {A B : Type 0} (P : Left A → Type 0) (f g : A → Environment → Eff
 
 pub same_behind : {A B : Type 0} (m n : Run (Left A)) (f : A → Environment → Effects → Run (Left B)) → m ≡ n → then_do m f ≡ then_do n f
 same_behind {A} m n f h = ap (λ (r : Run (Left A)). then_do r f) h
+
+-- unless it is skipped
+unless_same : (skipped : Bool) (steps others : Steps (Option Val)) (env : Environment) (out : Effects) → steps env out ≡ others env out → unless_skipped skipped steps env out ≡ unless_skipped skipped others env out
+unless_same true steps others env out h = refl
+unless_same false steps others env out h = h
 
 -- of two things that hold of what is left
 pub both_so : {A : Type 0} (P Q : Left A → Type 0) (run : Run (Left A)) → Ends P run → Ends Q run → Ends (λ (l : Left A). P l × Q l) run
@@ -118,7 +120,7 @@ module _ (outermost inner : DefinitionState) (w : IsWithin outermost inner) wher
   item_begun_other : (kind : ItemKind) (kind_name name : List ℕ) (p : Position) (env : Environment) (out : Effects) → Ends IsOpenedOther (item_begun_runs kind kind_name name p env out)
   unfolding item_begun_runs
   item_begun_other kind kind_name name p env out =
-      ends_do _ _ (anything (scope_begun_runs kind_name name p (with_open block.Item env) out)) (λ l h. record { so = tt })
+      ends_do _ _ (anything (item_scope_begun_runs kind kind_name name p (with_open (open_in kind) env) out)) (λ l h. record { so = tt })
 
   template_named_other : (d : DefinitionState) (depth : ℕ) (v : Val) (call : Call) (env : Environment) (out : Effects) → IsOther d → Ends IsOpenedOther (template_named_runs d depth v call env out)
   template_named_other d depth (vstr name) call env out i = template_begun_other d depth call.name name call.position env out i
@@ -128,11 +130,10 @@ module _ (outermost inner : DefinitionState) (w : IsWithin outermost inner) wher
   item_named_other kind (vstr name) call env out = item_begun_other kind call.name name call.position env out
   item_named_other kind v call env out = fails_so _ out
 
-  target_kind_other : (kind : TargetKind) (kind_name name : List ℕ) (call : Call) (env : Environment) (out : Effects) → Ends IsOpenedOther (target_kind_runs kind kind_name name call env out)
-  target_kind_other (Built kind) kind_name name call env out =
-      so_if (allows_items env) _ _ (item_begun_other kind kind_name name call.position env out) (fails_so _ out)
-  target_kind_other NotBuilt kind_name name call env out = fails_so _ out
-  target_kind_other NoKind kind_name name call env out = fails_so _ out
+  target_kind_other : (kind : Option ItemKind) (kind_name name : List ℕ) (call : Call) (env : Environment) (out : Effects) → Ends IsOpenedOther (target_kind_runs kind kind_name name call env out)
+  target_kind_other (Some kind) kind_name name call env out =
+      so_if (allows kind env) _ _ (item_begun_other kind kind_name name call.position env out) (fails_so _ out)
+  target_kind_other None kind_name name call env out = fails_so _ out
 
   target_of_other : (d : Option DefinitionState) → ((e : DefinitionState) → d ≡ Some e → IsOther e) → (n : ℕ) (kind_name name : List ℕ) (call : Call) (env : Environment) (out : Effects) → Ends IsOpenedOther (target_of_runs d n kind_name name call env out)
   target_of_other (Some d) i n kind_name name call env out =
@@ -215,7 +216,8 @@ module _ (outermost inner : DefinitionState) (w : IsWithin outermost inner) wher
           ap (λ (m : Run (Left (List Val))). then_do m (λ vs env1 out1. plain_runs f vs call env1 out1)) (s.values env out (body_around env0 env r ∙ e))
       function_same (OfChanging f) env0 env out e r = changing_same f env out (body_around env0 env r ∙ e)
       function_same (Opening f) env0 env out e r =
-          opening_same parts.block parts1.block t.block s.block (of_function f) n call parts.values parts1.values t.values s.values env0 env out tt e r
+          unless_same (is_skipped f env) _ _ env out
+          (opening_same parts.block parts1.block t.block s.block (of_function f) n call parts.values parts1.values t.values s.values env0 env out tt e r)
       function_same Defined env0 env out e r = s.tests env out (body_around env0 env r ∙ e)
       function_same Foreach env0 env out e r = s.loops env out (body_around env0 env r ∙ e)
       function_same ReadFile env0 env out e r =

@@ -1,5 +1,6 @@
 -- A call of a function or of a template: what is judged before its arguments, and what it does then.
-use Rattle.std.specs.Prelude.{ℕ, ◌+◌, Bool, true, ◌&&◌, nat_lt, if◌then◌else◌, List, [], ◌∷◌, Option, Some, None, is_some}
+use Rattle.std.specs.Prelude.{ℕ, ◌+◌, Bool, true, false, not, ◌&&◌, nat_lt, if◌then◌else◌, List, [], ◌∷◌, Option, Some, None, is_some}
+use Rattle.std.specs.Str.{bytes_eq}
 use Rattle.gn_tree.specs.declared.position.Position.{Position}
 use Rattle.gn_tree.specs.declared.tree.Call.{Call}
 use Rattle.gn_tree.specs.Counts.{expr_count}
@@ -14,7 +15,7 @@ use Rattle.gn_meaning.specs.Steps.{Steps, then_do, ends}
 use Rattle.gn_meaning.specs.Words.{fails_at}
 use Rattle.gn_meaning.specs.Arguments.{refused_runs}
 use Rattle.gn_meaning.specs.Imports.{max_import_nesting}
-use Rattle.gn_meaning.specs.Templates.{opened_runs, allows_items}
+use Rattle.gn_meaning.specs.Templates.{opened_runs, allows}
 use Rattle.gn_meaning.specs.PlainCalls.{plain_runs}
 use Rattle.gn_meaning.specs.Contents.{read_file_runs}
 use Rattle.gn_meaning.specs.ChangingCalls.{begins_with_invoker, changed_runs}
@@ -25,8 +26,11 @@ use Rattle.gn_functions.specs.declared.rule.Rule.{Rule}
 use Rattle.gn_functions.specs.declared.rule.Allowed.{Allowed}
 use Rattle.gn_functions.specs.declared.rule.Allowed.TheVariants.{Everywhere, WhereItems}
 use Rattle.gn_functions.specs.declared.function.Function.{Function}
-use Rattle.gn_functions.specs.declared.function.Function.TheVariants.{Plain, Changing as OfChanging, Opening, Defined, Foreach, ReadFile}
+use Rattle.gn_functions.specs.declared.function.Function.TheVariants.{Plain, Changing as OfChanging, Opening as OfOpening, Defined, Foreach, ReadFile}
 use Rattle.gn_functions.specs.declared.function.Changing.{Changing}
+use Rattle.gn_functions.specs.declared.function.Opening.{Opening}
+use Rattle.gn_functions.specs.declared.function.Opening.TheVariants.{Item}
+use Rattle.gn_rows.specs.declared.kinds.ItemKind.TheVariants.{Toolchain}
 use Rattle.gn_functions.specs.declared.function.Named.{Named}
 use Rattle.gn_functions.specs.declared.function.Named.TheVariants.{Function as OfFunction, Excluded, Unknown}
 
@@ -34,7 +38,7 @@ use Rattle.gn_functions.specs.declared.function.Named.TheVariants.{Function as O
 
 abbrev pub allowed_here : Allowed → Environment → Bool
 allowed_here Everywhere env = true
-allowed_here WhereItems env = allows_items env
+allowed_here (WhereItems kind) env = allows kind env
 
 -- whether the call is allowed here, takes its arguments and its block, and doesn't nest too deep, where it is one that may
 unfoldable pub ruled_runs : Function → Rule → ℕ → Call → Steps Function
@@ -71,6 +75,15 @@ pub record Parts : Type 0 where
   pub block : Steps (Unit {0})
   pub reads : ExprTree → Steps Val
 
+-- a toolchain is skipped under another toolchain than the default one: neither its arguments nor its block are evaluated
+abbrev pub is_skipped : Opening → Environment → Bool
+is_skipped (Item Toolchain) env = not (bytes_eq env.setting.context.toolchain env.setting.context.default_toolchain)
+is_skipped _ env = false
+
+abbrev pub unless_skipped : Bool → Steps (Option Val) → Steps (Option Val)
+unless_skipped true steps env out = ends None env out
+unless_skipped false steps env out = steps env out
+
 -- the values of the arguments that are evaluated
 abbrev pub given_runs : Bool → Parts → Steps (List Val)
 given_runs invoker parts env out = if invoker then parts.others env out else parts.values env out
@@ -84,7 +97,8 @@ changing_runs answers f inside call parts env out =
 unfoldable pub function_runs : Answers → (DefinitionState → Position → Steps (Unit {0})) → Function → (nesting inside : ℕ) → Call → Parts → Steps (Option Val)
 function_runs answers body (Plain f) nesting inside call parts env out = then_do (parts.values env out) (λ vs env1 out1. plain_runs f vs call env1 out1)
 function_runs answers body (OfChanging f) nesting inside call parts env out = changing_runs answers f inside call parts env out
-function_runs answers body (Opening f) nesting inside call parts env out = opening_runs body (of_function f) nesting call parts.values parts.block env out
+function_runs answers body (OfOpening f) nesting inside call parts env out =
+    unless_skipped (is_skipped f env) (opening_runs body (of_function f) nesting call parts.values parts.block) env out
 function_runs answers body Defined nesting inside call parts env out = parts.tests env out
 function_runs answers body Foreach nesting inside call parts env out = parts.loops env out
 function_runs answers body ReadFile nesting inside call parts env out =

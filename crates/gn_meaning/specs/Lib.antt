@@ -3,6 +3,7 @@ pub mod Words
 pub mod Items
 pub mod Arguments
 pub mod Calls
+pub mod Outputs
 pub mod PlainCalls
 pub mod Pieces
 pub mod Templates

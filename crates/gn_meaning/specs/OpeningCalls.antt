@@ -6,17 +6,14 @@ use Rattle.gn_values.specs.Val.{Val, vstr}
 use Rattle.gn_values.specs.Imported.{DefinitionState}
 use Rattle.gn_faults.specs.declared.code.Code.TheVariants as code
 use Rattle.gn_rows.specs.declared.kinds.ItemKind.{ItemKind}
-use Rattle.gn_environment.specs.declared.context.OpenBlock.TheVariants as block
 use Rattle.gn_environment.specs.Environment.{with_open, entered}
 use Rattle.gn_environment.specs.Templates.{template_of, body_begins}
 use Rattle.gn_meaning.specs.Steps.{Steps, then_do, ends}
 use Rattle.gn_meaning.specs.Words.{fails_at}
 use Rattle.gn_meaning.specs.Arguments.{at_argument, refused_runs}
-use Rattle.gn_meaning.specs.Calls.{scope_begun_runs, item_end_runs}
-use Rattle.gn_meaning.specs.Templates.{opened_runs, template_end_runs, allows_items, defaults_end_runs}
+use Rattle.gn_meaning.specs.Calls.{open_in, scope_begun_runs, item_scope_begun_runs, item_end_runs}
+use Rattle.gn_meaning.specs.Templates.{opened_runs, template_end_runs, allows, defaults_end_runs}
 use Rattle.gn_functions.specs.Functions.{target_kind_of}
-use Rattle.gn_functions.specs.declared.function.TargetKind.{TargetKind}
-use Rattle.gn_functions.specs.declared.function.TargetKind.TheVariants.{Built, NotBuilt, NoKind}
 use Rattle.gn_functions.specs.declared.function.Opening.{Opening}
 use Rattle.gn_functions.specs.declared.function.Opening.TheVariants.{Item, Target, SetDefaults}
 
@@ -39,7 +36,7 @@ template_begun_runs definition depth kind_name name position env out =
 
 unfoldable pub item_begun_runs : ItemKind → List ℕ → List ℕ → Position → Steps Opened
 item_begun_runs kind kind_name name position env out =
-    then_do (scope_begun_runs kind_name name position (with_open block.Item env) out) (λ _ env1 out1. ends (opened_item kind name) env1 out1)
+    then_do (item_scope_begun_runs kind kind_name name position (with_open (open_in kind) env) out) (λ _ env1 out1. ends (opened_item kind name) env1 out1)
 
 -- a call of a template and of an item, with its one value
 abbrev pub template_named_runs : DefinitionState → ℕ → Val → Call → Steps Opened
@@ -51,11 +48,10 @@ item_named_runs kind (vstr name) call env out = item_begun_runs kind call.name n
 item_named_runs kind _ call env out = fails_at code.BadTypes (at_argument call 0) [] env out
 
 -- `target`, where no template has the name of its kind
-abbrev pub target_kind_runs : TargetKind → List ℕ → List ℕ → Call → Steps Opened
-target_kind_runs (Built kind) kind_name name call env out =
-    if allows_items env then item_begun_runs kind kind_name name call.position env out else fails_at code.NotAllowedHere call.position (kind_name ∷ []) env out
-target_kind_runs NotBuilt kind_name name call env out = fails_at code.Excluded call.position (kind_name ∷ []) env out
-target_kind_runs NoKind kind_name name call env out = fails_at code.BadArguments call.position (call.name ∷ []) env out
+abbrev pub target_kind_runs : Option ItemKind → List ℕ → List ℕ → Call → Steps Opened
+target_kind_runs (Some kind) kind_name name call env out =
+    if allows kind env then item_begun_runs kind kind_name name call.position env out else fails_at code.NotAllowedHere call.position (kind_name ∷ []) env out
+target_kind_runs None kind_name name call env out = fails_at code.BadArguments call.position (call.name ∷ []) env out
 
 -- `target`: the call of the template of that name, or else of that kind of target
 abbrev pub target_of_runs : Option DefinitionState → ℕ → List ℕ → List ℕ → Call → Steps Opened

@@ -1,5 +1,5 @@
--- Plain calls: those that need nothing but the values of their arguments and where they stand. Each is one definition from values to an answer, and
--- one line here.
+-- Plain calls: those that need nothing but the values of their arguments, where they stand and what has been defined before. Each is one definition from
+-- values to an answer, and one line here.
 use Rattle.std.specs.Prelude.{ℕ, Bool, true, false, if◌then◌else◌, List, [], ◌∷◌, ◌++◌, Option, Some, None, option_map, Result, Ok, Err, codes}
 use Rattle.std.specs.List.{flat_map, join_by}
 use Rattle.gn_paths.specs.declared.error.PathFault.{PathFault}
@@ -14,16 +14,18 @@ use Rattle.gn_faults.specs.declared.code.Code.TheVariants as code
 use Rattle.gn_calls_text.specs.Answers as text_calls
 use Rattle.gn_calls_text.specs.Answers.{texts_in}
 use Rattle.gn_calls_text.specs.Calls.{text_call}
-use Rattle.gn_calls_path.specs.declared.place.Where.{Where}
 use Rattle.gn_calls_path.specs.Calls.{path_call}
+use Rattle.gn_items.specs.declared.item.Item.{Item}
 use Rattle.gn_items.specs.Effects.{with_print, with_written}
 use Rattle.gn_environment.specs.Environment.{Setting}
 use Rattle.gn_meaning.specs.Steps.{Steps, ends}
 use Rattle.gn_meaning.specs.Words.{fails_at}
 use Rattle.gn_meaning.specs.Arguments.{at_argument, refused_runs}
 use Rattle.gn_meaning.specs.Imports.{place_here, path_code}
+use Rattle.gn_meaning.specs.Items.{where_here}
+use Rattle.gn_meaning.specs.Outputs.{target_outputs}
 use Rattle.gn_functions.specs.declared.function.Plain.{Plain}
-use Rattle.gn_functions.specs.declared.function.Plain.TheVariants.{Assert, Print, WriteFile, Text, Path}
+use Rattle.gn_functions.specs.declared.function.Plain.TheVariants.{Assert, Print, WriteFile, Text, Path, TargetOutputs}
 
 -- what a plain call answers: a value, nothing, a printed line, a file that is written, or a refusal with its code and details, at the argument of this
 -- number, counted from 0, or at the name of the call; or it doesn't take these values, which is refused as a wrong number of arguments is
@@ -85,23 +87,14 @@ abbrev pub settled_of : text_calls.Settled → Settled
 settled_of (text_calls.gives v) = gives v
 settled_of (text_calls.refuses c number) = refusal c number
 
--- where a call on paths and labels stands
-abbrev pub where_here : Setting → Where
-where_here setting = record {
-  directory = setting.directory;
-  toolchain = setting.context.toolchain;
-  default_toolchain = setting.context.default_toolchain;
-  build = setting.context.build_directory;
-  root = setting.context.source_root;
-}
-
--- what the call answers to these values where it stands
-unfoldable pub answer : Plain → Setting → List Val → Settled
-answer Assert setting vs = assert_answer vs
-answer Print setting vs = prints (line_of vs)
-answer WriteFile setting vs = write_answer setting vs
-answer (Text f) setting vs = settled_of (text_call f vs)
-answer (Path f) setting vs = settled_of (path_call f (where_here setting) vs)
+-- what the call answers to these values where it stands, and where these items have been defined
+unfoldable pub answer : Plain → Setting → List Item → List Val → Settled
+answer Assert setting items vs = assert_answer vs
+answer Print setting items vs = prints (line_of vs)
+answer WriteFile setting items vs = write_answer setting vs
+answer (Text f) setting items vs = settled_of (text_call f vs)
+answer (Path f) setting items vs = settled_of (path_call f (where_here setting) vs)
+answer TargetOutputs setting items vs = settled_of (target_outputs setting items vs)
 
 -- where a refusal stands
 abbrev pub refused_position : Option ℕ → Call → Position
@@ -119,4 +112,4 @@ settled_runs (refuses c number detail) call env out = fails_at c (refused_positi
 settled_runs refuses_values call env out = refused_runs call env out
 
 abbrev pub plain_runs : Plain → List Val → Call → Steps (Option Val)
-plain_runs f vs call env out = settled_runs (answer f env.setting vs) call env out
+plain_runs f vs call env out = settled_runs (answer f env.setting out.items vs) call env out

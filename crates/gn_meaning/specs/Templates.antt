@@ -7,7 +7,9 @@ use Rattle.gn_faults.specs.declared.code.Code.TheVariants as code
 use Rattle.gn_faults.specs.declared.file_kind.FileKind.{FileKind}
 use Rattle.gn_faults.specs.declared.file_kind.FileKind.TheVariants.{BuildFile, Import}
 use Rattle.gn_environment.specs.declared.context.OpenBlock.{OpenBlock}
-use Rattle.gn_environment.specs.declared.context.OpenBlock.TheVariants.{Nothing}
+use Rattle.gn_rows.specs.declared.kinds.ItemKind.{ItemKind}
+use Rattle.gn_rows.specs.declared.kinds.ItemKind.TheVariants.{Tool}
+use Rattle.gn_environment.specs.declared.context.OpenBlock.TheVariants.{Nothing, Toolchain}
 use Rattle.gn_environment.specs.Environment.{Environment, reported_here}
 use Rattle.gn_environment.specs.Templates.{has_template_here, template_defined, defaults_set, at_depth, body_ends, reported_by_invoker}
 use Rattle.gn_environment.specs.Faults.{fault_in}
@@ -52,6 +54,15 @@ is_inside _ = true
 
 abbrev pub allows_items : Environment → Bool
 allows_items env = if is_inside env.setting.inside then false else is_build_file env.setting.kind
+
+-- a tool is defined in the block of a toolchain, and all else where items are
+abbrev pub is_toolchain : OpenBlock → Bool
+is_toolchain Toolchain = true
+is_toolchain _ = false
+
+abbrev pub allows : ItemKind → Environment → Bool
+allows Tool env = is_toolchain env.setting.inside
+allows _ env = allows_items env
 
 -- `set_defaults`: its block has run in a scope of its own, which ends
 unfoldable pub defaults_end_runs : List ℕ → Steps (Option Val)

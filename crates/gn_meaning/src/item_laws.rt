@@ -1,19 +1,15 @@
-// What the blocks of items define, and of which kinds items are called.
+// What the blocks of items define.
 
-ghost use Rattle.gn_meaning.specs.ItemLaws.{GroupsAreTheirDeps, CallsAreOfGroups, TargetsAreGroups};
+ghost use Rattle.gn_meaning.specs.ItemLaws.{ItemsAreTheirBlocks};
 
-use gn_define::built_groups_are_their_deps;
+use gn_define::{demands_are_met, fields_are_of_the_block};
 
-/// A group is its `deps`: its name has to be one of a label, then `deps` a list of strings without a newline and a NUL, or
-/// without a value. They are read, and nothing else is.
-pub fn groups_are_their_deps()
-    ensures { GroupsAreTheirDeps }
+/// An item that is defined is what its block says: it has a field for just those variables of its kind that have a value where
+/// its block ends, in the order of the table, and each field is what that value is read as; all that its kind demands is met; and
+/// behind its definition just the names of its table are read, each once and in order.
+pub fn items_are_their_blocks()
+    ensures { ItemsAreTheirBlocks }
 {
-    built_groups_are_their_deps();
+    fields_are_of_the_block();
+    demands_are_met();
 }
-
-/// No item but a group is called, by its name or by `target`.
-pub fn groups_alone_are_called()
-    ensures calls { CallsAreOfGroups }
-    ensures targets { TargetsAreGroups }
-{}
