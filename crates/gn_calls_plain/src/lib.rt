@@ -3,6 +3,7 @@
 #![tactic(auto)]
 
 mod contents;
+mod outputs;
 mod plain;
 mod writes;
 

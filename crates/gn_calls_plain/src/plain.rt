@@ -1,4 +1,4 @@
-// Plain calls: those that need nothing but the values of their arguments and where they stand.
+// Plain calls: those that need nothing but the values of their arguments, where they stand and what has been defined before.
 
 ghost use Rattle.std.specs.Prelude.{◌≡◌, [], ◌∷◌, Some, None, false, IfOk, OnOk, map, option_map, codes};
 ghost use Rattle.std.specs.List.{join_by};
@@ -9,19 +9,22 @@ ghost use Rattle.gn_calls_text.specs.Calls.{text_call};
 ghost use Rattle.gn_calls_path.specs.Calls.{path_call};
 ghost use Rattle.gn_items.specs.Effects.{with_written};
 ghost use Rattle.gn_meaning.specs.Imports.{place_here};
-ghost use Rattle.gn_meaning.specs.PlainCalls.{refuses, wrong_type, assert_answer, line_of, refusal, settled_of, where_here, answer, refused_position, settled_runs, plain_runs};
+ghost use Rattle.gn_meaning.specs.Items.{where_here};
+ghost use Rattle.gn_meaning.specs.Outputs.{target_outputs};
+ghost use Rattle.gn_meaning.specs.PlainCalls.{refuses, wrong_type, assert_answer, line_of, refusal, settled_of, answer, refused_position, settled_runs, plain_runs};
 ghost use Rattle.gn_steps.specs.Ends.{IsFault, IsStep};
 ghost use Rattle.gn_calls_plain.specs.Answers.{settled_view};
 
+use crate::outputs::get_target_outputs;
 use crate::writes::answer_write;
 use gn_calls_path::{PathCall, Where, call_path};
 use gn_calls_text::{CallError, TextCall, call_text};
 use gn_env::Env;
 use gn_faults::Code;
 use gn_functions::Plain;
-use gn_items::{Outcome, Written};
+use gn_items::{Item, Outcome, Written};
 use gn_paths::{Path, Text, Texts};
-use gn_steps::{StepEnd, argument_position, place_here, refuse};
+use gn_steps::{StepEnd, argument_position, place_here, refuse, where_here};
 use gn_tree::{Call, Position};
 use gn_values::{Value, print_text};
 use std::alloc::{AllocError, Global};
@@ -133,19 +136,6 @@ fn answer_text(alloc: Global, call: TextCall, values: &[Value]) -> Result<Settle
     }
 }
 
-// Where a call on paths and labels stands.
-fn where_here(alloc: Global, env: &Env) -> Result<Where, AllocError>
-    ensures { IfOk result (λ w. w ≡ where_here env.now.setting) }
-{
-    Ok(Where {
-        directory: env.directory().copy(alloc)?,
-        toolchain: env.context().toolchain.copy(alloc)?,
-        default_toolchain: env.context().default_toolchain.copy(alloc)?,
-        build: env.context().build_directory.copy(alloc)?,
-        root: env.context().source_root.copy(alloc)?,
-    })
-}
-
 // What a call on paths and labels answers to these values where it stands.
 fn answer_path(
     alloc: Global,
@@ -175,15 +165,32 @@ fn answer_path_here(
     answer_path(alloc, call, values, &at)
 }
 
-// What the call answers to these values where it stands.
+// What `get_target_outputs` answers to these values, where these items have been defined.
+fn answer_outputs(
+    alloc: Global,
+    values: &[Value],
+    env: &Env,
+    items: &[Item],
+) -> Result<Settled, AllocError>
+    ensures { IfOk result (λ s. settled_view s ≡ settled_of (target_outputs env.now.setting items.now (map val_of values.now))) }
+{
+    match get_target_outputs(alloc, values, env, items) {
+        Ok(value) => Ok(Settled::Value(value)),
+        Err(CallError::Refused { code, argument }) => Ok(refusal(alloc, code, argument)),
+        Err(CallError::Memory) => Err(AllocError),
+    }
+}
+
+// What the call answers to these values where it stands, and where these items have been defined.
 #[tactic(auto, unfolding(gn_meaning::specs::PlainCalls::answer))]
 fn answer_plain(
     alloc: Global,
     plain: Plain,
     values: &[Value],
     env: &Env,
+    items: &[Item],
 ) -> Result<Settled, AllocError>
-    ensures { IfOk result (λ s. settled_view s ≡ answer plain env.now.setting (map val_of values.now)) }
+    ensures { IfOk result (λ s. settled_view s ≡ answer plain env.now.setting items.now (map val_of values.now)) }
 {
     match plain {
         Plain::Assert => answer_assert(alloc, values),
@@ -191,6 +198,7 @@ fn answer_plain(
         Plain::WriteFile => answer_write(alloc, values, env),
         Plain::Text(call) => answer_text(alloc, call, values),
         Plain::Path(call) => answer_path_here(alloc, call, values, env),
+        Plain::TargetOutputs => answer_outputs(alloc, values, env, items),
     }
 }
 
@@ -277,6 +285,6 @@ pub fn apply_plain(
 ) -> Result<Option<Value>, StepEnd>
     ensures { IsStep (option_map val_of) result env.now out.new (plain_runs plain (map val_of values.now) call.now env.now out.old) }
 {
-    let settled = answer_plain(alloc, plain, values, env)?;
+    let settled = answer_plain(alloc, plain, values, env, out.items())?;
     settle(alloc, settled, call, env, out)
 }

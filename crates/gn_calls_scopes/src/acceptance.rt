@@ -3,16 +3,17 @@
 ghost use Rattle.std.specs.Prelude.{◌≡◌, is_some};
 ghost use Rattle.gn_tree.specs.Counts.{expr_count};
 ghost use Rattle.gn_items.specs.Effects.{Effects};
-ghost use Rattle.gn_meaning.specs.FunctionCalls.{allowed_here, ruled_runs, accepted_runs, template_accepted_runs};
+ghost use Rattle.gn_meaning.specs.FunctionCalls.{allowed_here, ruled_runs, accepted_runs, template_accepted_runs, is_skipped};
 ghost use Rattle.gn_functions.specs.Rules.{takes, rule_of};
 ghost use Rattle.gn_steps.specs.Ends.{IsStep};
 
 use crate::imports::allows_import;
-use crate::items::allows_items;
+use crate::items::allows;
 use crate::templates::open_call;
 use gn_env::Env;
 use gn_faults::Code;
-use gn_functions::{Allowed, Function, Named, Rule};
+use gn_functions::{Allowed, Function, Named, Opening, Rule};
+use gn_items::ItemKind;
 use gn_steps::{StepEnd, refuse, wrong, wrong_with};
 use gn_tree::Call;
 use std::alloc::Global;
@@ -23,7 +24,7 @@ fn is_allowed(allowed: Allowed, env: &Env) -> bool
 {
     match allowed {
         Allowed::Everywhere => true,
-        Allowed::WhereItems => allows_items(env),
+        Allowed::WhereItems(kind) => allows(kind, env),
     }
 }
 
@@ -95,5 +96,19 @@ pub fn accept_template(
     match open_call(alloc, nesting, call.position, env) {
         Ok(()) => Ok(depth),
         Err(end) => Err(end),
+    }
+}
+
+/// Whether the call of a function that opens a scope is skipped whole, so that neither its arguments nor its block are evaluated:
+/// that of a toolchain is, under another toolchain than the default one.
+pub fn is_skipped(opening: Opening, env: &Env) -> bool
+    ensures { result ≡ is_skipped opening env.now }
+{
+    match opening {
+        Opening::Item(ItemKind::Toolchain) => {
+            let context = env.context();
+            context.toolchain != context.default_toolchain
+        }
+        _ => false,
     }
 }

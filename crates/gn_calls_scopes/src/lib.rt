@@ -10,7 +10,7 @@ mod openings;
 mod selections;
 mod templates;
 
-pub use acceptance::{accept, accept_template};
+pub use acceptance::{accept, accept_template, is_skipped};
 pub use definer::{DefineError, Definer};
 pub use imports::{merge_import, resolve_import};
 pub use openings::{Opened, Opener, begin_call, end_call};

@@ -10,11 +10,11 @@ ghost use Rattle.gn_steps.specs.Ends.{IsStep};
 ghost use Rattle.gn_calls_scopes.specs.Openings.{opener_view, opened_view};
 
 use crate::definer::Definer;
-use crate::items::{allows_items, begin_item, begin_scope, end_item};
+use crate::items::{allows, begin_item, begin_scope, end_item};
 use crate::templates::{end_defaults, end_template, open_call};
 use gn_env::Env;
 use gn_faults::Code;
-use gn_functions::{Opening, TargetKind};
+use gn_functions::{Opening, target_kind};
 use gn_items::{ItemKind, Outcome};
 use gn_paths::Text;
 use gn_steps::{StepEnd, argument_position, refuse, wrong, wrong_with};
@@ -90,7 +90,7 @@ fn begin_item_of(
     ensures runs { (out : Effects) → IsStep opened_view result env.new out (item_begun_runs kind kind_name.now name.now position env.old out) }
 {
     let given = name.copy(alloc)?;
-    begin_item(alloc, kind_name, name, position, env)?;
+    begin_item(alloc, kind, kind_name, name, position, env)?;
     Ok(Opened::Item { kind, name: given })
 }
 
@@ -104,19 +104,12 @@ fn begin_target_kind(
 ) -> Result<Opened, StepEnd>
     ensures runs { (out : Effects) → IsStep opened_view result env.new out (target_kind_runs (target_kind_of kind_name.now) kind_name.now name.now call.now env.old out) }
 {
-    let refusal = match TargetKind::named(kind_name.as_bytes()) {
-        TargetKind::Built(kind) if allows_items(env) => {
+    let refusal = match target_kind(kind_name.as_bytes()) {
+        Some(kind) if allows(kind, env) => {
             return begin_item_of(alloc, kind, kind_name, name, call.position, env);
         }
-        TargetKind::Built(_) => wrong_with(
-            alloc,
-            env,
-            Code::NotAllowedHere,
-            call.position,
-            kind_name,
-        ),
-        TargetKind::NotBuilt => wrong_with(alloc, env, Code::Excluded, call.position, kind_name),
-        TargetKind::NoKind => refuse(alloc, call, env),
+        Some(_) => wrong_with(alloc, env, Code::NotAllowedHere, call.position, kind_name),
+        None => refuse(alloc, call, env),
     };
     Err(refusal)
 }
@@ -229,7 +222,7 @@ fn begin_defaults(
 
 /// Opens the scope in which the block of the call runs, with the values of its arguments; its name nests so deep in its file.
 /// `Wrong` has `BadTypes` at the argument of a wrong type; then, at the call of `target`, `Nesting` of the template that it
-/// calls, or `NotAllowedHere`, `Excluded` or `BadArguments` of the kind that it names; then `AlreadySet` at the call with the
+/// calls, or `NotAllowedHere` or `BadArguments` of the kind that it names; then `AlreadySet` at the call with the
 /// first default that is set already; and `BadArguments` at the call for another number of values than it takes.
 #[tactic(auto, unfolding(gn_meaning::specs::OpeningCalls::begun_runs))]
 pub fn begin_call(

@@ -23,7 +23,9 @@ use crate::reading::run_read_file;
 use crate::special_calls::{run_defined, run_foreach};
 use crate::statements::run_statements;
 use gn_calls_plain::apply_plain;
-use gn_calls_scopes::{Definer, Opened, Opener, accept, accept_template, begin_call, end_call};
+use gn_calls_scopes::{
+    Definer, Opened, Opener, accept, accept_template, begin_call, end_call, is_skipped,
+};
 use gn_env::Env;
 use gn_faults::Code;
 use gn_functions::{Changing, Function, Plain};
@@ -114,6 +116,9 @@ fn run_function<L: Library + Definer>(
             run_changing(alloc, level, changing, call, env, out, library)
         }
         Function::Opening(opening) => {
+            if is_skipped(opening, env) {
+                return Ok(None);
+            }
             let opener = Opener::Function(opening);
             run_opening(alloc, level, opener, call, env, out, library)
         }

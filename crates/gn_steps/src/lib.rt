@@ -5,9 +5,11 @@
 mod arguments;
 mod faults;
 mod places;
+mod standing;
 mod step;
 
 pub use arguments::{argument_position, begins_with_invoker, evaluated, refuse};
 pub use faults::{no_effect, no_effect_in, refused, refused_element, wrong, wrong_with};
 pub use places::{path_code, place_here};
+pub use standing::{context_here, where_here};
 pub use step::StepEnd;
