@@ -1,6 +1,8 @@
 -- The set of labels that an ordered set keeps is the list of labels in label order.
 use Rattle.std.proofs.Common.{◌≡◌, ℕ, Bool, true, false, cond, List, [], ◌∷◌, ◌++◌, map, length, take, get_or, ◌+◌, ◌<◌, arith, refl, sym, ap, ◌∙◌}
-use Rattle.std.proofs.lemmas.List.{take_more}
+use Rattle.std.proofs.lemmas.Grind.{flat_map-append}
+use Rattle.std.proofs.lemmas.List.{take_more, append-nil}
+use Rattle.std.proofs.lemmas.List.Concat.{flat_map-cons}
 use Rattle.std.specs.Prelude.{Some}
 use Rattle.std.specs.declared.cmp.Ordering.{Ordering}
 use Rattle.std.specs.declared.cmp.Ordering.TheVariants.{Less, Equal, Greater}
@@ -14,8 +16,9 @@ use Rattle.gn_basics.proofs.Orders.{then_equal}
 use Rattle.gn_labels.specs.declared.label.Label.{Label}
 use Rattle.gn_labels.specs.Labels.{toolchain_key, order_key}
 use Rattle.gn_labels.specs.contracts.label.LabelOrd.TheImpl.{cmp-value}
+use Rattle.gn_rows.specs.Names.{is_target}
 use Rattle.gn_items.specs.declared.item.Item.{Item}
-use Rattle.gn_top.specs.Labels.{label_cmp, entries_of, in_label_order, labels_of}
+use Rattle.gn_top.specs.Labels.{label_cmp, entries_of, in_label_order, label_if_target, labels_of, with_target}
 
 -- the order of texts, and of lists of texts
 text_cmp : List ℕ → List ℕ → Ordering
@@ -105,15 +108,24 @@ nothing (x ∷ es) e = absurd (omega arith)
 pub none_ordered : in_label_order [] ≡ []
 none_ordered = ap (map (λ (e : Label × Unit {0}). e.0)) (nothing (entries (empty {X = Unit {0}} {R = label_cmp})) (sym (len-entries (empty {X = Unit {0}} {R = label_cmp})) ∙ len-empty label_cmp (Unit {0})))
 
-labels-push : (items : List Item) (item : Item) → labels_of (items ++ item ∷ []) ≡ labels_of items ++ item.label ∷ []
-labels-push [] item = refl
-labels-push (first ∷ items) item = ap (λ (rest : List Label). first.label ∷ rest) (labels-push items item)
+labels-push : (items : List Item) (item : Item) → labels_of (items ++ item ∷ []) ≡ labels_of items ++ label_if_target item
+labels-push items item =
+    flat_map-append label_if_target items (item ∷ [])
+    ∙ ap (λ (rest : List Label). labels_of items ++ rest) (flat_map-cons label_if_target item [] ∙ append-nil (label_if_target item))
+
+-- an item more among labels in order
+with_one : (labels : List Label) (item : Item) → in_label_order (labels ++ label_if_target item) ≡ with_target label_cmp item (in_label_order labels)
+with_one labels item = by (is_target item.kind)
+  where
+    by : (b : Bool) → in_label_order (labels ++ cond b (item.label ∷ []) []) ≡ cond b (insert_key label_cmp (in_label_order labels) item.label) (in_label_order labels)
+    by true = one_more_label labels item.label
+    by false = ap in_label_order (append-nil labels)
 
 -- an item more
 pub one_more_item : (items : List Item) (index : ℕ) (item : Item) (ordered after : List Label) → index < length items → item ≡ get_or items index item
-    → ordered ≡ in_label_order (labels_of (take index items)) → after ≡ insert_key cmp-value.it ordered item.label
+    → ordered ≡ in_label_order (labels_of (take index items)) → after ≡ with_target cmp-value.it item ordered
     → after ≡ in_label_order (labels_of (take (index + 1) items))
 one_more_item items index item ordered after within here before put =
     let more : take (index + 1) items ≡ take index items ++ item ∷ [] = take_more items index item within ∙ ap (λ (x : Item). take index items ++ x ∷ []) (sym here) in
-    put ∙ (λ i. insert_key (order_is i) (before i) item.label) ∙ sym (one_more_label (labels_of (take index items)) item.label)
+    put ∙ (λ i. with_target (order_is i) item (before i)) ∙ sym (with_one (labels_of (take index items)) item)
     ∙ ap in_label_order (sym (ap labels_of more ∙ labels-push (take index items) item))

@@ -1,7 +1,7 @@
-// The labels of items, as they are listed.
+// The labels of targets, as they are listed.
 
 ghost use Rattle.std.specs.Prelude.{◌≡◌, ◌++◌, OnOk, IfOk};
-ghost use Rattle.gn_top.specs.Labels.{in_label_order, labels_of, label_line, listing};
+ghost use Rattle.gn_top.specs.Labels.{in_label_order, labels_of, with_target, label_line, listing};
 
 use gn_items::Item;
 use gn_labels::Label;
@@ -9,7 +9,7 @@ use gn_paths::Text;
 use std::alloc::{AllocError, Global};
 use std::collections::BTreeSet;
 
-/// Puts the labels of items at the end, each once, in label order, one a line.
+/// Puts the labels of the targets among items at the end, each once, in label order, one a line.
 #[tactic(auto, unfolding(crate::specs::Labels::listing))]
 pub fn append_labels(alloc: Global, text: &mut Vec<u8>, items: &[Item]) -> Result<(), AllocError>
     ensures { OnOk result (text.new.items ≡ text.old.items ++ listing items.now) }
@@ -31,13 +31,23 @@ fn append_label(alloc: Global, text: &mut Vec<u8>, label: &Label) -> Result<(), 
     Ok(())
 }
 
-// The labels of items, each once, in label order.
+// Puts the label of an item in that is a target.
+fn put_label(alloc: Global, labels: &mut BTreeSet<Label>, item: &Item) -> Result<(), AllocError>
+    ensures { OnOk result (labels.new.keys ≡ with_target ⟦<Label as Ord>⟧.cmp item.now labels.old.keys) }
+{
+    if item.kind.is_target() {
+        labels.insert(item.label.copy(alloc)?)?;
+    }
+    Ok(())
+}
+
+// The labels of the targets among items, each once, in label order.
 fn labels_of(alloc: Global, items: &[Item]) -> Result<BTreeSet<Label>, AllocError>
     ensures { IfOk result (λ labels. labels.keys ≡ in_label_order (labels_of items.now)) }
 {
     let mut labels = BTreeSet::new(alloc);
     for item in items {
-        labels.insert(item.label.copy(alloc)?)?;
+        put_label(alloc, &mut labels, item)?;
     }
     Ok(labels)
 }

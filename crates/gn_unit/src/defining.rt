@@ -1,20 +1,20 @@
 // The definition of items.
 
 ghost use Rattle.std.specs.Prelude.{◌≡◌, Ok, Err, IfOk, IfErr, OnOk, option_map};
-ghost use Rattle.gn_rows.specs.Tables.{built_rows_of};
+ghost use Rattle.gn_rows.specs.Tables.{rows_of};
 ghost use Rattle.gn_define.specs.Faults.{IsItemFault};
-ghost use Rattle.gn_define.specs.Fields.{entries_of};
-ghost use Rattle.gn_meaning.specs.Items.{defined, item_here, context_here, fields_here, rows_read, texts_shown, item_fault};
+ghost use Rattle.gn_meaning.specs.Items.{defined, label_here, item_here, fields_here, rows_read, texts_shown, item_fault};
 ghost use Rattle.gn_calls_scopes.specs.Definitions.{IfWrong};
 
-use gn_define::{Block, DefineError as FieldsError, Fields, ItemFault, Where, define};
+use gn_define::{Block, DefineError as FieldsError, Fields, ItemFault, define};
 use gn_env::Env;
 use gn_eval::DefineError;
 use gn_faults::Fault;
-use gn_items::{Item, ItemKind};
+use gn_items::{Item, ItemKind, Tools};
 use gn_labels::Label;
 use gn_paths::{Place, Text, Texts};
-use gn_rows::{Row, built_rows_of};
+use gn_rows::{Row, rows_of};
+use gn_steps::context_here;
 use gn_tree::Position;
 use gn_values::Value;
 use std::alloc::{AllocError, Global};
@@ -35,7 +35,7 @@ impl Block for EndedBlock<'_> {
     }
 }
 
-/// The item of this kind and name whose block has ended, by what is built of its kind; the names of its rows count as read
+/// The item of this kind and name whose block has ended, by the rows of its kind; the names of these count as read
 /// from then on. `Wrong` has the first fault, and comes exactly where there is one, but for want of memory.
 #[tactic(auto, unfolding(gn_meaning::specs::Items::defined))]
 pub fn define_item(
@@ -49,7 +49,7 @@ pub fn define_item(
     ensures wrong { IfErr result (λ e. IfWrong e (λ fault. defined kind name.now position env.old ≡ Err fault)) }
 {
     match fields_here(alloc, kind, name, env) {
-        Ok(_fields) => item_read(alloc, kind, name, env, position),
+        Ok(fields) => item_read(alloc, kind, name, env, position, fields),
         Err(FieldsError::Wrong(fault)) => Err(wrong(alloc, kind, name, env, position, fault)),
         Err(FieldsError::Memory) => Err(DefineError::Memory),
     }
@@ -57,20 +57,14 @@ pub fn define_item(
 
 // The fields of the item, by the rows of its kind.
 fn fields_here(alloc: Global, kind: ItemKind, name: &Text, env: &Env) -> Result<Fields, FieldsError>
-    ensures ok { IfOk result (λ r. fields_here kind name.now env.now ≡ Ok (entries_of r.entries.items)) }
+    ensures ok { IfOk result (λ r. fields_here kind name.now env.now ≡ Ok r) }
     ensures wrong { IfErr result (λ e. IsItemFault e (fields_here kind name.now env.now)) }
 {
     let Ok(context) = context_here(alloc, kind, env) else {
         return Err(FieldsError::Memory);
     };
     let block = EndedBlock { env };
-    define(
-        alloc,
-        &context,
-        built_rows_of(kind),
-        name.as_bytes(),
-        &block,
-    )
+    define(alloc, &context, rows_of(kind), name.as_bytes(), &block)
 }
 
 // The item, once the names of its rows count as read.
@@ -80,52 +74,54 @@ fn item_read(
     name: &Text,
     env: &mut Env,
     position: Position,
+    fields: Fields,
 ) -> Result<Item, DefineError>
-    ensures item { IfOk result (λ item. item ≡ item_here env.old.setting kind name.now position) }
-    ensures read { OnOk result (env.new ≡ rows_read (built_rows_of kind) env.old) }
+    ensures item { IfOk result (λ item. item ≡ item_here env.old.setting kind name.now position fields) }
+    ensures read { OnOk result (env.new ≡ rows_read (rows_of kind) env.old) }
     ensures memory { IfErr result (λ e. e ≡ DefineError.Memory) }
 {
-    let item = item_here(alloc, kind, name, env, position)?;
-    read_rows(env, built_rows_of(kind));
+    let item = item_here(alloc, kind, name, env, position, fields)?;
+    read_rows(env, rows_of(kind));
     Ok(item)
 }
 
-// Where the item is defined. No row that is built asks for the output directory of the toolchain: the build directory
-// stands for it.
-fn context_here(alloc: Global, kind: ItemKind, env: &Env) -> Result<Where, AllocError>
-    ensures { IfOk result (λ w. w ≡ context_here env.now.setting kind) }
+// The label of an item of this name, which stands in the current directory.
+fn label_here(alloc: Global, name: &Text, env: &Env) -> Result<Label, AllocError>
+    ensures { IfOk result (λ label. label ≡ label_here env.now.setting name.now) }
 {
-    Ok(Where {
-        kind,
-        directory: env.directory().copy(alloc)?,
-        toolchain: env.context().toolchain.copy(alloc)?,
-        build: env.context().build_directory.copy(alloc)?,
-        out: env.context().build_directory.copy(alloc)?,
+    let dir = env.directory().copy(alloc)?;
+    let name = name.copy(alloc)?;
+    let toolchain = env.context().toolchain.copy(alloc)?;
+    Ok(Label {
+        dir,
+        name,
+        toolchain,
     })
 }
 
-// The item of this name, whose label stands in the current directory.
+// The item of this name with these fields.
 fn item_here(
     alloc: Global,
     kind: ItemKind,
     name: &Text,
     env: &Env,
     position: Position,
+    fields: Fields,
 ) -> Result<Item, AllocError>
-    ensures { IfOk result (λ item. item ≡ item_here env.now.setting kind name.now position) }
+    ensures { IfOk result (λ item. item ≡ item_here env.now.setting kind name.now position fields) }
 {
+    let label = label_here(alloc, name, env)?;
+    let file = env.file().copy(alloc)?;
     Ok(Item {
         kind,
-        label: Label {
-            dir: env.directory().copy(alloc)?,
-            name: name.copy(alloc)?,
-            toolchain: env.context().toolchain.copy(alloc)?,
-        },
+        label,
         place: Place {
-            file: env.file().copy(alloc)?,
+            file,
             line: position.line,
             column: position.column,
         },
+        fields,
+        tools: Tools::new(alloc),
     })
 }
 

@@ -1,7 +1,4 @@
-use Rattle.std.proofs.Common.{◌∙◌, sym, ap}
-use Rattle.std.specs.BTreeSet.{insert_key}
-use Rattle.gn_labels.specs.declared.label.Label.{Label}
-use Rattle.gn_labels.specs.contracts.label.LabelOrd.TheImpl.{cmp-value}
+use Rattle.std.proofs.Common.{◌∙◌, sym}
 use Rattle.gn_top.proofs.OrderLemmas.{one_more_item, none_ordered}
 use Rattle.gn_top.proofs.labels.labels_of.Goals as goal
 
@@ -10,6 +7,5 @@ loop-item-init c = c.new-labels.ensures.empty ∙ sym none_ordered
 
 pub loop-item-preserved : goal.loop-item-preserved
 loop-item-preserved c =
-    one_more_item c.args.items.now c.loop-item.item-index c.item-item.result c.loop-item.labels.keys c.insert.new.self.keys c.loop-item-test.true c.item-item.is
-    c.loop-item.invariant
-    (c.in_ok-insert.ensures.keys ∙ ap (λ (l : Label). insert_key cmp-value.it c.loop-item.labels.keys l) c.in_ok-copy.ensures)
+    one_more_item c.args.items.now c.loop-item.item-index c.item-item.result c.loop-item.labels.keys c.put_label.new.labels.keys c.loop-item-test.true c.item-item.is
+    c.loop-item.invariant c.in_ok-put_label.ensures
