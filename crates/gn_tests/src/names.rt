@@ -1,10 +1,10 @@
 // Names of functions and of kinds of targets.
 
-use gn_functions::{Changing, Function, Named, Opening, Plain, TargetKind};
+use gn_functions::{Changing, Function, Named, Opening, Plain, target_kind};
 use gn_items::ItemKind;
 use std::test::Fail;
 
-static FUNCTIONS: [(&[u8], Named); 22] = [
+static FUNCTIONS: [(&[u8], Named); 23] = [
     (b"assert", Named::Function(Function::Plain(Plain::Assert))),
     (b"defined", Named::Function(Function::Defined)),
     (b"foreach", Named::Function(Function::Foreach)),
@@ -42,8 +42,18 @@ static FUNCTIONS: [(&[u8], Named); 22] = [
         b"write_file",
         Named::Function(Function::Plain(Plain::WriteFile)),
     ),
-    (b"action", Named::Excluded),
-    (b"executable", Named::Excluded),
+    (
+        b"executable",
+        Named::Function(Function::Opening(Opening::Item(ItemKind::Executable))),
+    ),
+    (
+        b"config",
+        Named::Function(Function::Opening(Opening::Item(ItemKind::Config))),
+    ),
+    (
+        b"tool",
+        Named::Function(Function::Opening(Opening::Item(ItemKind::Tool))),
+    ),
     (b"getenv", Named::Excluded),
     (b"path_exists", Named::Excluded),
     (b"groups", Named::Unknown),
@@ -53,23 +63,23 @@ static FUNCTIONS: [(&[u8], Named); 22] = [
     (b"", Named::Unknown),
 ];
 
-static KINDS: [(&[u8], TargetKind); 8] = [
-    (b"group", TargetKind::Built(ItemKind::Group)),
-    (b"action", TargetKind::NotBuilt),
-    (b"source_set", TargetKind::NotBuilt),
-    (b"static_library", TargetKind::NotBuilt),
-    (b"config", TargetKind::NoKind),
-    (b"generated_file", TargetKind::NoKind),
-    (b"template", TargetKind::NoKind),
-    (b"", TargetKind::NoKind),
+static KINDS: [(&[u8], Option<ItemKind>); 8] = [
+    (b"group", Some(ItemKind::Group)),
+    (b"action", Some(ItemKind::Action)),
+    (b"source_set", Some(ItemKind::SourceSet)),
+    (b"static_library", Some(ItemKind::StaticLibrary)),
+    (b"config", None),
+    (b"generated_file", None),
+    (b"template", None),
+    (b"", None),
 ];
 
 fn calls(row: &(&[u8], Named)) -> bool {
     Named::of(row.0) == row.1
 }
 
-fn is_kind(row: &(&[u8], TargetKind)) -> bool {
-    TargetKind::named(row.0) == row.1
+fn is_kind(row: &(&[u8], Option<ItemKind>)) -> bool {
+    target_kind(row.0) == row.1
 }
 
 #[test]
