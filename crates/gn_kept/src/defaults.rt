@@ -3,9 +3,10 @@
 ghost use Rattle.std.specs.Prelude.{◌≡◌, map, option_map};
 ghost use Rattle.gn_environment.specs.Templates.{defaults_among};
 
+use gn_definitions::KeptScope;
 use gn_layers::Layer;
 use gn_paths::Text;
-use gn_values::{Bindings, KeptScope};
+use gn_values::Bindings;
 use std::collections::VecDeque;
 use std::sync::Arc;
 

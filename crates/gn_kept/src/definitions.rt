@@ -5,8 +5,8 @@ ghost use Rattle.std.specs.List.{list_any};
 ghost use Rattle.gn_environment.specs.Imports.{same_definition};
 ghost use Rattle.gn_environment.specs.Templates.{same_place, standing_in};
 
+use gn_definitions::Definition;
 use gn_paths::Place;
-use gn_values::Definition;
 use std::alloc::{AllocError, Global};
 use std::sync::Arc;
 

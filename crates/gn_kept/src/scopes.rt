@@ -5,9 +5,10 @@ ghost use Rattle.gn_values.specs.View.{val_of};
 ghost use Rattle.gn_environment.specs.Environment.{fixed_value, kept_by};
 ghost use Rattle.gn_layers.specs.Kept.{kept_scope};
 
+use gn_definitions::{Definition, KeptScope};
 use gn_layers::Laid;
 use gn_paths::Text;
-use gn_values::{Definition, KeptScope, Value};
+use gn_values::Value;
 use std::alloc::{AllocError, Global};
 use std::sync::Arc;
 

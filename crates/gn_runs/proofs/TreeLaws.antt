@@ -2,7 +2,7 @@
 use Rattle.std.proofs.Common.{◌≡◌, ℕ, List, Option, Some, None, inl, inr, refl, sym, ◌∙◌, ap, subst}
 use mathlib.Core.Path.{fun_ext}
 use Rattle.gn_paths.specs.declared.place.Place.{Place}
-use Rattle.gn_values.specs.Imported.{ImportState}
+use Rattle.gn_definitions.specs.Imported.{ImportState}
 use Rattle.gn_runs.specs.Runs.{Question, content_of, import_of, Content, Imported, has_value, is_unusable, Answers, End, spoiled, needs, Run, asking_content, asking_import, Tree, leaf, fault_leaf, asks_content, asks_import, run_tree, IsTree}
 use Rattle.gn_runs.specs.Laws.{Below, IsUnknown, Agree, IsSettled, IsAsked, StaysSettled, StaysInNeed, AsksMore, NeedsUnknown, AsksKnown, SpoiledByUnusable, UnusableSpoils, DependsOnAsked}
 use Rattle.gn_runs.proofs.Trees.{asked_first}

@@ -2,7 +2,7 @@
 
 ghost use Rattle.gn_runs.specs.Laws.{StaysSettled, StaysInNeed, AsksMore, NeedsUnknown, AsksKnown, SpoiledByUnusable, UnusableSpoils, DependsOnAsked};
 ghost use Rattle.gn_runs.specs.Runs.{Answers, Run, IsTree};
-ghost use Rattle.gn_values.specs.Imported.{ImportState};
+ghost use Rattle.gn_definitions.specs.Imported.{ImportState};
 
 /// More answers change no run but one whose need they meet, and what was asked is asked still.
 pub fn more_answers_keep_runs()

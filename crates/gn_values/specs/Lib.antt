@@ -10,7 +10,4 @@ pub mod Text
 pub mod Falls
 pub mod Members
 pub mod Assigning
-pub mod Imported
-pub mod ImportedCode
 pub mod Tables
-pub mod TakenOut

@@ -51,6 +51,14 @@ impl Bindings {
         }
     }
 
+    /// Entries that stand in the order of their names. It takes no memory.
+    pub(crate) fn from_vec(entries: Vec<Entry>) -> Bindings
+        requires { IsSortedByName (map entry_of entries.items) }
+        ensures { result ≡ map entry_of entries.items }
+    {
+        Bindings { entries }
+    }
+
     /// The names and their values, in the order of the names. It takes no memory.
     pub fn into_vec(self) -> Vec<Entry>
         ensures value { map entry_of result.items ≡ self }

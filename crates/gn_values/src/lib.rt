@@ -4,9 +4,7 @@
 mod bindings;
 mod comparison;
 mod error;
-mod import_value;
 mod integers;
-mod kept;
 mod limits;
 mod operators;
 mod shared;
@@ -15,8 +13,6 @@ mod value;
 pub use bindings::{Bindings, Overrides};
 pub use comparison::Compare;
 pub use error::{ElementError, ValueError};
-pub use import_value::{ImportValue, MadeBy};
-pub use kept::{Definition, DefinitionName, Definitions, KeptScope};
 pub use limits::{MAX_BYTES, MAX_DEPTH, MAX_ITEMS, append_text};
 pub use operators::{add, compare, index, subtract};
 pub use value::{Entries, Entry, Items, Value, print_text};

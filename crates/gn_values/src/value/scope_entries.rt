@@ -13,7 +13,7 @@ use crate::shared::Shared;
 use crate::value::search::{depth_of_entries, find_entry, set_shared};
 use crate::value::{Entries, Entry, Value};
 use gn_paths::Text;
-use std::alloc::Global;
+use std::alloc::{AllocError, Global};
 
 impl Entries {
     /// The empty scope. It takes no memory.
@@ -41,6 +41,13 @@ impl Entries {
         }
         let entries = Shared::from_vec(entries)?;
         Ok(Entries { entries, depth })
+    }
+
+    /// Copies of the names and values of the scope.
+    pub fn to_bindings(&self) -> Result<Bindings, AllocError>
+        ensures { IfOk result (λ bindings. bindings ≡ self.now) }
+    {
+        Ok(Bindings::from_vec(self.entries.copies()?))
     }
 
     /// Whether the scope has no entries.

@@ -1,7 +1,7 @@
 use Rattle.std.proofs.Common.{Some, option_map, sym, ap, ◌∙◌}
 use Rattle.std.proofs.lemmas.Map.Made.{lookup-map_values}
 use Rattle.gn_values.specs.Tables.{at_name}
-use Rattle.gn_values.proofs.import_value.MadeBy.get.Goals as goal
+use Rattle.gn_definitions.proofs.import_value.MadeBy.get.Goals as goal
 
 pub returns-in-Some : goal.returns-in-Some
 returns-in-Some c =

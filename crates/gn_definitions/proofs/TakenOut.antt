@@ -2,7 +2,7 @@
 use Rattle.std.proofs.Common.{◌≡◌, ℕ, List, [], ◌∷◌, ◌++◌, None, refl, ap, ◌∙◌}
 use Rattle.std.specs.Cmp.Lexicographic.{nat_list_cmp_total}
 use Rattle.gn_values.specs.Tables.{Table, at_name, with_name, without_name}
-use Rattle.gn_values.specs.TakenOut.{without_names}
+use Rattle.gn_definitions.specs.TakenOut.{without_names}
 use Rattle.gn_basics.proofs.Tables.{new_gone}
 
 pub without_names-push : {A : Type 0} (names : List (List ℕ)) (name : List ℕ) (table : Table A) → without_names (names ++ name ∷ []) table ≡ without_names names (without_name name table)

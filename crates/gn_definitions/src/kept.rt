@@ -3,9 +3,9 @@
 ghost use Rattle.std.specs.Prelude.{◌≡◌, ◌↔◌, ◌++◌, [], ◌∷◌, ◌<◌, IsTrue, IfOk, OnOk, OnErr, length, option_map, slice_get, Some};
 ghost use Rattle.gn_tree.specs.Depth.{IsShallow};
 
-use crate::bindings::Bindings;
 use gn_paths::{Place, Text};
 use gn_tree::Block;
+use gn_values::Bindings;
 use std::alloc::{AllocError, Global};
 use std::collections::BTreeMap;
 use std::marker::Model;
@@ -44,8 +44,8 @@ pub struct KeptScope {
 }
 
 impl Model for KeptScope {
-    ghost use Rattle.gn_values.specs.Imported.{ScopeState};
-    ghost use Rattle.gn_values.specs.ImportedCode.{scope_code};
+    ghost use Rattle.gn_definitions.specs.Imported.{ScopeState};
+    ghost use Rattle.gn_definitions.specs.ImportedCode.{scope_code};
 
     ghost Value = { ScopeState };
 
@@ -105,8 +105,8 @@ pub struct Definition {
 
 impl Model for Definition {
     ghost use Rattle.gn_tree.specs.Depth.{IsShallow};
-    ghost use Rattle.gn_values.specs.Imported.{DefinitionState};
-    ghost use Rattle.gn_values.specs.ImportedCode.{definition_code};
+    ghost use Rattle.gn_definitions.specs.Imported.{DefinitionState};
+    ghost use Rattle.gn_definitions.specs.ImportedCode.{definition_code};
 
     ghost Value = { DefinitionState };
 
@@ -186,8 +186,8 @@ pub struct Definitions {
 impl Model for Definitions {
     ghost use Rattle.std.specs.Prelude.{List, map};
     ghost use Rattle.std.specs.Coded.{coded_list};
-    ghost use Rattle.gn_values.specs.Imported.{DefinitionState};
-    ghost use Rattle.gn_values.specs.ImportedCode.{definition_code};
+    ghost use Rattle.gn_definitions.specs.Imported.{DefinitionState};
+    ghost use Rattle.gn_definitions.specs.ImportedCode.{definition_code};
 
     ghost Value = { List DefinitionState };
 

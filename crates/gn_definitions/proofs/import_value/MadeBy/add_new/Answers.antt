@@ -1,8 +1,8 @@
 use Rattle.std.proofs.Common.{◌≡◌, None, arith}
 use Rattle.std.proofs.lemmas.Grind.{common_steps}
 use Rattle.gn_values.specs.Tables.{at_name}
-use Rattle.gn_values.proofs.TakenOut.{one_more_added}
-use Rattle.gn_values.proofs.import_value.MadeBy.add_new.Goals as goal
+use Rattle.gn_definitions.proofs.TakenOut.{one_more_added}
+use Rattle.gn_definitions.proofs.import_value.MadeBy.add_new.Goals as goal
 
 pub returns-clause-back : goal.returns-clause-back
 returns-clause-back c =

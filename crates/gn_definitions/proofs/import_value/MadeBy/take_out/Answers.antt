@@ -1,7 +1,7 @@
 use Rattle.std.proofs.Common.{sym, ap, ◌∙◌}
-use Rattle.gn_values.specs.TakenOut.{without_names}
-use Rattle.gn_values.proofs.TakenOut.{without_names-push}
-use Rattle.gn_values.proofs.import_value.MadeBy.take_out.Goals as goal
+use Rattle.gn_definitions.specs.TakenOut.{without_names}
+use Rattle.gn_definitions.proofs.TakenOut.{without_names-push}
+use Rattle.gn_definitions.proofs.import_value.MadeBy.take_out.Goals as goal
 
 pub loop-execution-preserved : goal.loop-execution-preserved
 loop-execution-preserved c =

@@ -3,7 +3,7 @@ use Rattle.std.specs.Prelude.{ℕ, List}
 use Rattle.gn_paths.specs.declared.place.Place.{Place}
 use Rattle.gn_tree.specs.Tree.{BlockTree}
 use Rattle.gn_values.specs.Val.{Val}
-use Rattle.gn_values.specs.declared.kept.DefinitionName.{DefinitionName}
+use Rattle.gn_definitions.specs.declared.kept.DefinitionName.{DefinitionName}
 
 -- a scope that is kept: its variables, its templates by the names of their definitions, and the defaults of each kind of call, each in the order
 -- of the names

@@ -6,8 +6,8 @@ use Rattle.gn_tree.specs.Tree.{BlockTree}
 use Rattle.gn_tree.specs.Code.{block_code}
 use Rattle.gn_values.specs.Val.{Val}
 use Rattle.gn_values.specs.ValCode.{val_code}
-use Rattle.gn_values.specs.declared.kept.DefinitionName.{DefinitionName}
-use Rattle.gn_values.specs.Imported.{ScopeState, DefinitionState, MadeBy, ImportState}
+use Rattle.gn_definitions.specs.declared.kept.DefinitionName.{DefinitionName}
+use Rattle.gn_definitions.specs.Imported.{ScopeState, DefinitionState, MadeBy, ImportState}
 
 abbrev text_code : Coded (List ℕ)
 text_code = coded_list coded_ℕ

@@ -2,7 +2,7 @@
 
 ghost use Rattle.std.specs.Prelude.{◌≡◌, [], IfOk, OnOk, OnErr, option_map};
 ghost use Rattle.gn_values.specs.Tables.{at_name, with_name, with_new_name, with_new_names, without_name};
-ghost use Rattle.gn_values.specs.TakenOut.{without_names};
+ghost use Rattle.gn_definitions.specs.TakenOut.{without_names};
 
 use crate::kept::{Definitions, KeptScope};
 use gn_paths::Text;
@@ -19,8 +19,8 @@ pub struct MadeBy {
 
 impl Model for MadeBy {
     ghost use Rattle.std.specs.Prelude.{map};
-    ghost use Rattle.gn_values.specs.Imported.{MadeBy as MadeByState};
-    ghost use Rattle.gn_values.specs.ImportedCode.{made_code};
+    ghost use Rattle.gn_definitions.specs.Imported.{MadeBy as MadeByState};
+    ghost use Rattle.gn_definitions.specs.ImportedCode.{made_code};
 
     ghost Value = { MadeByState };
 
@@ -161,8 +161,8 @@ pub struct ImportValue {
 }
 
 impl Model for ImportValue {
-    ghost use Rattle.gn_values.specs.Imported.{ImportState};
-    ghost use Rattle.gn_values.specs.ImportedCode.{import_code};
+    ghost use Rattle.gn_definitions.specs.Imported.{ImportState};
+    ghost use Rattle.gn_definitions.specs.ImportedCode.{import_code};
 
     ghost Value = { ImportState };
 
@@ -192,6 +192,13 @@ impl ImportValue {
         ensures { result.now ≡ self.now.scope }
     {
         &self.scope
+    }
+
+    /// The same, shared.
+    pub fn shared_scope(&self) -> Result<Arc<KeptScope>, AllocError>
+        ensures { IfOk result (λ s. s.value ≡ self.now.scope) }
+    {
+        Ok(self.scope.clone()?)
     }
 
     /// The definitions of templates.

@@ -2,7 +2,7 @@ use Rattle.std.proofs.Common.{ap, ◌∙◌}
 use Rattle.gn_values.specs.Tables.{with_name}
 use Rattle.gn_basics.proofs.Orders.{order}
 use Rattle.gn_basics.proofs.Tables.{seen, insert_entry-seen}
-use Rattle.gn_values.proofs.import_value.MadeBy.set.Goals as goal
+use Rattle.gn_definitions.proofs.import_value.MadeBy.set.Goals as goal
 
 pub returns-clause-ok : goal.returns-clause-ok
 returns-clause-ok c =

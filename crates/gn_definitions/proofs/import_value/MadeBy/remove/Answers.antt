@@ -1,7 +1,7 @@
 use Rattle.std.proofs.Common.{ap, ◌∙◌}
 use Rattle.gn_values.specs.Tables.{without_name}
 use Rattle.gn_basics.proofs.Tables.{seen, remove_entry-seen}
-use Rattle.gn_values.proofs.import_value.MadeBy.remove.Goals as goal
+use Rattle.gn_definitions.proofs.import_value.MadeBy.remove.Goals as goal
 
 pub returns : goal.returns
 returns c =
