@@ -10,7 +10,7 @@ use Rattle.gn_tree.specs.declared.piece.Piece.TheVariants as piece
 use Rattle.gn_tree.specs.declared.piece.Subscript.{Subscript}
 use Rattle.gn_tokens.specs.Bytes.{IsIdentifier, is_letter, is_hex_digit, is_escapable, begins, begins_with, front_word, past_word, is_name}
 use Rattle.gn_tokens.specs.Number.{IsInteger, begins_run, run_len, is_integer}
-use Rattle.gn_tokens.specs.Text.{Item, Plain, Escape, Hex, Variable, Braced, Element, Field, item_bytes, Reads, AllExpand, IsItem, IsString, is_stop, expands, is_braced, is_braced_end, is_hex, index_len, closes_behind, front_index, first_or_zero, braced_item, hex_item, expansion_item, front_item, items_from, text_items, placed, string_items}
+use Rattle.gn_tokens.specs.Text.{Item, Plain, Escape, Hex, Variable, Braced, Element, Field, item_bytes, Reads, AllExpand, IsItem, IsString, is_stop, expands, is_braced, is_braced_end, is_hex, index_len, closes_behind, front_index, first_or_zero, braced_item, hex_item, expansion_item, front_item, items_from, items_skip, text_items, placed, string_items}
 use Rattle.gn_grammar.specs.Position.{further}
 use Rattle.gn_grammar.specs.Pieces.{byte_before, item_before, pieces_from, pieces_of, subscript_of}
 use Rattle.gn_syntax.specs.Literals.{run_before, run_pieces, meaning, IsPiece, Expands, IsRest, Took, Stepped, IsWritten, IsBraced}
@@ -52,11 +52,6 @@ took_piece position item p before run after run2 e f h = record {
 }
 
 -- Items one after the other.
-items_skip : (n : ℕ) (bs : List ℕ) → items_from n bs ≡ items_from 0 (drop n bs)
-items_skip zero bs = refl
-items_skip (suc n) [] = refl
-items_skip (suc n) (b ∷ bs) = items_skip n bs
-
 abbrev len_of : ℕ → List ℕ → ℕ
 len_of b bs = length (item_bytes (front_item b bs))
 

@@ -1,7 +1,7 @@
 -- A string is its items.
 use Rattle.std.proofs.Common.{◌≡◌, ℕ, ◌+◌, ◌-◌, false, List, [], ◌∷◌, length, drop, sym, ◌∙◌, ap, subst, arith, drop_at}
-use Rattle.gn_tokens.specs.Text.{IsString, Reads, AllExpand, is_stop, text_len, text_items, placed, string_items, front_item, item_bytes}
-use Rattle.gn_tokens.proofs.Texts.{items_skip, IsRead, IsJudged, read}
+use Rattle.gn_tokens.specs.Text.{IsString, Reads, AllExpand, is_stop, text_len, text_items, placed, string_items, front_item, item_bytes, items_skip}
+use Rattle.gn_tokens.proofs.Texts.{IsRead, IsJudged, read}
 use Rattle.gn_tokens.proofs.Unique.{passed}
 
 pub string_reads : (text : List ℕ) → IsString (34 ∷ text) → Reads (text_items text) text (34 ∷ []) × AllExpand (text_items text)

@@ -4,7 +4,7 @@ use Rattle.std.proofs.lemmas.Bool.{cases_Bool}
 use Rattle.std.proofs.lemmas.Bool.Decides.{eqb_tells, nat_tests}
 use Rattle.std.proofs.lemmas.List.Elements.{All-cons, All-tail, All-nil}
 use Rattle.gn_tokens.specs.Bytes.{is_escapable, begins}
-use Rattle.gn_tokens.specs.Text.{Item, Plain, Escape, Hex, Variable, Braced, Element, Field, item_bytes, IsExpansion, IsLone, IsItem, Reads, AllExpand, expands, is_stop, text_len, further, first_bad, expansion_item, front_item, items_from, text_items}
+use Rattle.gn_tokens.specs.Text.{Item, Plain, Escape, Hex, Variable, Braced, Element, Field, item_bytes, IsExpansion, IsLone, IsItem, Reads, AllExpand, expands, is_stop, text_len, further, first_bad, expansion_item, front_item, items_from, items_skip, text_items}
 use Rattle.gn_tokens.proofs.Expansions.{is_ordinary, AllOrdinary, Splits, expands_sound, expands_complete, behind_first, expansion_ordinary, dollar_first}
 
 -- What the scans say of bytes that are passed over.
@@ -48,11 +48,6 @@ len_no_escape (b ∷ bs) h = rw h refl
 pub bad_no_escape : (bs : List ℕ) → begins is_escapable bs ≡ false → first_bad true bs ≡ first_bad false bs
 bad_no_escape [] h = refl
 bad_no_escape (b ∷ bs) h = rw h refl
-
-pub items_skip : (n : ℕ) (bs : List ℕ) → items_from n bs ≡ items_from 0 (drop n bs)
-items_skip zero bs = refl
-items_skip (suc n) [] = refl
-items_skip (suc n) (b ∷ bs) = items_skip n bs
 
 pub items_step : (b : ℕ) (bs : List ℕ) (item : Item) (later : List ℕ) → is_stop b ≡ false → front_item b bs ≡ item → 1 ≤ length (item_bytes item) → b ∷ bs ≡ item_bytes item ++ later →
     text_items (b ∷ bs) ≡ item ∷ text_items later

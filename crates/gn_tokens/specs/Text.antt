@@ -1,5 +1,5 @@
 -- How the bytes of a string are read: as items.
-use Rattle.std.specs.Prelude.{◌≡◌, ◌≢◌, ℕ, zero, suc, ◌+◌, ◌-◌, Bool, true, false, not, ◌||◌, ◌&&◌, ◌==◌, if◌then◌else◌, List, [], ◌∷◌, ◌++◌, length, take, drop, Option, Some, None, All, IsTrue, ◌⊎◌}
+use Rattle.std.specs.Prelude.{◌≡◌, ◌≢◌, refl, ℕ, zero, suc, ◌+◌, ◌-◌, Bool, true, false, not, ◌||◌, ◌&&◌, ◌==◌, if◌then◌else◌, List, [], ◌∷◌, ◌++◌, length, take, drop, Option, Some, None, All, IsTrue, ◌⊎◌}
 use Rattle.std.specs.List.{prefix_len}
 use Rattle.gn_tokens.specs.Bytes.{is_letter, is_word_byte, is_hex_digit, is_escapable, begins, begins_with, IsIdentifier, front_word, past_word, is_name}
 use Rattle.gn_tokens.specs.Number.{IsInteger, integer_len}
@@ -176,6 +176,12 @@ abbrev pub items_from : ℕ → List ℕ → List Item
 items_from skip [] = []
 items_from zero (b ∷ bs) = if is_stop b then [] else front_item b bs ∷ items_from (length (item_bytes (front_item b bs)) - 1) bs
 items_from (suc skip) (b ∷ bs) = items_from skip bs
+
+-- which are those of the rest
+pub items_skip : (n : ℕ) (bs : List ℕ) → items_from n bs ≡ items_from 0 (drop n bs)
+items_skip zero bs = refl
+items_skip (suc n) [] = refl
+items_skip (suc n) (b ∷ bs) = items_skip n bs
 
 -- the items of a text, which is the bytes behind the opening quote of a string
 abbrev pub text_items : List ℕ → List Item
