@@ -9,7 +9,7 @@ use Rattle.gn_runs.specs.Laws.{Below, IsSettled, IsAsked}
 use Rattle.gn_runs.proofs.TreeLaws.{import_path, tree_stays_settled, tree_asks_known}
 use Rattle.gn_imports.specs.Rounds.{Project, final}
 use Rattle.gn_imports.specs.Asked.{asked_by, asked_behind, asked_through, all_asked}
-use Rattle.gn_imports.specs.Loading.{IsOneOf, IsWrong, IsProject, set_at}
+use Rattle.gn_imports.specs.Projects.{IsOneOf, IsWrong, IsProject, set_at}
 use Rattle.gn_imports.proofs.Counts.{Within, known_of, known_le, known_same}
 use Rattle.gn_imports.proofs.Sets.{set_cases, set_here}
 

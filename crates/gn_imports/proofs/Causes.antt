@@ -2,13 +2,13 @@
 use Rattle.std.proofs.Common.{◌≡◌, ℕ, suc, zero, ◌+◌, ◌-◌, ◌≤◌, ◌<◌, length, List, ◌∷◌, Option, Some, None, refl, sym, ◌∙◌, ap, subst, ◌⊎◌, inl, inr, arith, false, zero-add, suc-add}
 use Rattle.std.proofs.lemmas.Option.{same_Some}
 use Rattle.gn_paths.specs.declared.place.Place.{Place}
-use Rattle.gn_values.specs.Imported.{ImportState}
+use Rattle.gn_definitions.specs.Imported.{ImportState}
 use Rattle.gn_faults.specs.declared.fault.Fault.{Fault}
 use Rattle.gn_runs.specs.Runs.{content_of, import_of, is_absent, is_unusable, End, ended, wrong, spoiled, needs}
 use Rattle.gn_runs.proofs.TreeLaws.{tree_spoiled_by_unusable}
 use Rattle.gn_imports.specs.Rounds.{Project, knowing, values, final}
 use Rattle.gn_imports.specs.Causes.{Link, outcome, link_of, link, is_before, least_among, least_place, linked_on, links_from, cycle_fault, linked_cause, cause_within, cause, led_by, led, LeadsTo, LeadsToCall, IsOnCycle, IsLeastPlace}
-use Rattle.gn_imports.specs.Loading.{IsOneOf, IsWrong, IsProject}
+use Rattle.gn_imports.specs.Projects.{IsOneOf, IsWrong, IsProject}
 use Rattle.gn_imports.specs.Laws.{LeadsOn, LeadsToWrong, LeadsToCycle, LinksEnd, LinksKeepCause}
 use Rattle.gn_imports.proofs.Final.{unusable_leads}
 use Rattle.gn_imports.proofs.Links.{wrong_outcome, outcome_wrong, spoiled_link, link_spoils}

@@ -1,6 +1,6 @@
 -- How many of some paths are known.
 use Rattle.std.proofs.Common.{◌≡◌, ℕ, ◌+◌, ◌≤◌, length, List, [], ◌∷◌, Option, Some, None, refl, sym, subst, inl, inr, arith}
-use Rattle.gn_imports.specs.Loading.{IsOneOf}
+use Rattle.gn_imports.specs.Projects.{IsOneOf}
 
 -- what these have, those have
 abbrev pub Within : {A : Type 0} → (List ℕ → Option A) → (List ℕ → Option A) → Type 0

@@ -1,13 +1,13 @@
 -- Runs over the answers that everything gets, beside those over the last round.
 use Rattle.std.proofs.Common.{◌≡◌, ℕ, List, Option, Some, None, refl, sym, ◌∙◌, ap, ◌⊎◌, inl, inr}
 use Rattle.gn_paths.specs.declared.place.Place.{Place}
-use Rattle.gn_values.specs.Imported.{ImportState}
-use Rattle.gn_runs.specs.Runs.{content_of, import_of, Imported, has_value, is_unusable, Answers, End, ended, wrong, spoiled, needs, Run, asking_import, Tree, leaf, fault_leaf, asks_content, asks_import, run_tree, IsTree}
+use Rattle.gn_definitions.specs.Imported.{ImportState}
+use Rattle.gn_runs.specs.Runs.{Question, content_of, import_of, Imported, has_value, is_unusable, Answers, End, ended, wrong, spoiled, needs, Run, asking_import, Tree, leaf, fault_leaf, asks_content, asks_import, run_tree, IsTree}
 use Rattle.gn_runs.specs.Laws.{Below, IsSettled}
 use Rattle.gn_runs.proofs.Trees.{asked_first}
 use Rattle.gn_runs.proofs.TreeLaws.{tree_stays_settled, tree_needs_unknown, tree_spoiled_by_unusable}
 use Rattle.gn_imports.specs.Rounds.{Project, knowing, imported_of, values, usable, final}
-use Rattle.gn_imports.specs.Loading.{IsWrong, IsProject}
+use Rattle.gn_imports.specs.Projects.{IsWrong, IsProject}
 use Rattle.gn_imports.specs.Laws.{IsAtRest, NoneNeedsNone, IsFixed, ValueEnds, LeadsOn, UnusableLeads, without_value, spoiled_at_need, EndsAsInLastRound}
 use Rattle.gn_imports.proofs.Rounds.{leaves_settled, values_rest}
 
@@ -19,6 +19,10 @@ import_case : {A : Type 0} (x : Option Imported) (path : List ℕ) (place : Plac
 import_case None path place m n e = refl
 import_case (Some is_unusable) path place m n e = refl
 import_case (Some (has_value y)) path place m n e = ap (asked_first (import_of path)) (e y)
+
+-- an end needs one answer
+pub same_need : {A : Type 0} (end : End A) (q r : Question) (m n : Place) → end ≡ needs q m → end ≡ needs r n → q ≡ r
+same_need end q r m n e f = cc
 
 pub without_settled : {A : Type 0} (end : End A) → IsSettled end → without_value end ≡ end
 without_settled (ended x) h = refl

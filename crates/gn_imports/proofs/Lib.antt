@@ -7,12 +7,5 @@ pub mod Links
 pub mod Causes
 pub mod Valued
 pub mod Sets
-pub mod Steps
-pub mod Cycles
-pub mod Waiting
-pub mod Known
 pub mod Asked
 pub mod PathOrder
-pub mod AskedFor
-pub mod AskedLists
-pub mod LoadingSteps

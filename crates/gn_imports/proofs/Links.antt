@@ -1,12 +1,12 @@
 -- How an import ends in the last round, by how it ends over the answers that everything gets.
 use Rattle.std.proofs.Common.{◌≡◌, ℕ, List, Some, sym, ◌∙◌, ap, ◌⊎◌, inl, inr}
 use Rattle.gn_paths.specs.declared.place.Place.{Place}
-use Rattle.gn_values.specs.Imported.{ImportState}
+use Rattle.gn_definitions.specs.Imported.{ImportState}
 use Rattle.gn_faults.specs.declared.fault.Fault.{Fault}
 use Rattle.gn_runs.specs.Runs.{content_of, import_of, End, ended, wrong, spoiled, needs, Run}
 use Rattle.gn_imports.specs.Rounds.{Project, knowing, values, final}
 use Rattle.gn_imports.specs.Causes.{Link, outcome, link_of, link}
-use Rattle.gn_imports.specs.Loading.{IsProject}
+use Rattle.gn_imports.specs.Projects.{IsProject}
 use Rattle.gn_imports.specs.Laws.{without_value}
 use Rattle.gn_imports.proofs.Final.{final_run, unspoiled_last, spoiled_last}
 

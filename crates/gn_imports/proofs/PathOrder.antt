@@ -1,5 +1,5 @@
 -- Paths in the order of their bytes, each once: which they are, and how many.
-use Rattle.std.proofs.Common.{◌≡◌, ℕ, suc, ◌≤◌, length, List, [], ◌∷◌, map, Bool, true, false, ◌||◌, ◌&&◌, Option, Some, None, refl, sym, ◌∙◌, ap, subst, inl, inr}
+use Rattle.std.proofs.Common.{◌≡◌, ℕ, ◌≤◌, length, List, [], ◌∷◌, map, Bool, true, false, ◌||◌, ◌&&◌, Option, Some, None, refl, sym, ◌∙◌, ap, subst, inl, inr}
 use Rattle.std.specs.Prelude.{◌↔◌, T, is_some, Decides}
 use Rattle.std.specs.declared.cmp.Ordering.{Ordering}
 use Rattle.std.specs.declared.cmp.Ordering.TheVariants.{Less}
@@ -10,7 +10,7 @@ use Rattle.std.specs.List.{list_any, AllByRecursion, IsDistinct}
 use Rattle.std.specs.List.Sorted.{IsStrictlySortedBy}
 use Rattle.std.specs.FinMap.{FinMap, get, keys, entries, entries_sorted, from_entries, from_sorted, entries-from_sorted, get-from_sorted, get-from_entries, contains_key-keys, same_map}
 use Rattle.std.specs.FinMap.Entries.{find, below_all, is_sorted, is_some-find}
-use Rattle.std.proofs.lemmas.Map.Keys.{sorted_head, sorted_tail, IsDistinct-from_sorted, IsDistinct-cons}
+use Rattle.std.proofs.lemmas.Map.Keys.{sorted_head, sorted_tail, IsDistinct-from_sorted}
 use Rattle.std.proofs.lemmas.Map.Made.{length-le_from_is_member, length-from_same_keys, AllPairs-from_IsDistinct, IsDistinct-from_AllPairs}
 use Rattle.std.proofs.lemmas.Map.Lookups.{exact_bytes}
 use Rattle.std.proofs.lemmas.Bool.{or_left, or_right}
@@ -19,7 +19,7 @@ use Rattle.gn_basics.proofs.Orders.{less_from_test}
 use Rattle.gn_runs.specs.Runs.{Question, content_of, import_of}
 use Rattle.gn_runs.specs.Laws.{IsAsked}
 use Rattle.gn_imports.specs.Asked.{contents_asked, imports_asked, in_path_order}
-use Rattle.gn_imports.specs.Loading.{IsOneOf}
+use Rattle.gn_imports.specs.Projects.{IsOneOf}
 use Rattle.gn_runs.proofs.TreeLaws.{import_path}
 
 -- The order of paths, and whether two are the same by it
@@ -156,23 +156,6 @@ module _ (eq : List ℕ → List ℕ → Bool) (decides : (p q : List ℕ) → D
   pub distinct_all : (ps qs : List (List ℕ)) → IsDistinct eq ps → ((p : List ℕ) → IsOneOf p ps → IsOneOf p qs) → ((p : List ℕ) → IsOneOf p qs → IsOneOf p ps) → length ps ≡ length (in_path_order qs)
   distinct_all ps qs d f g =
       length-from_same_keys (eq_by_cmp_equiv nat_list_cmp_total) ps (in_path_order qs) (distinct_paths ps d) (IsDistinct-from_sorted path_cmp (in_path_order qs) (order_sorted qs)) (λ q. any_same ps qs f g q ∙ sym (order_any qs q))
-
-  -- one that lacks one of them is shorter
-  pub distinct_lacks : (ps qs : List (List ℕ)) → IsDistinct eq ps → ((p : List ℕ) → IsOneOf p ps → IsOneOf p qs) → (q : List ℕ) → IsOneOf q qs → (IsOneOf q ps → ⊥) → suc (length ps) ≤ length (in_path_order qs)
-  distinct_lacks ps qs d f q i lack =
-      length-le_from_is_member (eq_by_cmp_equiv nat_list_cmp_total) (q ∷ ps) (in_path_order qs) (IsDistinct-cons path_eq q ps (apart ps lack) (distinct_paths ps d)) (λ p h. one_any (in_path_order qs) p ((order_has qs p).1 (each p (any_one (q ∷ ps) p h))))
-    where
-      apart : (rs : List (List ℕ)) → (IsOneOf q rs → ⊥) → AllByRecursion (λ y. path_eq q y ≡ false) rs
-      apart [] none = tt
-      apart (r ∷ rs) none = (not_same (path_eq q r) refl, apart rs (λ o. none (inr o)))
-        where
-          not_same : (b : Bool) → path_eq q r ≡ b → b ≡ false
-          not_same true e = absurd (none (inl ((path_eq-Decides q r).0 e)))
-          not_same false e = refl
-
-      each : (p : List ℕ) → IsOneOf p (q ∷ ps) → IsOneOf p qs
-      each p (inl e) = subst (λ r. IsOneOf r qs) (sym e) i
-      each p (inr o) = f p o
 
 -- The paths among questions
 

@@ -2,12 +2,12 @@
 use Rattle.std.proofs.Common.{◌≡◌, ℕ, ◌+◌, ◌-◌, ◌≤◌, ◌<◌, suc, zero, length, List, Option, Some, refl, sym, ◌∙◌, ap, subst, ◌⊎◌, inl, inr, arith, zero-add, suc-add}
 use Rattle.std.proofs.lemmas.Bool.{cases_lt}
 use mathlib.Core.Path.{fun_ext}
-use Rattle.gn_values.specs.Imported.{ImportState}
+use Rattle.gn_definitions.specs.Imported.{ImportState}
 use Rattle.gn_runs.specs.Runs.{is_absent, Imported, is_unusable, End, ended, wrong, spoiled, needs, Run}
 use Rattle.gn_runs.specs.Laws.{Below, IsSettled}
 use Rattle.gn_runs.proofs.TreeLaws.{tree_stays_settled}
 use Rattle.gn_imports.specs.Rounds.{Project, knowing, imported_of, round, values}
-use Rattle.gn_imports.specs.Loading.{IsOneOf, IsWrong, IsProject}
+use Rattle.gn_imports.specs.Projects.{IsOneOf, IsWrong, IsProject}
 use Rattle.gn_imports.proofs.Counts.{Within, known_of, known_le, known_same}
 
 -- an execution that leaves something is settled

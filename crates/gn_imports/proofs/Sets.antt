@@ -2,7 +2,7 @@
 use Rattle.std.proofs.Common.{◌≡◌, ℕ, List, Bool, true, false, refl, if◌then◌else◌}
 use Rattle.std.specs.Str.{bytes_eq}
 use Rattle.std.proofs.lemmas.Slice.Eq.{bytes_eq-Decides}
-use Rattle.gn_imports.specs.Loading.{set_at}
+use Rattle.gn_imports.specs.Projects.{set_at}
 
 -- by whether it is that path
 pub set_cases : {A : Type 0} (path : List ℕ) (x : A) (f : List ℕ → A) (q : List ℕ) (P : A → Type 0) → (path ≡ q → P x) → ((path ≡ q → ⊥) → P (f q)) → P (set_at path x f q)
@@ -14,6 +14,3 @@ set_cases path x f q P here other = by (bytes_eq path q) refl
 
 pub set_here : {A : Type 0} (path : List ℕ) (x : A) (f : List ℕ → A) → set_at path x f path ≡ x
 set_here path x f = rw ((bytes_eq-Decides path path).1 refl) refl
-
-pub set_other : {A : Type 0} (path : List ℕ) (x : A) (f : List ℕ → A) (q : List ℕ) → (path ≡ q → ⊥) → set_at path x f q ≡ f q
-set_other path x f q h = set_cases path x f q (λ y. y ≡ f q) (λ e. absurd (h e)) (λ _. refl)

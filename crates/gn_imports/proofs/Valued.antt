@@ -1,12 +1,12 @@
 -- What has a value among right answers, and the runs that no unusable import spoils.
 use Rattle.std.proofs.Common.{◌≡◌, ℕ, suc, List, Option, Some, None, refl, sym, ◌∙◌, ap, subst}
 use Rattle.gn_paths.specs.declared.place.Place.{Place}
-use Rattle.gn_values.specs.Imported.{ImportState}
+use Rattle.gn_definitions.specs.Imported.{ImportState}
 use Rattle.gn_runs.specs.Runs.{Question, content_of, import_of, Imported, has_value, is_unusable, Answers, End, ended, wrong, spoiled, needs, Run, IsTree}
 use Rattle.gn_runs.specs.Laws.{Below, IsAsked, Agree, IsSettled}
 use Rattle.gn_runs.proofs.TreeLaws.{tree_stays_settled, tree_stays_in_need, tree_needs_unknown, tree_unusable_spoils, tree_depends_on_asked}
 use Rattle.gn_imports.specs.Rounds.{Project, knowing, imported_of, round, values, usable, final}
-use Rattle.gn_imports.specs.Loading.{IsProject}
+use Rattle.gn_imports.specs.Projects.{IsProject}
 use Rattle.gn_imports.proofs.Counts.{Within}
 use Rattle.gn_imports.proofs.Rounds.{rounds_grow, round_within}
 

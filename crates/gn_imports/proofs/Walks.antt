@@ -1,7 +1,7 @@
 -- Links that lead anywhere lead there in at most as many steps as there are paths that have links.
 use Rattle.std.proofs.Common.{◌≡◌, ℕ, suc, zero, ◌+◌, ◌≤◌, length, List, [], ◌∷◌, Option, Some, None, refl, sym, ◌∙◌, ap, ◌⊎◌, inl, inr, arith, zero-add, suc-add}
 use Rattle.gn_imports.specs.Causes.{Link, led_by, led}
-use Rattle.gn_imports.specs.Loading.{IsOneOf, set_at}
+use Rattle.gn_imports.specs.Projects.{IsOneOf, set_at}
 use Rattle.gn_imports.proofs.Sets.{set_cases, set_here}
 
 -- whatever has a link is one of these

@@ -1,11 +1,10 @@
 -- The fault to which an import leads that can't be used.
 use Rattle.std.specs.Prelude.{◌≡◌, ℕ, zero, suc, Bool, false, if◌then◌else◌, List, [], ◌∷◌, length, Option, Some, None}
-use Rattle.std.specs.Str.{bytes_eq}
 use Rattle.std.specs.declared.cmp.Ordering.{Ordering}
 use Rattle.std.specs.Ordering.{nat_cmp, ordering_then, is_lt}
 use Rattle.std.specs.Cmp.Lexicographic.{slice_cmp}
 use Rattle.gn_paths.specs.declared.place.Place.{Place}
-use Rattle.gn_values.specs.Imported.{ImportState}
+use Rattle.gn_definitions.specs.Imported.{ImportState}
 use Rattle.gn_faults.specs.declared.code.Code.TheVariants as code
 use Rattle.gn_faults.specs.declared.fault.Fault.{Fault}
 use Rattle.gn_faults.specs.declared.stage.Stage.TheVariants.{Loading}
@@ -83,7 +82,7 @@ cause_within project (suc n) path =
 unfoldable pub cause : Project → List ℕ → Fault
 cause project path = cause_within project (suc (length project.paths)) path
 
--- What the links of a project say of it, and of imports that wait for one another.
+-- What the links of a project say of it.
 
 abbrev pub led_by : Option Link → (List ℕ → Option (List ℕ)) → Option (List ℕ)
 led_by None next = None
@@ -110,13 +109,3 @@ IsOnCycle project path = (l : Link) × (link project path ≡ Some l) × LeadsTo
 pub record IsLeastPlace (project : Project) (path : List ℕ) (place : Place) : Type 0 where
   pub found : (l : Link) × LeadsToCall project path l × (l.place ≡ place)
   pub least : (l : Link) → LeadsToCall project path l → is_before l.place place ≡ false
-
--- of imports that wait, the last one first, those that were asked for behind this one
-abbrev pub waiting_behind : List ℕ → List Link → List Link
-waiting_behind q [] = []
-waiting_behind q (l ∷ ls) = if bytes_eq l.path q then [] else l ∷ waiting_behind q ls
-
--- The place of a cycle: the last import that waits asks, at this place, for one of those that wait. The least of this place and those of the calls
--- that asked for the imports behind that one
-abbrev pub least_waiting : List ℕ → List Link → Place → Place
-least_waiting q ls place = least_among place (waiting_behind q ls)

@@ -1,17 +1,14 @@
 -- The laws of imports by rounds.
-use Rattle.std.specs.Prelude.{◌≡◌, ◌≤◌, ◌⊎◌, ◌↔◌, ℕ, suc, Bool, IsTrue, List, [], ◌∷◌, length, Option, Some, None}
-use Rattle.std.specs.Ordering.{nat_cmp}
-use Rattle.std.specs.Cmp.Lexicographic.{slice_cmp}
-use Rattle.std.specs.List.Sorted.{IsStrictlySortedBy}
+use Rattle.std.specs.Prelude.{◌≡◌, ◌⊎◌, ◌↔◌, ℕ, suc, Bool, IsTrue, List, Some, None}
 use Rattle.gn_paths.specs.declared.place.Place.{Place}
-use Rattle.gn_values.specs.Imported.{ImportState}
+use Rattle.gn_definitions.specs.Imported.{ImportState}
 use Rattle.gn_faults.specs.declared.fault.Fault.{Fault}
 use Rattle.gn_runs.specs.Runs.{Question, has_value, is_unusable, content_of, import_of, Imported, Answers, End, ended, wrong, spoiled, needs, Run}
-use Rattle.gn_runs.specs.Laws.{IsSettled, IsAsked}
+use Rattle.gn_runs.specs.Laws.{IsAsked}
 use Rattle.gn_imports.specs.Rounds.{Project, knowing, imported_of, round, values, final}
-use Rattle.gn_imports.specs.Causes.{Link, link, cycle_fault, cause, LeadsTo, IsOnCycle, IsLeastPlace, least_waiting}
-use Rattle.gn_imports.specs.Asked.{all_asked, contents_asked, imports_asked, in_path_order}
-use Rattle.gn_imports.specs.Loading.{AreKnown, IsWrong, Known, nothing, answers_of, with_content, with_import, HasCauses, NoneIs, OneIs, Needs, NeedsLink, IsRight, IsLoading}
+use Rattle.gn_imports.specs.Causes.{Link, link, cycle_fault, cause, LeadsTo, IsOnCycle, IsLeastPlace}
+use Rattle.gn_imports.specs.Asked.{all_asked}
+use Rattle.gn_imports.specs.Projects.{IsWrong}
 
 -- what a round knows, the next one and the last one know
 abbrev pub RoundsGrow : Project → Type 0
@@ -85,80 +82,3 @@ AllAskedIsClosed project = (qs : List Question) (path : List ℕ) → IsAsked (a
 
 abbrev pub AllAskedIsLeast : Project → Type 0
 AllAskedIsLeast project = (test : Question → Bool) → ((path : List ℕ) → IsTrue (test (import_of path)) → (q : Question) → IsAsked (project.execute path (final project)).asked q → IsTrue (test q)) → (qs : List Question) → ((q : Question) → IsAsked qs q → IsTrue (test q)) → (q : Question) → IsAsked (all_asked project qs) q → IsTrue (test q)
-
-module _ {A : Type 0} (project : Project) (unit : Answers → Run A) where
-  -- what is known stays right where a file is read
-  abbrev pub ReadStaysRight : Type 0
-  ReadStaysRight = (known : Known) (links : List Link) → IsRight project unit known links → (path : List ℕ) → IsRight project unit (with_content known path (project.content path)) links
-
-  -- where an import is needed that doesn't wait, and begins to wait
-  abbrev pub NeededStaysRight : Type 0
-  NeededStaysRight = (known : Known) (links : List Link) → IsRight project unit known links → (l : Link) → NeedsLink project unit known links l → NoneIs l.path links → IsRight project unit known (l ∷ links)
-
-  -- where the last one that waits is settled
-  abbrev pub SettledStaysRight : Type 0
-  SettledStaysRight = (known : Known) (l : Link) (links : List Link) → IsRight project unit known (l ∷ links) → IsSettled (project.execute l.path (answers_of known)).end → (fault : Option Fault) → IsRight project unit (with_import known l.path (imported_of (project.execute l.path (answers_of known)).end) fault) links
-
-  -- where the last one that waits needs one that waits, so that it can't be used
-  abbrev pub CycleStaysRight : Type 0
-  CycleStaysRight = (known : Known) (l : Link) (links : List Link) → IsRight project unit known (l ∷ links) → (q : List ℕ) (place : Place) → (project.execute l.path (answers_of known)).end ≡ needs (import_of q) place → OneIs q (l ∷ links) → (fault : Option Fault) → IsRight project unit (with_import known l.path (Some is_unusable) fault) links
-
-  -- and then none of those that wait has a value
-  abbrev pub CycleHasNoValue : Type 0
-  CycleHasNoValue = (known : Known) (l : Link) (links : List Link) → IsRight project unit known (l ∷ links) → (q : List ℕ) (place : Place) → (project.execute l.path (answers_of known)).end ≡ needs (import_of q) place → OneIs q (l ∷ links) → (path : List ℕ) → OneIs path (l ∷ links) → values project path ≡ None
-
-  -- a settled unit is the same over the answers that everything gets
-  abbrev pub SettledIsFinal : Type 0
-  SettledIsFinal = (known : Known) (links : List Link) → IsRight project unit known links → IsSettled (unit (answers_of known)).end → unit (final project) ≡ unit (answers_of known)
-
-  -- the faults that are kept stay those to which imports lead where the last one that waits is wrong
-  abbrev pub WrongKeepsCauses : Type 0
-  WrongKeepsCauses = (known : Known) (l : Link) (links : List Link) → IsRight project unit known (l ∷ links) → HasCauses project known → (fault : Fault) → (project.execute l.path (answers_of known)).end ≡ wrong fault → HasCauses project (with_import known l.path (Some is_unusable) (Some fault))
-
-  -- where it is spoiled, and gets the fault that is kept for what spoils it
-  abbrev pub SpoiledKeepsCauses : Type 0
-  SpoiledKeepsCauses = (known : Known) (l : Link) (links : List Link) → IsRight project unit known (l ∷ links) → HasCauses project known → (q : List ℕ) (place : Place) → (project.execute l.path (answers_of known)).end ≡ spoiled q place → HasCauses project (with_import known l.path (Some is_unusable) (known.faults q))
-
-  -- where it needs one that waits, and gets the cycle at the least place of those that wait behind that one
-  abbrev pub CycleKeepsCauses : Type 0
-  CycleKeepsCauses = (known : Known) (l : Link) (links : List Link) → IsRight project unit known (l ∷ links) → HasCauses project known → (q : List ℕ) (place : Place) → (project.execute l.path (answers_of known)).end ≡ needs (import_of q) place → OneIs q (l ∷ links) → HasCauses project (with_import known l.path (Some is_unusable) (Some (cycle_fault (Some (least_waiting q (l ∷ links) place)))))
-
-  -- loading begins with nothing that is known
-  abbrev pub LoadingBegins : Type 0
-  LoadingBegins = IsLoading project unit nothing []
-
-  -- it goes on where a file is read that is needed
-  abbrev pub LoadingReads : Type 0
-  LoadingReads = (known : Known) (links : List Link) → IsLoading project unit known links → (path : List ℕ) (place : Place) → Needs project unit known links (content_of path) place → IsLoading project unit (with_content known path (project.content path)) links
-
-  -- where an import is needed that doesn't wait, and begins to wait
-  abbrev pub LoadingWaits : Type 0
-  LoadingWaits = (known : Known) (links : List Link) → IsLoading project unit known links → (l : Link) → NeedsLink project unit known links l → NoneIs l.path links → IsLoading project unit known (l ∷ links)
-
-  -- where the last one that waits has ended, is wrong, or is spoiled
-  abbrev pub LoadingEnds : Type 0
-  LoadingEnds = (known : Known) (l : Link) (links : List Link) → IsLoading project unit known (l ∷ links) → (value : ImportState) → (project.execute l.path (answers_of known)).end ≡ ended value → (fault : Option Fault) → IsLoading project unit (with_import known l.path (Some (has_value value)) fault) links
-
-  abbrev pub LoadingFails : Type 0
-  LoadingFails = (known : Known) (l : Link) (links : List Link) → IsLoading project unit known (l ∷ links) → (fault : Fault) → (project.execute l.path (answers_of known)).end ≡ wrong fault → IsLoading project unit (with_import known l.path (Some is_unusable) (Some fault)) links
-
-  abbrev pub LoadingSpoils : Type 0
-  LoadingSpoils = (known : Known) (l : Link) (links : List Link) → IsLoading project unit known (l ∷ links) → (q : List ℕ) (place : Place) → (project.execute l.path (answers_of known)).end ≡ spoiled q place → IsLoading project unit (with_import known l.path (Some is_unusable) (known.faults q)) links
-
-  -- and where it needs one that waits
-  abbrev pub LoadingMeetsCycle : Type 0
-  LoadingMeetsCycle = (known : Known) (l : Link) (links : List Link) → IsLoading project unit known (l ∷ links) → (q : List ℕ) (place : Place) → (project.execute l.path (answers_of known)).end ≡ needs (import_of q) place → OneIs q (l ∷ links) → IsLoading project unit (with_import known l.path (Some is_unusable) (Some (cycle_fault (Some (least_waiting q (l ∷ links) place))))) links
-
-  -- where nothing waits and the unit is settled, the files that are known are those that are asked for, and the imports are those
-  abbrev pub LoadsFilesAsked : Type 0
-  LoadsFilesAsked = (known : Known) → IsLoading project unit known [] → IsSettled (unit (answers_of known)).end → (ps : List (List ℕ)) → IsStrictlySortedBy (slice_cmp nat_cmp) ps → AreKnown known.contents ps → ps ≡ in_path_order (contents_asked (all_asked project (unit (final project)).asked))
-
-  abbrev pub LoadsImportsAsked : Type 0
-  LoadsImportsAsked = (known : Known) → IsLoading project unit known [] → IsSettled (unit (answers_of known)).end → (ps : List (List ℕ)) → IsStrictlySortedBy (slice_cmp nat_cmp) ps → AreKnown known.imports ps → ps ≡ in_path_order (imports_asked (all_asked project (unit (final project)).asked))
-
-  -- before that no more files are known than are asked for, and fewer where one more is needed
-  abbrev pub LoadsNoMoreFiles : Type 0
-  LoadsNoMoreFiles = (known : Known) (links : List Link) → IsLoading project unit known links → (ps : List (List ℕ)) → IsStrictlySortedBy (slice_cmp nat_cmp) ps → AreKnown known.contents ps → length ps ≤ length (in_path_order (contents_asked (all_asked project (unit (final project)).asked)))
-
-  abbrev pub LoadsFewerFiles : Type 0
-  LoadsFewerFiles = (known : Known) (links : List Link) → IsLoading project unit known links → (ps : List (List ℕ)) → IsStrictlySortedBy (slice_cmp nat_cmp) ps → AreKnown known.contents ps → (path : List ℕ) (place : Place) → Needs project unit known links (content_of path) place → suc (length ps) ≤ length (in_path_order (contents_asked (all_asked project (unit (final project)).asked)))

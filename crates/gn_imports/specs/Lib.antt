@@ -1,5 +1,5 @@
 pub mod Rounds
 pub mod Causes
 pub mod Asked
-pub mod Loading
+pub mod Projects
 pub mod Laws

@@ -1,6 +1,6 @@
 -- What the imports of a project leave, by rounds.
 use Rattle.std.specs.Prelude.{ℕ, zero, suc, List, length, Option, Some, None}
-use Rattle.gn_values.specs.Imported.{ImportState}
+use Rattle.gn_definitions.specs.Imported.{ImportState}
 use Rattle.gn_runs.specs.Runs.{Content, Imported, has_value, is_unusable, Answers, End, ended, wrong, spoiled, needs, Run}
 
 -- the files of a project and what they do: what there is at each path, the paths of the files that there are, and the execution of the file at a path
