@@ -192,8 +192,10 @@ fn current_label(
     Ok(Ok(label_under(part, toolchain)))
 }
 
+/// What a text means as a label at a current directory, under a current toolchain: the label, or what keeps it from being one,
+/// as `Label::read` says. The error is want of memory alone.
 #[tactic(auto, unfolding(crate::specs::Reading::label_read))]
-fn label_meant(
+pub fn label_meant(
     alloc: Global,
     text: &[u8],
     current: &Path,

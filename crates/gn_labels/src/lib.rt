@@ -17,6 +17,7 @@ mod toolchain_name;
 pub use error::{LabelError, LabelFault, PatternError, PatternFault};
 pub use key::LabelKey;
 pub use label::{Label, compare_toolchains};
+pub use label_reading::label_meant;
 pub use laws::{
     a_bad_form_is_a_bad_label, a_pattern_without_a_star_is_a_label,
     a_star_in_the_toolchain_alone_is_a_bad_pattern, a_toolchain_spells_its_name,
@@ -26,3 +27,4 @@ pub use laws::{
 pub use name::is_name;
 pub use named::Named;
 pub use pattern::{Extent, Pattern};
+pub use pattern_reading::pattern_meant;

@@ -1,7 +1,9 @@
 // A directory and a name in it.
 
 ghost use Rattle.std.specs.Prelude.{◌≡◌, IfOk};
+ghost use Rattle.gn_labels.specs.Labels.{spelling};
 
+use crate::label::spell;
 use gn_paths::{Path, Text};
 use std::alloc::{AllocError, Global};
 
@@ -22,5 +24,12 @@ impl Named {
         let dir = self.dir.copy(alloc)?;
         let name = self.name.copy(alloc)?;
         Ok(Named { dir, name })
+    }
+
+    /// The text of the toolchain of this directory and name: `//dir:name`.
+    pub fn to_toolchain(&self, alloc: Global) -> Result<Text, AllocError>
+        ensures { IfOk result (λ text. text ≡ spelling self.now.dir self.now.name) }
+    {
+        spell(alloc, &self.dir, &self.name)
     }
 }

@@ -154,8 +154,10 @@ fn pattern_of(
     }
 }
 
+/// What a text means as a pattern at a current directory: the pattern, or what keeps it from being one, as `Pattern::read` says.
+/// The error is want of memory alone.
 #[tactic(auto, unfolding(crate::specs::Patterns::pattern_read))]
-fn pattern_meant(
+pub fn pattern_meant(
     alloc: Global,
     text: &[u8],
     current: &Path,
