@@ -7,4 +7,10 @@ pub enum FileKind {
     BuildFile,
     /// A file that is imported.
     Import,
+    /// The build configuration, which every other file of the build sees once it is done.
+    BuildConfiguration,
+    /// The file that says where the build is: the dotfile.
+    Dotfile,
+    /// The build arguments of a command line, or of the file that keeps them.
+    Arguments,
 }
