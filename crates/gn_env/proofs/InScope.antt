@@ -1,6 +1,6 @@
 -- What is in scope, as layers laid over what a body keeps.
 use Rattle.std.proofs.Common.{◌≡◌, List, [], ◌∷◌, map, refl, ap}
-use Rattle.gn_values.specs.Imported.{ScopeState}
+use Rattle.gn_definitions.specs.Imported.{ScopeState}
 use Rattle.gn_environment.specs.Layers.{LayerState, values_in}
 use Rattle.gn_environment.specs.Environment.{Environment, kept_by}
 use Rattle.gn_environment.specs.Templates.{laid_over, undeclared, layers_of, scope_here}

@@ -2,7 +2,7 @@
 use Rattle.std.proofs.Common.{◌≡◌, [], ◌∷◌, None, Ok, refl, sym, ap, ◌∙◌}
 use Rattle.gn_values.specs.Val.{Val}
 use Rattle.gn_values.specs.Tables.{Table}
-use Rattle.gn_values.specs.Imported.{ImportState}
+use Rattle.gn_definitions.specs.Imported.{ImportState}
 use Rattle.gn_environment.specs.Layers.{ChainState}
 use Rattle.gn_environment.specs.Environment.{Environment, given, restored}
 use Rattle.gn_environment.specs.Templates.{in_block}

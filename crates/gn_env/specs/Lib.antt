@@ -1,3 +1,4 @@
 pub mod Origins
 pub mod Conflicts
 pub mod Defaults
+pub mod Arguments

@@ -3,9 +3,9 @@
 ghost use Rattle.std.specs.Prelude.{◌≡◌, option_map};
 ghost use Rattle.gn_environment.specs.Chains.{chain_left};
 
+use gn_definitions::Definition;
 use gn_paths::Text;
 use gn_scopes::NamedScopes;
-use gn_values::Definition;
 use std::marker::Model;
 use std::sync::Arc;
 

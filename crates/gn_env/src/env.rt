@@ -14,6 +14,7 @@ ghost use Rattle.gn_layers.specs.View.{variable_state};
 ghost use Rattle.gn_env.specs.contracts.env.Env.{the_row};
 
 use crate::caller::Caller;
+use gn_definitions::{Definition, Definitions, KeptScope, MadeBy};
 use gn_environment::{Context, OpenBlock};
 use gn_faults::{Code, Fault, FileKind};
 use gn_kept::behind_value;
@@ -21,7 +22,7 @@ use gn_layers::{AssignError, ElementAssignError, Variable};
 use gn_paths::{Path, Place, Text, Texts};
 use gn_scopes::NamedScopes;
 use gn_tree::{AssignOp, Position};
-use gn_values::{Definition, Definitions, Entries, KeptScope, MadeBy, Value, ValueError};
+use gn_values::{Bindings, Entries, Value, ValueError};
 use std::alloc::{AllocError, Global};
 use std::collections::VecDeque;
 use std::marker::Model;
@@ -177,6 +178,13 @@ impl Env {
         ensures { result.now ≡ self.now.setting.file }
     {
         &self.file
+    }
+
+    /// Says which file places of the evaluation name from now on; the current directory stays. It takes no memory.
+    pub fn set_file(&mut self, file: Text)
+        ensures { self.new ≡ record self.old { setting = record self.old.setting { file = file } } }
+    {
+        self.file = file;
     }
 
     /// The current directory.
@@ -396,6 +404,14 @@ impl Env {
     {
         let bindings = self.scopes.leave_with_bindings(alloc)?;
         Entries::from_bindings(bindings)
+    }
+
+    /// Copies of the names that were set in the innermost scope, with their values.
+    #[tactic(auto, unfolding(gn_environment::specs::Environment::entries_here))]
+    pub fn names_here(&self, alloc: Global) -> Result<Bindings, AllocError>
+        ensures { IfOk result (λ names. names ≡ entries_here self.now) }
+    {
+        self.scopes.copies_here(alloc)
     }
 
     /// What the end of the innermost scope reports: the name that nothing read and whose last assignment stands first,

@@ -133,8 +133,8 @@ impl Env {
         }
     }
 
-    // The names that are there, but for the excepted ones, by the list of these.
-    fn chosen<'a>(
+    /// The names that are there, but for the excepted ones, by the list of these.
+    pub(crate) fn chosen<'a>(
         &self,
         alloc: Global,
         from: Origin<'_>,
@@ -206,8 +206,8 @@ impl Env {
         Ok(())
     }
 
-    // Whether the innermost scope has a name; that of a body has the invoker.
-    fn is_set_here(&self, name: &Text) -> bool
+    /// Whether the innermost scope has a name; that of a body has the invoker.
+    pub(crate) fn is_set_here(&self, name: &Text) -> bool
         ensures { result ≡ is_set_here self.now name.now }
     {
         self.scopes.has_here(name) || self.is_invoker_here(name)
@@ -274,8 +274,8 @@ fn copied_entry(alloc: Global, name: &Text, value: &Value) -> Result<Entry, Allo
     Ok(Entry { name, value })
 }
 
-// Copies of what stands directly there from where names are forwarded, but for `target_name` and the excepted names.
-fn copies_but(
+/// Copies of what stands directly there from where names are forwarded, but for `target_name` and the excepted names.
+pub(crate) fn copies_but(
     alloc: Global,
     callers: &VecDeque<Caller>,
     from: Origin<'_>,

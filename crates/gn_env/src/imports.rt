@@ -1,15 +1,16 @@
-// What an import leaves, and merging it.
+// What an import leaves, and the finished build configuration, and merging an import.
 
 ghost use Rattle.std.specs.Prelude.{◌≡◌, IfOk, OnOk, OnErr, IfErr, IfSome, option_map};
 ghost use Rattle.gn_values.specs.Tables.{with_name};
-ghost use Rattle.gn_environment.specs.Imports.{import_left, scope_left, merged, merged_known, conflict_in, invoker_brought, lesser, first_name, other_value, other_template, other_defaults};
+ghost use Rattle.gn_environment.specs.Imports.{import_left, scope_left, whole_scope, configuration_left, merged, merged_known, conflict_in, invoker_brought, lesser, first_name, other_value, other_template, other_defaults};
 ghost use Rattle.gn_env.specs.Conflicts.{conflict_of};
 
 use crate::env::Env;
+use gn_definitions::{DefinitionName, Definitions, ImportValue, KeptScope, MadeBy};
 use gn_kept::same_definition;
 use gn_paths::Text;
 use gn_scopes::NamedScopes;
-use gn_values::{Bindings, DefinitionName, Definitions, ImportValue, KeptScope, MadeBy};
+use gn_values::Bindings;
 use std::alloc::{AllocError, Global};
 use std::collections::BTreeMap;
 use std::sync::Arc;
@@ -78,6 +79,21 @@ impl Env {
         ensures { IfOk result (λ value. value ≡ import_left self) }
     {
         import_left(
+            alloc,
+            self.scopes,
+            self.execution,
+            self.made,
+            self.definitions,
+        )
+    }
+
+    /// What the finished build configuration leaves for the files beneath which it stands: all names of the innermost scope, and
+    /// all definitions of templates that are known. No value is copied.
+    #[tactic(auto, unfolding(gn_environment::specs::Imports::configuration_left))]
+    pub fn configuration_value(self, alloc: Global) -> Result<ImportValue, AllocError>
+        ensures { IfOk result (λ value. value ≡ configuration_left self) }
+    {
+        configuration_left(
             alloc,
             self.scopes,
             self.execution,
@@ -159,6 +175,31 @@ fn import_left(
     let definitions = with_made(alloc, execution, made, definitions)?;
     let scope = scope_left(alloc, scopes)?;
     ImportValue::new(alloc, scope, definitions)
+}
+
+// What a finished build configuration leaves of these layers, with the definitions that are known, among them those that the
+// execution made.
+fn configuration_left(
+    alloc: Global,
+    scopes: NamedScopes,
+    execution: Text,
+    made: Definitions,
+    definitions: MadeBy,
+) -> Result<ImportValue, AllocError>
+    ensures { IfOk result (λ value. value
+        ≡ record { scope = whole_scope scopes.inner; definitions = with_name execution made definitions }) }
+{
+    let definitions = with_made(alloc, execution, made, definitions)?;
+    let scope = whole_scope(alloc, scopes)?;
+    ImportValue::new(alloc, scope, definitions)
+}
+
+// All that stands in the innermost of these layers.
+fn whole_scope(alloc: Global, scopes: NamedScopes) -> Result<KeptScope, AllocError>
+    ensures { IfOk result (λ scope. scope ≡ whole_scope scopes.inner) }
+{
+    let mut scopes = scopes;
+    scopes.leave_whole(alloc)
 }
 
 // The scope that is left of these layers.

@@ -13,11 +13,12 @@ ghost use Rattle.gn_environment.specs.Invoker.{names_invoker, is_outermost, is_i
 
 use crate::caller::Caller;
 use crate::env::Env;
+use gn_definitions::Definition;
 use gn_kept::kept_value;
 use gn_layers::NameSet;
 use gn_paths::{Text, Texts};
 use gn_scopes::NamedScopes;
-use gn_values::{Definition, Entries, Value, ValueError};
+use gn_values::{Entries, Value, ValueError};
 use std::alloc::{AllocError, Global};
 use std::collections::VecDeque;
 use std::sync::Arc;

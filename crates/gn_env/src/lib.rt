@@ -1,7 +1,9 @@
 //! The environment of an evaluation: its scopes, what stands behind them, templates, the invoker, and what imports leave.
 #![tactic(auto)]
 
+mod bringing;
 mod caller;
+mod declaring;
 mod env;
 mod forwarding;
 mod imports;
@@ -9,6 +11,7 @@ mod invoker;
 mod outer_invoker;
 mod templates;
 
+pub use declaring::Argument;
 pub use env::Env;
 pub use forwarding::{ForwardError, Origin};
 pub use imports::MergeError;

@@ -12,7 +12,7 @@ use Rattle.std.proofs.lemmas.Map.Entries.{lookup-filter-keys}
 use Rattle.std.proofs.lemmas.Slice.Eq.{bytes_eq-Decides}
 use Rattle.gn_values.specs.Val.{Val}
 use Rattle.gn_values.specs.Tables.{Table, at_name, with_name, with_names}
-use Rattle.gn_values.specs.Imported.{ScopeState, DefinitionState}
+use Rattle.gn_definitions.specs.Imported.{ScopeState, DefinitionState}
 use Rattle.gn_environment.specs.Layers.{VariableState, LayerState, values_in}
 use Rattle.gn_environment.specs.Chains.{nearest, variable_in, variable_of, is_declared, chain_variable}
 use Rattle.gn_environment.specs.Environment.{Environment, fixed_value, kept_by, behind, value_of}

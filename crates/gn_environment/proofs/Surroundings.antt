@@ -7,7 +7,7 @@ use Rattle.gn_tree.specs.declared.operator.AssignOp.TheVariants.{Set, Add, Subtr
 use Rattle.gn_values.specs.Val.{Val}
 use Rattle.gn_values.specs.Tables.{Table}
 use Rattle.gn_values.specs.Assigning.{combined, element_assigned}
-use Rattle.gn_values.specs.Imported.{DefinitionState}
+use Rattle.gn_definitions.specs.Imported.{DefinitionState}
 use Rattle.gn_environment.specs.Layers.{VariableState, LayerState, ChainState, empty_layer}
 use Rattle.gn_environment.specs.Chains.{variable_in, read_of, read_in, read_through, marked, further_value, chain_read, chain_read_of, chain_left, all_read}
 use Rattle.gn_environment.specs.Assigning.{Refusal, has_no_value, operator_refuses, put, with_inner, overwritten, overwritten_over, replaces, put_result, changed_at, copied_inwards, assigned, base_has_no_value, element_refuses, element_changed}

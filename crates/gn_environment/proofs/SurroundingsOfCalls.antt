@@ -1,18 +1,20 @@
 -- What imports, forwarding and reads of the invoker leave around the scope in which they take place.
-use Rattle.std.proofs.Common.{◌≡◌, ℕ, Bool, true, false, if◌then◌else◌, List, [], ◌∷◌, map, Option, Some, None, find, refl, sym, ap, ◌∙◌}
+use Rattle.std.proofs.Common.{◌≡◌, ℕ, true, false, if◌then◌else◌, List, [], ◌∷◌, map, Option, Some, None, Result, Ok, Err, find, refl, sym, ap, subst, ◌∙◌}
+use Rattle.gn_tree.specs.declared.position.Position.{Position}
 use Rattle.gn_values.specs.Val.{Val}
 use Rattle.gn_values.specs.Tables.{Table}
-use Rattle.gn_values.specs.Imported.{ImportState}
-use Rattle.gn_environment.specs.Layers.{LayerState}
-use Rattle.gn_environment.specs.Chains.{read_in, all_read, all_read_but, names_read, is_one_of, chain_read}
+use Rattle.gn_definitions.specs.Imported.{ImportState}
+use Rattle.gn_environment.specs.Layers.{VariableState, LayerState}
+use Rattle.gn_environment.specs.Chains.{variable_in, read_in, all_read, all_read_but, names_read, is_one_of, chain_read}
 use Rattle.gn_environment.specs.declared.context.OpenBlock.{OpenBlock}
-use Rattle.gn_environment.specs.Environment.{Caller, Environment, given, with_open}
+use Rattle.gn_environment.specs.Environment.{Caller, Environment, left, given, with_open}
 use Rattle.gn_environment.specs.Templates.{with_caller, in_block}
 use Rattle.gn_environment.specs.Invoker.{invoker_entries, after_invoker_entry_read, after_invoker_read, after_invoker_read_but, after_invoker_names_read, behind_first, after_outer_invoker_read, after_caller_read}
 use Rattle.gn_environment.specs.Forwarding.{Origin, from_entries, from_invoker, origin_value, origin_read, forwarded_names, given_if, names_given, is_set_here, forwarded_unless, names_forwarded, entries_given, target_name, all_forwarded, after_names_read_here, after_all_read_here}
+use Rattle.gn_environment.specs.Declaring.{declaring_entered, declared_of, declared_in, name_declared, brought, places_brought, brought_if, import_brought, names_brought, names_of_all, all_brought, ArgumentState, arguments_here, taken, argument_given, arguments_set, arguments_declared}
 use Rattle.gn_environment.specs.Imports.{knowing, conflict_in, values_given, with_import, merged_unless, merged}
 use Rattle.gn_environment.specs.Surroundings.{outline, caller_outline, surroundings}
-use Rattle.gn_environment.proofs.Surroundings.{IsKept, read_in_outline, chain_read_outline, outline_around, with_layers, given_keeps, callers_keep, with_callers, block_outline}
+use Rattle.gn_environment.proofs.Surroundings.{IsKept, read_in_outline, chain_read_outline, outline_around, with_layers, given_keeps, declaring_left_keeps, callers_keep, with_callers, block_outline}
 
 -- Reads of many names
 
@@ -138,3 +140,53 @@ block_ends block around env after h e =
 pub same_open : (env after : Environment) → surroundings after ≡ surroundings env → after.setting.inside ≡ env.setting.inside
 unfolding surroundings
 same_open env after h = ap (λ (s : Environment). s.setting.inside) h
+
+-- Declared arguments
+
+declared_of_outline : (name : List ℕ) (position : Position) (layer : LayerState) (o : Option VariableState) → outline (declared_of name position layer o) ≡ outline layer
+declared_of_outline name position layer (Some v) = refl
+declared_of_outline name position layer None = refl
+
+declared_outline : (name : List ℕ) (position : Position) (layer : LayerState) → outline (declared_in name position layer) ≡ outline layer
+declared_outline name position layer =
+    elim layer.declares as (λ b. outline (if b then declared_of name position layer (variable_in name layer) else layer) ≡ outline layer) [ true ↦ declared_of_outline name position layer (variable_in name layer) | false ↦ refl ]
+
+pub name_declared_keeps : (name : List ℕ) (position : Position) (env : Environment) → surroundings (name_declared name position env) ≡ surroundings env
+unfolding name_declared
+name_declared_keeps name position env = in_block_keeps (declared_in name position) (declared_outline name position) env
+
+brought_keep : (places : List (List ℕ × Position)) (env : Environment) → surroundings (brought places env) ≡ surroundings env
+brought_keep [] env = refl
+brought_keep (p ∷ ps) env = brought_keep ps (name_declared p.0 p.1 env) ∙ name_declared_keeps p.0 p.1 env
+
+brought_if_keeps : (places : List (List ℕ × Position)) (env : Environment) (r : Result Environment (List ℕ)) → IsKept env r → IsKept env (brought_if places r)
+brought_if_keeps places env (Ok after) h = brought_keep places after ∙ h
+brought_if_keeps places env (Err name) h = tt
+
+pub import_brought_keeps : (position : Position) (value : ImportState) (env : Environment) → IsKept env (import_brought position value env)
+unfolding import_brought
+import_brought_keeps position value env = brought_if_keeps (places_brought position env (map (λ (v : List ℕ × Val). v.0) value.scope.variables)) env (merged value env) (merged_keeps value env)
+
+pub names_brought_keep : (position : Position) (origin : Origin) (names except : List (List ℕ)) (env : Environment) → IsKept env (names_brought position origin names except env)
+unfolding names_brought
+names_brought_keep position origin names except env =
+    brought_if_keeps (places_brought position env (forwarded_names origin names except env)) env (names_forwarded origin names except env) (names_forwarded_keep origin names except env)
+
+pub all_brought_keep : (position : Position) (origin : Origin) (except : List (List ℕ)) (env : Environment) → surroundings (all_brought position origin except env) ≡ surroundings env
+unfolding all_brought
+all_brought_keep position origin except env = brought_keep (places_brought position env (names_of_all origin except env)) (all_forwarded origin except env) ∙ all_forwarded_keep origin except env
+
+arguments_set_keep : (overrides : Table Val) (arguments : List ArgumentState) (env env1 : Environment) → surroundings env1 ≡ surroundings env → IsKept env (arguments_set overrides arguments env1)
+arguments_set_keep overrides [] env env1 h = h
+arguments_set_keep overrides (a ∷ rest) env env1 h =
+    elim (is_set_here env1 a.name) as (λ b. IsKept env (if b then Err a.name else arguments_set overrides rest (argument_given overrides a env1))) [ true ↦ tt | false ↦ arguments_set_keep overrides rest env (argument_given overrides a env1) (name_declared_keeps a.name a.position (given a.name (taken overrides a.name a.default) env1) ∙ given_keeps a.name (taken overrides a.name a.default) env1 ∙ h) ]
+
+-- what stood around a block that declares arguments stands there again when it ends
+pub arguments_declared_keep : (position : Position) (env env1 : Environment) → surroundings env1 ≡ surroundings (declaring_entered env) → IsKept env (arguments_declared position env1)
+unfolding arguments_declared
+arguments_declared_keep position env env1 h =
+    arguments_set_keep env1.setting.context.overrides (arguments_here position env1) env (left env1) (declaring_left_keeps env env1 h)
+
+pub arguments_declared_leave : (position : Position) (env after last : Environment) → surroundings after ≡ surroundings (declaring_entered env) → arguments_declared position after ≡ Ok last → surroundings last ≡ surroundings env
+arguments_declared_leave position env after last h e =
+    subst (λ (r : Result Environment (List ℕ)). IsKept env r) e (arguments_declared_keep position env after h)

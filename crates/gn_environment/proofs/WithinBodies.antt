@@ -5,8 +5,8 @@ use Rattle.std.proofs.lemmas.Option.{same_Some}
 use Rattle.std.proofs.lemmas.Bool.{not-true}
 use Rattle.gn_paths.specs.declared.place.Place.{Place}
 use Rattle.gn_values.specs.Tables.{Table, at_name}
-use Rattle.gn_values.specs.Imported.{DefinitionState}
-use Rattle.gn_values.specs.declared.kept.DefinitionName.{DefinitionName}
+use Rattle.gn_definitions.specs.Imported.{DefinitionState}
+use Rattle.gn_definitions.specs.declared.kept.DefinitionName.{DefinitionName}
 use Rattle.gn_environment.specs.Chains.{nearest}
 use Rattle.gn_environment.specs.Environment.{Environment}
 use Rattle.gn_environment.specs.Templates.{definition_of, same_place, standing_in, is_visible, if_visible, if_named, template_among, template_tables, template_of}

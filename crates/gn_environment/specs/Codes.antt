@@ -5,13 +5,13 @@ use Rattle.gn_tree.specs.declared.position.Position.{Position}
 use Rattle.gn_faults.specs.declared.stage.Stage.{Stage}
 use Rattle.gn_faults.specs.declared.stage.Stage.TheVariants.{Arguments, Loading, Graph, Question, Includes}
 use Rattle.gn_faults.specs.declared.file_kind.FileKind.{FileKind}
-use Rattle.gn_faults.specs.declared.file_kind.FileKind.TheVariants.{BuildFile, Import}
+use Rattle.gn_faults.specs.declared.file_kind.FileKind.TheVariants as kind
 use Rattle.gn_values.specs.Val.{Val}
 use Rattle.gn_values.specs.ValCode.{val_code}
 use Rattle.gn_values.specs.Tables.{Table}
-use Rattle.gn_values.specs.Imported.{ScopeState, DefinitionState, MadeBy}
-use Rattle.gn_values.specs.ImportedCode.{name_code, scope_code, definition_code, made_code}
-use Rattle.gn_values.specs.declared.kept.DefinitionName.{DefinitionName}
+use Rattle.gn_definitions.specs.Imported.{ScopeState, DefinitionState, MadeBy}
+use Rattle.gn_definitions.specs.ImportedCode.{name_code, scope_code, definition_code, made_code}
+use Rattle.gn_definitions.specs.declared.kept.DefinitionName.{DefinitionName}
 use Rattle.gn_environment.specs.Layers.{VariableState, LayerState, ChainState}
 use Rattle.gn_environment.specs.declared.context.Context.{Context}
 use Rattle.gn_environment.specs.declared.context.OpenBlock.{OpenBlock}
@@ -66,16 +66,25 @@ abbrev pub stage_code : Coded Stage
 stage_code = code_by ℕ coded_ℕ stage_index stage_at stage_back
 
 abbrev kind_index : FileKind → ℕ
-kind_index BuildFile = 0
-kind_index Import = 1
+kind_index kind.BuildFile = 0
+kind_index kind.Import = 1
+kind_index kind.BuildConfiguration = 2
+kind_index kind.Dotfile = 3
+kind_index kind.Arguments = 4
 
 abbrev kind_at : ℕ → FileKind
-kind_at zero = BuildFile
-kind_at (suc n) = Import
+kind_at zero = kind.BuildFile
+kind_at (suc zero) = kind.Import
+kind_at (suc (suc zero)) = kind.BuildConfiguration
+kind_at (suc (suc (suc zero))) = kind.Dotfile
+kind_at (suc (suc (suc (suc n)))) = kind.Arguments
 
 pub kind_back : (k : FileKind) → kind_at (kind_index k) ≡ k
-kind_back BuildFile = refl
-kind_back Import = refl
+kind_back kind.BuildFile = refl
+kind_back kind.Import = refl
+kind_back kind.BuildConfiguration = refl
+kind_back kind.Dotfile = refl
+kind_back kind.Arguments = refl
 
 abbrev pub kind_code : Coded FileKind
 kind_code = code_by ℕ coded_ℕ kind_index kind_at kind_back
@@ -85,21 +94,18 @@ open_index block.Nothing = 0
 open_index block.Item = 1
 open_index block.Toolchain = 2
 open_index block.Tool = 3
-open_index block.Arguments = 4
 
 abbrev open_at : ℕ → OpenBlock
 open_at zero = block.Nothing
 open_at (suc zero) = block.Item
 open_at (suc (suc zero)) = block.Toolchain
-open_at (suc (suc (suc zero))) = block.Tool
-open_at (suc (suc (suc (suc n)))) = block.Arguments
+open_at (suc (suc (suc n))) = block.Tool
 
 pub open_back : (b : OpenBlock) → open_at (open_index b) ≡ b
 open_back block.Nothing = refl
 open_back block.Item = refl
 open_back block.Toolchain = refl
 open_back block.Tool = refl
-open_back block.Arguments = refl
 
 abbrev pub open_code : Coded OpenBlock
 open_code = code_by ℕ coded_ℕ open_index open_at open_back

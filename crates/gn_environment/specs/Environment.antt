@@ -6,7 +6,7 @@ use Rattle.gn_tree.specs.declared.operator.AssignOp.{AssignOp}
 use Rattle.gn_faults.specs.declared.file_kind.FileKind.{FileKind}
 use Rattle.gn_values.specs.Val.{Val}
 use Rattle.gn_values.specs.Tables.{Table, at_name}
-use Rattle.gn_values.specs.Imported.{ScopeState, DefinitionState, MadeBy}
+use Rattle.gn_definitions.specs.Imported.{ScopeState, DefinitionState, MadeBy}
 use Rattle.gn_environment.specs.declared.context.Context.{Context}
 use Rattle.gn_environment.specs.declared.context.OpenBlock.{OpenBlock}
 use Rattle.gn_environment.specs.Layers.{VariableState, ChainState, empty_layer, given_variable, values_in}

@@ -1,12 +1,12 @@
--- What an import leaves, and what merging it does.
+-- What an import leaves, and the finished build configuration, and what merging an import does.
 use Rattle.std.specs.Prelude.{ℕ, Bool, true, false, not, nat_eq, if◌then◌else◌, List, [], ◌∷◌, filter, Option, Some, None, Result, Ok, Err}
 use Rattle.std.specs.Ordering.{nat_cmp, is_lt}
 use Rattle.std.specs.Cmp.Lexicographic.{slice_cmp}
 use Rattle.gn_values.specs.Val.{Val, vscope, binds_of}
 use Rattle.gn_values.specs.Equal.{equals}
 use Rattle.gn_values.specs.Tables.{Table, at_name, with_name, with_names, with_new_names}
-use Rattle.gn_values.specs.Imported.{ScopeState, DefinitionState, ImportState}
-use Rattle.gn_values.specs.declared.kept.DefinitionName.{DefinitionName}
+use Rattle.gn_definitions.specs.Imported.{ScopeState, DefinitionState, ImportState}
+use Rattle.gn_definitions.specs.declared.kept.DefinitionName.{DefinitionName}
 use Rattle.gn_environment.specs.Layers.{VariableState, LayerState, values_in}
 use Rattle.gn_environment.specs.Chains.{variable_in}
 use Rattle.gn_environment.specs.Environment.{Environment, given}
@@ -30,6 +30,14 @@ scope_left layer = record { variables = public_part (values_in layer); templates
 -- what the innermost scope leaves, and all definitions that are known, among them those that this execution made
 unfoldable pub import_left : Environment → ImportState
 import_left env = record { scope = scope_left env.chain.inner; definitions = with_name env.execution env.made env.definitions }
+
+-- all that stands in a layer
+abbrev pub whole_scope : LayerState → ScopeState
+whole_scope layer = record { variables = values_in layer; templates = layer.templates; defaults = layer.defaults }
+
+-- what the finished build configuration leaves for the files beneath which it stands: all names of its scope, and all definitions that are known
+unfoldable pub configuration_left : Environment → ImportState
+configuration_left env = record { scope = whole_scope env.chain.inner; definitions = with_name env.execution env.made env.definitions }
 
 -- Conflicts
 

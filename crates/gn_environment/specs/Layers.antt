@@ -3,7 +3,7 @@ use Rattle.std.specs.Prelude.{ℕ, Bool, true, false, List, [], map, Option, Non
 use Rattle.gn_tree.specs.declared.position.Position.{Position}
 use Rattle.gn_values.specs.Val.{Val}
 use Rattle.gn_values.specs.Tables.{Table}
-use Rattle.gn_values.specs.declared.kept.DefinitionName.{DefinitionName}
+use Rattle.gn_definitions.specs.declared.kept.DefinitionName.{DefinitionName}
 
 -- what a name stands for in a layer
 pub record VariableState : Type 0 where

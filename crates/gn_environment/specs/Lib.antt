@@ -7,8 +7,8 @@ pub mod Templates
 pub mod Invoker
 pub mod Forwarding
 pub mod Giving
-pub mod Declaring
 pub mod Imports
+pub mod Declaring
 pub mod Surroundings
 pub mod Shown
 pub mod Within

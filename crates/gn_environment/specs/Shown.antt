@@ -6,7 +6,7 @@ use Rattle.std.specs.List.Sorted.{IsStrictlySortedBy}
 use Rattle.std.specs.Map.{keys_of}
 use Rattle.gn_tree.specs.declared.position.Position.{Position}
 use Rattle.gn_values.specs.Tables.{Table}
-use Rattle.gn_values.specs.Imported.{ScopeState, ImportState}
+use Rattle.gn_definitions.specs.Imported.{ScopeState, ImportState}
 use Rattle.gn_environment.specs.Layers.{VariableState}
 use Rattle.gn_environment.specs.Environment.{Environment}
 use Rattle.gn_environment.specs.Unread.{unread_at}

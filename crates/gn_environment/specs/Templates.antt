@@ -7,8 +7,8 @@ use Rattle.gn_tree.specs.declared.position.Position.{Position}
 use Rattle.gn_tree.specs.Tree.{BlockTree}
 use Rattle.gn_values.specs.Val.{Val, vstr}
 use Rattle.gn_values.specs.Tables.{Table, at_name, with_name, with_names}
-use Rattle.gn_values.specs.Imported.{ScopeState, DefinitionState}
-use Rattle.gn_values.specs.declared.kept.DefinitionName.{DefinitionName}
+use Rattle.gn_definitions.specs.Imported.{ScopeState, DefinitionState}
+use Rattle.gn_definitions.specs.declared.kept.DefinitionName.{DefinitionName}
 use Rattle.gn_environment.specs.Layers.{LayerState, ChainState, empty_layer, values_in}
 use Rattle.gn_environment.specs.Chains.{nearest, is_declared, chain_left, chain_all_read, all_read}
 use Rattle.gn_environment.specs.Unread.{reported}

@@ -25,8 +25,8 @@ pub struct Context {
     pub overrides: Overrides,
 }
 
-/// The innermost block that is open and says what may be called in it. Those of conditions, loops, templates and defaults
-/// aren't among them.
+/// The innermost block that is open and says what may be called in it. Those of conditions, loops, templates, defaults and
+/// declared arguments aren't among them.
 #[derive(Clone, Copy, Debug, PartialEq, Eq)]
 pub enum OpenBlock {
     /// None is open.
@@ -37,6 +37,4 @@ pub enum OpenBlock {
     Toolchain,
     /// That of a tool, in a toolchain's.
     Tool,
-    /// That of declared arguments.
-    Arguments,
 }

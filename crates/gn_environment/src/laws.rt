@@ -1,7 +1,7 @@
 // What follows of the steps of an evaluation.
 
 ghost use Rattle.std.specs.Prelude.{◌≡◌, ℕ, Bool, List, Some};
-ghost use Rattle.gn_values.specs.Imported.{DefinitionState};
+ghost use Rattle.gn_definitions.specs.Imported.{DefinitionState};
 ghost use Rattle.gn_values.specs.Val.{Val};
 ghost use Rattle.gn_environment.specs.Environment.{Environment, value_of, after_read, entered, left, given};
 ghost use Rattle.gn_environment.specs.Templates.{body_begins, body_ends};

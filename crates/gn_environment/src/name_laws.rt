@@ -3,7 +3,7 @@
 ghost use Rattle.std.specs.Prelude.{◌≡◌, ℕ, true, false, List, Some, None, Ok, Err, map};
 ghost use Rattle.gn_tree.specs.declared.position.Position.{Position};
 ghost use Rattle.gn_values.specs.Tables.{at_name};
-ghost use Rattle.gn_values.specs.Imported.{ScopeState, DefinitionState, ImportState};
+ghost use Rattle.gn_definitions.specs.Imported.{ScopeState, DefinitionState, ImportState};
 ghost use Rattle.gn_environment.specs.Layers.{LayerState};
 ghost use Rattle.gn_environment.specs.Chains.{nearest, is_declared};
 ghost use Rattle.gn_environment.specs.Environment.{Environment, fixed_value, value_of};

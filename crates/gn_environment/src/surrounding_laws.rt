@@ -1,9 +1,10 @@
 // What stands around a scope and around the body of a template.
 
-ghost use Rattle.std.specs.Prelude.{◌≡◌, ℕ, Bool, List};
-ghost use Rattle.gn_values.specs.Imported.{DefinitionState};
+ghost use Rattle.std.specs.Prelude.{◌≡◌, ℕ, Bool, List, Ok};
+ghost use Rattle.gn_tree.specs.declared.position.Position.{Position};
+ghost use Rattle.gn_definitions.specs.Imported.{DefinitionState};
 ghost use Rattle.gn_environment.specs.Environment.{Environment, entered, left};
-ghost use Rattle.gn_environment.specs.Declaring.{declaring_entered};
+ghost use Rattle.gn_environment.specs.Declaring.{declaring_entered, arguments_declared};
 ghost use Rattle.gn_environment.specs.Templates.{body_begins, body_ends};
 ghost use Rattle.gn_environment.specs.Surroundings.{surroundings};
 
@@ -13,9 +14,10 @@ pub fn scopes_leave_their_surroundings()
     ensures { (checked : Bool) (env after : Environment) → surroundings after ≡ surroundings (entered checked env) → surroundings (left after) ≡ surroundings env }
 {}
 
-/// The same of the scope of a block that declares arguments.
+/// The same of the scope of a block that declares arguments, and of its end, which sets them around it.
 pub fn declaring_scopes_leave_their_surroundings()
-    ensures { (env after : Environment) → surroundings after ≡ surroundings (declaring_entered env) → surroundings (left after) ≡ surroundings env }
+    ensures scope { (env after : Environment) → surroundings after ≡ surroundings (declaring_entered env) → surroundings (left after) ≡ surroundings env }
+    ensures declared { (position : Position) (env after last : Environment) → surroundings after ≡ surroundings (declaring_entered env) → arguments_declared position after ≡ Ok last → surroundings last ≡ surroundings env }
 {}
 
 /// The same of the body of a template, whose end is that of the scope of its call's block too.

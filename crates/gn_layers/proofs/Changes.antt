@@ -9,7 +9,7 @@ use Rattle.gn_values.specs.View.{val_of}
 use Rattle.gn_values.specs.declared.error.ValueError.{ValueError}
 use Rattle.gn_values.specs.declared.error.ElementError.{ElementError}
 use Rattle.gn_values.specs.Tables.{Table}
-use Rattle.gn_values.specs.declared.kept.DefinitionName.{DefinitionName}
+use Rattle.gn_definitions.specs.declared.kept.DefinitionName.{DefinitionName}
 use Rattle.gn_environment.specs.Layers.{LayerState}
 use Rattle.gn_environment.specs.Chains.{variable_in}
 use Rattle.gn_environment.specs.Assigning.{replaces, put, overwritten, overwritten_over, changed_in, changed_here, put_result, replaces_nonempty, has_no_value, operator_refuses, base_has_no_value, element_refuses}

@@ -6,9 +6,9 @@ use Rattle.std.specs.Map.{keys_of}
 use Rattle.std.specs.List.Sorted.{IsStrictlySortedBy}
 use Rattle.gn_basics.proofs.Tables.{insert_last}
 use Rattle.gn_values.specs.Tables.{Table, with_names}
-use Rattle.gn_values.specs.Imported.{ScopeState}
+use Rattle.gn_definitions.specs.Imported.{ScopeState}
 use Rattle.gn_values.specs.Val.{Val, IsSortedByName}
-use Rattle.gn_values.specs.declared.kept.DefinitionName.{DefinitionName}
+use Rattle.gn_definitions.specs.declared.kept.DefinitionName.{DefinitionName}
 use Rattle.gn_environment.proofs.Names.{order}
 
 -- a table in order over one whose names stand before its own stands behind it

@@ -7,8 +7,8 @@ use Rattle.std.specs.BTreeMap.{is_at}
 use Rattle.gn_values.specs.Tables.{with_names, without_name}
 use Rattle.gn_environment.specs.Imports.{public_part}
 use Rattle.gn_layers.specs.Named.{texted}
-use Rattle.gn_values.specs.declared.kept.DefinitionName.{DefinitionName}
-use Rattle.gn_values.specs.Imported.{ScopeState}
+use Rattle.gn_definitions.specs.declared.kept.DefinitionName.{DefinitionName}
+use Rattle.gn_definitions.specs.Imported.{ScopeState}
 use Rattle.gn_environment.specs.Layers.{LayerState, values_in}
 use Rattle.gn_environment.specs.Templates.{kept_variables, kept_templates, kept_defaults}
 

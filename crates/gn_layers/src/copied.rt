@@ -3,8 +3,9 @@
 ghost use Rattle.std.specs.Prelude.{◌≡◌, IfOk};
 
 use crate::key::NameKey;
+use gn_definitions::DefinitionName;
 use gn_paths::Text;
-use gn_values::{Bindings, DefinitionName};
+use gn_values::Bindings;
 use std::alloc::{AllocError, Global};
 
 /// What can be copied where there is memory.

@@ -4,7 +4,7 @@ ghost use Rattle.std.specs.Prelude.{◌≡◌, ℕ, Bool, List, [], IfOk, OnOk, 
 ghost use Rattle.std.specs.Ordering.{nat_cmp};
 ghost use Rattle.std.specs.Cmp.Lexicographic.{slice_cmp};
 ghost use Rattle.std.specs.BTreeMap.{IsOrdered};
-ghost use Rattle.gn_values.specs.Imported.{ScopeState};
+ghost use Rattle.gn_definitions.specs.Imported.{ScopeState};
 ghost use Rattle.gn_values.specs.Tables.{with_name, with_names};
 ghost use Rattle.gn_values.specs.Val.{Val, IsSortedByName};
 ghost use Rattle.gn_values.specs.View.{val_of, entry_of};
@@ -20,9 +20,10 @@ use crate::layer::Layer;
 use crate::layer_merge::keep_public;
 use crate::unread::numbered_name;
 use crate::variable::Variable;
+use gn_definitions::{DefinitionName, KeptScope};
 use gn_paths::Text;
 use gn_text::Names;
-use gn_values::{Bindings, DefinitionName, Entry, KeptScope, Value};
+use gn_values::{Bindings, Entry, Value};
 use std::alloc::{AllocError, Global};
 use std::collections::BTreeMap;
 use std::marker::Model;
@@ -45,8 +46,8 @@ pub trait Hides {
 }
 
 impl Model for Laid {
-    ghost use Rattle.gn_values.specs.Imported.{ScopeState};
-    ghost use Rattle.gn_values.specs.ImportedCode.{scope_code};
+    ghost use Rattle.gn_definitions.specs.Imported.{ScopeState};
+    ghost use Rattle.gn_definitions.specs.ImportedCode.{scope_code};
     ghost use Rattle.gn_layers.specs.View.{value_pairs};
 
     ghost Value = { ScopeState };

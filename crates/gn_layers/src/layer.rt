@@ -15,9 +15,10 @@ ghost use Rattle.gn_layers.specs.View.{variable_state, variables_in};
 use crate::error::{AssignError, ElementAssignError};
 use crate::key::NameKey;
 use crate::variable::Variable;
+use gn_definitions::DefinitionName;
 use gn_paths::Text;
 use gn_tree::{AssignOp, Position};
-use gn_values::{Bindings, DefinitionName, Entries, Value, ValueError};
+use gn_values::{Bindings, Entries, Value, ValueError};
 use std::alloc::{AllocError, Global};
 use std::collections::BTreeMap;
 use std::marker::Model;
@@ -68,6 +69,13 @@ impl Layer {
         let mut layer = Layer::new(alloc, false);
         layer.declares = true;
         layer
+    }
+
+    /// Whether the names that are assigned in the layer are declared.
+    pub fn declares(&self) -> bool
+        ensures { result ≡ self.now.declares }
+    {
+        self.declares
     }
 
     /// What a name stands for. None comes exactly where the layer has nothing at it.

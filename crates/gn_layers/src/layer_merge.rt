@@ -15,8 +15,9 @@ use crate::layer::Layer;
 use crate::layer_gives::give_each;
 use crate::undo::{put_all_back, set_name};
 use crate::variable::Variable;
+use gn_definitions::{DefinitionName, KeptScope};
 use gn_paths::Text;
-use gn_values::{Bindings, DefinitionName, KeptScope, Value};
+use gn_values::{Bindings, Value};
 use std::alloc::{AllocError, Global};
 use std::collections::BTreeMap;
 

@@ -10,8 +10,9 @@ ghost use Rattle.gn_environment.specs.Templates.{with_template};
 ghost use Rattle.gn_layers.specs.Kept.{template_restored};
 
 use crate::layer::Layer;
+use gn_definitions::{Definition, DefinitionName, Definitions};
 use gn_paths::Text;
-use gn_values::{Bindings, Definition, DefinitionName, Definitions};
+use gn_values::Bindings;
 use std::alloc::{AllocError, Global};
 use std::collections::BTreeMap;
 

@@ -8,7 +8,7 @@ use Rattle.std.proofs.lemmas.Option.{slice_get_within}
 use Rattle.gn_text.specs.Names.{AllDifferent, with_name as with_text}
 use Rattle.gn_values.specs.Val.{Val}
 use Rattle.gn_values.specs.Tables.{Table, with_name}
-use Rattle.gn_values.specs.Imported.{ScopeState}
+use Rattle.gn_definitions.specs.Imported.{ScopeState}
 use Rattle.gn_environment.specs.Layers.{VariableState, ChainState, given_variable}
 use Rattle.gn_environment.specs.Templates.{in_block}
 use Rattle.gn_environment.specs.Giving.{variables_given, all_given}

@@ -9,7 +9,7 @@ use Rattle.std.specs.FinMap.Entries.{below_all}
 use Rattle.std.specs.Ordering.{is_lt}
 use Rattle.gn_text.specs.Names.{AllDifferent}
 use Rattle.gn_values.specs.Tables.{Table, with_names}
-use Rattle.gn_values.specs.Imported.{ScopeState}
+use Rattle.gn_definitions.specs.Imported.{ScopeState}
 use Rattle.gn_environment.proofs.Names.{order}
 use Rattle.gn_layers.specs.Kept.{scope_of, scope_texted, scope_over, layers_over, layers_texted_over}
 use Rattle.gn_environment.specs.Layers.{VariableState, LayerState, values_in}

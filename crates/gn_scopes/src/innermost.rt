@@ -10,10 +10,11 @@ ghost use Rattle.gn_layers.specs.Named.{all_read_but_named};
 ghost use Rattle.gn_layers.specs.View.{value_pairs};
 
 use crate::scopes::Scopes;
+use gn_definitions::KeptScope;
 use gn_layers::{NameKey, NameSet};
 use gn_text::Names;
 use gn_tree::Position;
-use gn_values::{KeptScope, Value};
+use gn_values::Value;
 use std::alloc::{AllocError, Global};
 
 impl Scopes {

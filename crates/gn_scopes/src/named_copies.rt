@@ -5,16 +5,17 @@ ghost use Rattle.gn_values.specs.View.{entry_of};
 ghost use Rattle.gn_environment.specs.Chains.{chain_left};
 ghost use Rattle.gn_environment.specs.Forwarding.{target_name};
 ghost use Rattle.gn_environment.specs.Giving.{entries_but};
-ghost use Rattle.gn_environment.specs.Imports.{scope_left};
+ghost use Rattle.gn_environment.specs.Imports.{scope_left, whole_scope};
 ghost use Rattle.gn_layers.specs.Kept.{layers_over, layers_texted_over};
 ghost use Rattle.gn_environment.specs.Layers.{values_in};
 
 use crate::copies::keep_forwarded;
 use crate::named_scopes::NamedScopes;
+use gn_definitions::KeptScope;
 use gn_layers::{Hides, Laid, Layer, NameSet};
 use gn_paths::Text;
 use gn_text::Names;
-use gn_values::{Bindings, Entry, KeptScope};
+use gn_values::{Bindings, Entry};
 use std::alloc::{AllocError, Global};
 use std::collections::VecDeque;
 
@@ -39,6 +40,17 @@ impl NamedScopes {
         let layer = self.scopes.end();
         let laid = layer.into_laid(alloc, &self.names)?;
         laid.into_public(alloc)
+    }
+
+    /// Ends the innermost scope, and answers all that stood in it. Nothing is copied but names. The scope ends whatever the
+    /// answer.
+    pub fn leave_whole(&mut self, alloc: Global) -> Result<KeptScope, AllocError>
+        ensures ok { IfOk result (λ scope. scope ≡ whole_scope self.old.inner) }
+        ensures new { self.new ≡ chain_left self.old }
+    {
+        let layer = self.scopes.end();
+        let laid = layer.into_laid(alloc, &self.names)?;
+        laid.into_kept(alloc)
     }
 
     /// Copies of the names that stand in the innermost layer with their values.

@@ -12,10 +12,11 @@ ghost use Rattle.gn_layers.specs.View.{value_pairs};
 
 use crate::copies::copy_entries;
 use crate::named_scopes::NamedScopes;
+use gn_definitions::KeptScope;
 use gn_layers::NameKey;
 use gn_paths::Text;
 use gn_text::Names;
-use gn_values::{Bindings, Entry, KeptScope, Value};
+use gn_values::{Bindings, Entry, Value};
 use std::alloc::{AllocError, Global};
 
 impl NamedScopes {

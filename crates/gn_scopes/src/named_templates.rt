@@ -7,9 +7,10 @@ ghost use Rattle.gn_environment.specs.Layers.{empty_layer, given_variable};
 ghost use Rattle.gn_environment.specs.Templates.{in_block, with_template, with_defaults};
 
 use crate::named_scopes::NamedScopes;
+use gn_definitions::{Definition, DefinitionName, Definitions};
 use gn_layers::{Layer, Variable};
 use gn_paths::Text;
-use gn_values::{Bindings, Definition, DefinitionName, Definitions, Value};
+use gn_values::{Bindings, Value};
 use std::alloc::{AllocError, Global};
 use std::collections::VecDeque;
 
@@ -18,6 +19,7 @@ impl NamedScopes {
     pub fn innermost(&self) -> &Layer
         ensures templates { result.now.templates ≡ self.now.inner.templates }
         ensures defaults { result.now.defaults ≡ self.now.inner.defaults }
+        ensures declares { result.now.declares ≡ self.now.inner.declares }
     {
         self.scopes.innermost()
     }

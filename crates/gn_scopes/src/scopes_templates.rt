@@ -5,9 +5,10 @@ ghost use Rattle.gn_environment.specs.Chains.{all_read, chain_all_read};
 ghost use Rattle.gn_environment.specs.Templates.{in_block, with_template, with_defaults};
 
 use crate::scopes::Scopes;
+use gn_definitions::{Definition, DefinitionName, Definitions};
 use gn_layers::Layer;
 use gn_paths::Text;
-use gn_values::{Bindings, Definition, DefinitionName, Definitions};
+use gn_values::Bindings;
 use std::alloc::{AllocError, Global};
 use std::collections::VecDeque;
 

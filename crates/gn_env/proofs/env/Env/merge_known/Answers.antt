@@ -1,5 +1,5 @@
 use Rattle.std.proofs.Common.{ap, ◌∙◌}
-use Rattle.gn_values.specs.Imported.{ScopeState}
+use Rattle.gn_definitions.specs.Imported.{ScopeState}
 use Rattle.gn_environment.specs.Layers.{ChainState}
 use Rattle.gn_environment.specs.Imports.{with_imported}
 use Rattle.gn_env.proofs.Merging.{merges}

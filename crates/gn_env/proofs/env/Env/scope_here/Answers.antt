@@ -1,5 +1,5 @@
 use Rattle.std.proofs.Common.{◌≡◌, ◌∷◌, ap, ◌∙◌, subst, IfOk}
-use Rattle.gn_values.specs.Imported.{ScopeState}
+use Rattle.gn_definitions.specs.Imported.{ScopeState}
 use Rattle.gn_environment.specs.Environment.{Environment, kept_by}
 use Rattle.gn_environment.specs.Templates.{layers_of}
 use Rattle.gn_layers.specs.Kept.{layers_over, kept_scope}

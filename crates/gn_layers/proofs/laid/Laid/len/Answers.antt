@@ -1,6 +1,6 @@
 use Rattle.std.proofs.Common.{ℕ, List, sym, subst}
 use Rattle.std.specs.List.Sorted.{IsStrictlySortedBy}
-use Rattle.gn_values.specs.Imported.{ScopeState}
+use Rattle.gn_definitions.specs.Imported.{ScopeState}
 use Rattle.gn_values.specs.Val.{IsSortedByName}
 use Rattle.gn_environment.proofs.Names.{order}
 use Rattle.gn_layers.specs.View.{value_pairs}

@@ -4,8 +4,8 @@ use Rattle.std.specs.List.Sorted.{IsStrictlySortedBy}
 use Rattle.gn_values.specs.Val.{Val, IsSortedByName}
 use Rattle.gn_values.specs.View.{entry_of}
 use Rattle.gn_values.specs.Tables.{Table, with_names}
-use Rattle.gn_values.specs.declared.kept.DefinitionName.{DefinitionName}
-use Rattle.gn_values.specs.Imported.{ScopeState}
+use Rattle.gn_definitions.specs.declared.kept.DefinitionName.{DefinitionName}
+use Rattle.gn_definitions.specs.Imported.{ScopeState}
 use Rattle.gn_environment.proofs.Names.{order}
 use Rattle.gn_layers.specs.View.{value_pairs}
 use Rattle.gn_layers.proofs.LaidOver.{scope_copied}

@@ -2,7 +2,7 @@ use Rattle.std.proofs.Common.{◌≡◌, ℕ, List, not, filter, ap, ◌∙◌, 
 use Rattle.std.proofs.lemmas.Map.Made.{filter_same_pairs}
 use Rattle.gn_values.specs.Val.{Val}
 use Rattle.gn_values.specs.declared.value.Value.{Value}
-use Rattle.gn_values.specs.Imported.{ScopeState}
+use Rattle.gn_definitions.specs.Imported.{ScopeState}
 use Rattle.gn_layers.specs.View.{value_pairs}
 use Rattle.gn_layers.proofs.Gathered.{values_passing}
 use Rattle.gn_layers.proofs.laid.Laid.take_hidden.Goals as goal

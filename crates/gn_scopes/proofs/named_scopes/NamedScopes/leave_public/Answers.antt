@@ -1,5 +1,5 @@
 use Rattle.std.proofs.Common.{◌≡◌, ap, ◌∙◌, subst, IfOk}
-use Rattle.gn_values.specs.Imported.{ScopeState}
+use Rattle.gn_definitions.specs.Imported.{ScopeState}
 use Rattle.gn_environment.specs.Imports.{scope_left}
 use Rattle.gn_layers.specs.Kept.{public_scope}
 use Rattle.gn_environment.specs.Layers.{ChainState}

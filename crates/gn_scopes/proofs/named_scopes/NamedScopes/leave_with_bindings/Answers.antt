@@ -1,7 +1,7 @@
 use Rattle.std.proofs.Common.{◌≡◌, ap, ◌∙◌, subst, IfOk}
 use Rattle.gn_values.specs.Val.{Val}
 use Rattle.gn_values.specs.Tables.{Table}
-use Rattle.gn_values.specs.Imported.{ScopeState}
+use Rattle.gn_definitions.specs.Imported.{ScopeState}
 use Rattle.gn_environment.specs.Layers.{ChainState, values_in}
 use Rattle.gn_scopes.proofs.NamedLaid.{layer_texted}
 use Rattle.gn_scopes.proofs.named_scopes.NamedScopes.leave_with_bindings.Goals as goal
