@@ -1,5 +1,5 @@
 -- What an execution leaves beside its variables.
-use Rattle.std.specs.Prelude.{ℕ, Bool, List, [], ◌∷◌, ◌++◌}
+use Rattle.std.specs.Prelude.{ℕ, Bool, List, [], ◌∷◌, ◌++◌, Option, Some, None}
 use Rattle.std.specs.List.{list_any}
 use Rattle.std.specs.Str.{bytes_eq}
 use Rattle.std.specs.Prelude.{◌&&◌}
@@ -11,18 +11,23 @@ use Rattle.gn_items.specs.declared.item.Item.{Item}
 use Rattle.gn_items.specs.declared.tool.Tool.{Tool}
 use Rattle.gn_items.specs.Tools.{has_name}
 use Rattle.gn_items.specs.declared.written.Written.{Written}
+use Rattle.gn_items.specs.declared.declaration.Declaration.{Declaration}
+use Rattle.gn_items.specs.declared.default_toolchain.DefaultToolchain.{DefaultToolchain}
 
--- the items, the lines printed, the files written and the questions asked, each in order. A path may be written more than once: then the last file
--- counts. While the block of a toolchain is open, the tools that have been defined in it; else there are none
+-- the items, the lines printed, the files written, the questions asked and the arguments declared, each in order, and the default toolchain, where one
+-- is named. A path may be written more than once, and a default toolchain named so: then the last counts. While the block of a toolchain is open, the
+-- tools that have been defined in it; else there are none
 pub record Effects : Type 0 where
   pub items : List Item
   pub tools : List Tool
   pub prints : List (List ℕ)
   pub written : List Written
   pub asked : List Question
+  pub declared : List Declaration
+  pub default_toolchain : Option DefaultToolchain
 
 abbrev pub no_effects : Effects
-no_effects = record { items = []; tools = []; prints = []; written = []; asked = [] }
+no_effects = record { items = []; tools = []; prints = []; written = []; asked = []; declared = []; default_toolchain = None }
 
 -- whether two labels are equal
 abbrev pub same_label : Label → Label → Bool
@@ -70,3 +75,11 @@ with_written file effects = record effects { written = effects.written ++ file �
 -- one more question
 abbrev pub with_asked : Question → Effects → Effects
 with_asked question effects = record effects { asked = effects.asked ++ question ∷ [] }
+
+-- more arguments
+unfoldable pub with_declarations : List Declaration → Effects → Effects
+with_declarations declarations effects = record effects { declared = effects.declared ++ declarations }
+
+-- a default toolchain, in place of one that was named before
+unfoldable pub with_default_toolchain : DefaultToolchain → Effects → Effects
+with_default_toolchain toolchain effects = record effects { default_toolchain = Some toolchain }

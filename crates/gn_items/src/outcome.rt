@@ -1,26 +1,29 @@
 // What an execution leaves beside its variables.
 
-ghost use Rattle.std.specs.Prelude.{◌≡◌, [], OnOk, OnErr, map};
-ghost use Rattle.gn_items.specs.Effects.{no_effects, is_defined, with_item, with_tool, with_toolchain, with_print, with_written, with_asked};
+ghost use Rattle.std.specs.Prelude.{◌≡◌, [], OnOk, OnErr, map, option_map};
+ghost use Rattle.gn_items.specs.Effects.{no_effects, is_defined, with_item, with_tool, with_toolchain, with_print, with_written, with_asked, with_declarations, with_default_toolchain};
 ghost use Rattle.gn_items.specs.Tools.{has_name};
 ghost use Rattle.gn_items.specs.Questions.{question_of};
 ghost use Rattle.gn_runs.specs.Runs.{content_of, import_of};
 
+use crate::declaration::Declaration;
+use crate::default_toolchain::DefaultToolchain;
 use crate::item::Item;
 use crate::question::Question;
 use crate::tool::Tool;
 use crate::tools::Tools;
 use crate::written::Written;
 use gn_labels::Label;
-use gn_paths::{Path, Text};
+use gn_paths::{Path, Text, Texts};
 use std::alloc::{AllocError, Global};
 use std::collections::BTreeSet;
 use std::marker::Model;
 use std::mem;
 
 /// What an execution leaves beside its variables: the items that it defines, toolchains with their tools, the lines that it
-/// prints, the files that it writes and the questions that it asks, each in order. Items of one label may stand in it twice; `has` tells in time whether
-/// a label is new. So may files of one path, of which the last counts.
+/// prints, the files that it writes, the questions that it asks and the arguments that it declares, each in order, and the
+/// default toolchain that it names. Items of one label may stand in it twice; `has` tells in time whether a label is new. So may
+/// files of one path, of which the last counts.
 #[derive(Drop)]
 pub struct Outcome {
     alloc: Global,
@@ -32,6 +35,8 @@ pub struct Outcome {
     prints: Vec<Text>,
     written: Vec<Written>,
     asked: Vec<Question>,
+    declared: Vec<Declaration>,
+    default_toolchain: Option<DefaultToolchain>,
 }
 
 impl Model for Outcome {
@@ -47,13 +52,13 @@ impl Model for Outcome {
     ghost use Rattle.gn_items.specs.Labels.{HasLabels};
     ghost use Rattle.gn_items.specs.Questions.{question_of};
 
-    ghost view = { λ o. record { items = o.items.items; tools = o.tools; prints = o.prints.items; written = o.written.items; asked = map question_of o.asked.items } };
+    ghost view = { λ o. record { items = o.items.items; tools = o.tools; prints = o.prints.items; written = o.written.items; asked = map question_of o.asked.items; declared = o.declared.items; default_toolchain = o.default_toolchain } };
 
     ghost invariant = { λ o. HasLabels ⟦<Label as Ord>⟧.cmp o.labels o.items.items };
 }
 
 impl Outcome {
-    /// No items, no lines, no files and no questions. It takes no memory.
+    /// No items, no lines, no files, no questions, no arguments and no default toolchain. It takes no memory.
     pub fn new(alloc: Global) -> Outcome
         ensures { result ≡ no_effects }
     {
@@ -65,6 +70,8 @@ impl Outcome {
             prints: Vec::new(alloc),
             written: Vec::new(alloc),
             asked: Vec::new(alloc),
+            declared: Vec::new(alloc),
+            default_toolchain: None,
         }
     }
 
@@ -164,6 +171,24 @@ impl Outcome {
         Ok(())
     }
 
+    /// Puts arguments that are declared behind the others. After want of memory nothing is changed, and they are dropped.
+    #[tactic(auto, unfolding(crate::specs::Effects::with_declarations))]
+    pub fn declare(&mut self, declarations: Vec<Declaration>) -> Result<(), AllocError>
+        ensures ok { OnOk result (self.new ≡ with_declarations declarations.items self.old) }
+        ensures err { OnErr result (self.new ≡ self.old) }
+    {
+        let mut declarations = declarations;
+        self.declared.append(&mut declarations)
+    }
+
+    /// Names the default toolchain, in place of one that was named before. It takes no memory.
+    #[tactic(auto, unfolding(crate::specs::Effects::with_default_toolchain))]
+    pub fn set_default_toolchain(&mut self, toolchain: DefaultToolchain)
+        ensures { self.new ≡ with_default_toolchain toolchain self.old }
+    {
+        self.default_toolchain = Some(toolchain);
+    }
+
     /// The questions asked, in order.
     pub fn asked(&self) -> &[Question]
         ensures { map question_of result.now ≡ self.now.asked }
@@ -178,11 +203,32 @@ impl Outcome {
         self.asked
     }
 
+    /// The lines printed, in order. It takes no memory.
+    pub fn into_prints(self) -> Texts
+        ensures { result ≡ self.prints }
+    {
+        Texts::from_vec(self.prints)
+    }
+
     /// The items, in the order in which they were defined.
     pub fn items(&self) -> &[Item]
         ensures { result.now ≡ self.now.items }
     {
         self.items.as_slice()
+    }
+
+    /// The arguments declared, in the order in which their blocks ended, and of each block in the order of their names.
+    pub fn declared(&self) -> &[Declaration]
+        ensures { result.now ≡ self.now.declared }
+    {
+        self.declared.as_slice()
+    }
+
+    /// The default toolchain, if one is named.
+    pub fn default_toolchain(&self) -> Option<&DefaultToolchain>
+        ensures { option_map (λ t. t.now) result ≡ self.now.default_toolchain }
+    {
+        self.default_toolchain.as_ref()
     }
 
     /// The lines printed, in order.
