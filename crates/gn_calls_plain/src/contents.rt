@@ -71,7 +71,8 @@ fn read_path(
     call: &Call,
     env: &Env,
 ) -> Result<Reading, StepEnd>
-    ensures { (a : Answers) (out : Effects) → IsReading result a call.now env.now out (path_read conversion (path_meant env.now.setting.directory text.now) a call.now env.now out) }
+    ensures { (a : Answers) (out : Effects) → IsReading result a call.now env.now out (path_read conversion
+        (path_meant env.now.setting.directory text.now) a call.now env.now out) }
 {
     let at = argument_position(call, 0);
     match path_meant(alloc, env.directory(), text.as_bytes())? {
@@ -120,7 +121,8 @@ fn read_texts(
     call: &Call,
     env: &Env,
 ) -> Result<Reading, StepEnd>
-    ensures { (a : Answers) (out : Effects) → IsReading result a call.now env.now out (texts_read (option_copied text.entry) (option_copied name.entry) a nesting call.now env.now out) }
+    ensures { (a : Answers) (out : Effects) → IsReading result a call.now env.now out (texts_read (option_copied text.entry)
+        (option_copied name.entry) a nesting call.now env.now out) }
 {
     match (text, name) {
         (Some(text), Some(name)) => read_named(alloc, name, text, nesting, call, env),

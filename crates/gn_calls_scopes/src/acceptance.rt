@@ -8,7 +8,7 @@ ghost use Rattle.gn_functions.specs.Rules.{takes, rule_of};
 ghost use Rattle.gn_steps.specs.Ends.{IsStep};
 
 use crate::imports::allows_import;
-use crate::items::allows;
+use crate::items::{allows, allows_arguments, asks_for_files, is_build_configuration};
 use crate::templates::open_call;
 use gn_env::Env;
 use gn_faults::Code;
@@ -25,6 +25,9 @@ fn is_allowed(allowed: Allowed, env: &Env) -> bool
     match allowed {
         Allowed::Everywhere => true,
         Allowed::WhereItems(kind) => allows(kind, env),
+        Allowed::WhereFiles => asks_for_files(env.kind()),
+        Allowed::WhereArguments => allows_arguments(env),
+        Allowed::InBuildConfiguration => is_build_configuration(env.kind()),
     }
 }
 

@@ -5,17 +5,18 @@ ghost use Rattle.gn_items.specs.Effects.{Effects};
 ghost use Rattle.gn_runs.specs.Runs.{Answers};
 ghost use Rattle.gn_tree.specs.declared.position.Position.{Position};
 ghost use Rattle.gn_values.specs.View.{val_of};
-ghost use Rattle.gn_environment.specs.Imports.{merged};
+ghost use Rattle.gn_environment.specs.Declaring.{import_brought};
 ghost use Rattle.gn_meaning.specs.Imports.{max_import_nesting, merged_to, imported_runs};
 ghost use Rattle.gn_steps.specs.Ends.{IsStep};
 ghost use Rattle.gn_calls_scopes.specs.Resolved.{IsResolved};
 
+use gn_definitions::ImportValue;
 use gn_env::{Env, MergeError};
 use gn_faults::Code;
 use gn_paths::{Path, path_meant};
 use gn_steps::{StepEnd, path_code, wrong, wrong_with};
 use gn_tree::Position;
-use gn_values::{ImportValue, Value};
+use gn_values::Value;
 use std::alloc::Global;
 
 /// The path of the file that an argument of `import` names, which stands at `at`: it is resolved from the current
@@ -40,7 +41,7 @@ pub fn resolve_import(
     }
 }
 
-/// Merges what an import left into the innermost scope. `Wrong` has `Conflict` at the call, with the first name at
+/// Merges what an import left into the innermost scope, which declares the names of its variables if it declares names. `Wrong` has `Conflict` at the call, with the first name at
 /// which the scope has something else.
 pub fn merge_import(
     alloc: Global,
@@ -48,9 +49,9 @@ pub fn merge_import(
     position: Position,
     env: &mut Env,
 ) -> Result<Option<Value>, StepEnd>
-    ensures { (out : Effects) → IsStep (option_map val_of) result env.new out (merged_to (merged value env.old) position env.old out) }
+    ensures { (out : Effects) → IsStep (option_map val_of) result env.new out (merged_to (import_brought position value env.old) position env.old out) }
 {
-    match env.merge(alloc, &value) {
+    match env.bring_import(alloc, &value, position) {
         Ok(()) => Ok(None),
         Err(MergeError::Conflict(name)) => {
             Err(wrong_with(alloc, env, Code::Conflict, position, &name))

@@ -6,7 +6,7 @@ ghost use Rattle.gn_values.specs.View.{val_of};
 ghost use Rattle.gn_environment.specs.Environment.{with_open};
 ghost use Rattle.gn_environment.specs.Faults.{fault_in};
 ghost use Rattle.gn_meaning.specs.Calls.{open_in, open_around, known_by, defaults_given_runs, scope_begun_runs, item_scope, item_scope_begun_runs, item_runs, item_end_runs};
-ghost use Rattle.gn_meaning.specs.Templates.{is_inside, is_build_file, allows_items, is_toolchain, allows};
+ghost use Rattle.gn_meaning.specs.Templates.{is_inside, is_build_file, asks_for_files, is_build_configuration, allows_items, allows_arguments, is_toolchain, allows};
 ghost use Rattle.gn_meaning.specs.Items.{defined};
 ghost use Rattle.gn_steps.specs.Ends.{IsFault, IfFault, IsStep};
 
@@ -135,10 +135,34 @@ fn is_inside(block: OpenBlock) -> bool
     !matches!(block, OpenBlock::Nothing)
 }
 
+/// Whether build arguments may be declared here: where other files may be asked for, outside the blocks of items.
+pub(crate) fn allows_arguments(env: &Env) -> bool
+    ensures { result ≡ allows_arguments env.now }
+{
+    !is_inside(env.open_block()) && asks_for_files(env.kind())
+}
+
 fn is_build_file(kind: FileKind) -> bool
     ensures { result ≡ is_build_file kind }
 {
     matches!(kind, FileKind::BuildFile)
+}
+
+/// Whether a file of this kind may ask for others.
+pub(crate) fn asks_for_files(kind: FileKind) -> bool
+    ensures { result ≡ asks_for_files kind }
+{
+    match kind {
+        FileKind::BuildFile | FileKind::Import | FileKind::BuildConfiguration => true,
+        FileKind::Dotfile | FileKind::Arguments => false,
+    }
+}
+
+/// Whether a file of this kind is the build configuration.
+pub(crate) fn is_build_configuration(kind: FileKind) -> bool
+    ensures { result ≡ is_build_configuration kind }
+{
+    matches!(kind, FileKind::BuildConfiguration)
 }
 
 // By what an item is known that has been defined: a tool by its name, and all else by its label.

@@ -1,17 +1,21 @@
-// Calls that open a scope, in which their block runs: of templates, of items, `target` and `set_defaults`.
+// Calls that open a scope, in which their block runs: of templates, of items, `target`, `set_defaults` and `declare_args`.
 
 ghost use Rattle.std.specs.Prelude.{◌≡◌, map, option_map};
 ghost use Rattle.gn_items.specs.Effects.{Effects};
 ghost use Rattle.gn_values.specs.View.{val_of};
 ghost use Rattle.gn_environment.specs.Templates.{template_of};
-ghost use Rattle.gn_meaning.specs.OpeningCalls.{of_function, template_begun_runs, item_begun_runs, template_named_runs, item_named_runs, target_kind_runs, target_of_runs, target_runs, defaults_begun_runs, begun_runs, closed_runs};
+ghost use Rattle.gn_environment.specs.Declaring.{declaring_entered};
+ghost use Rattle.gn_meaning.specs.Steps.{ends};
+ghost use Rattle.gn_meaning.specs.OpeningCalls.{of_function, opened_arguments, template_begun_runs, item_begun_runs, template_named_runs, item_named_runs, target_kind_runs, target_of_runs, target_runs, defaults_begun_runs, begun_runs, closed_runs};
 ghost use Rattle.gn_functions.specs.Functions.{target_kind_of};
 ghost use Rattle.gn_steps.specs.Ends.{IsStep};
 ghost use Rattle.gn_calls_scopes.specs.Openings.{opener_view, opened_view};
 
+use crate::declaring::end_arguments;
 use crate::definer::Definer;
 use crate::items::{allows, begin_item, begin_scope, end_item};
 use crate::templates::{end_defaults, end_template, open_call};
+use gn_definitions::Definition;
 use gn_env::Env;
 use gn_faults::Code;
 use gn_functions::{Opening, target_kind};
@@ -19,7 +23,7 @@ use gn_items::{ItemKind, Outcome};
 use gn_paths::Text;
 use gn_steps::{StepEnd, argument_position, refuse, wrong, wrong_with};
 use gn_tree::{Call, Position};
-use gn_values::{Definition, Value};
+use gn_values::Value;
 use std::alloc::Global;
 use std::sync::Arc;
 
@@ -53,6 +57,8 @@ pub enum Opened {
     Defaults {
         kind: Text,
     },
+    /// Declared arguments.
+    Arguments,
 }
 
 // The call of a template, which gives this name.
@@ -123,7 +129,8 @@ fn begin_target_of(
     call: &Call,
     env: &mut Env,
 ) -> Result<Opened, StepEnd>
-    ensures runs { (out : Effects) → IsStep opened_view result env.new out (target_of_runs (template_of kind_name.now env.old) nesting kind_name.now name.now call.now env.old out) }
+    ensures runs { (out : Effects) → IsStep opened_view result env.new out (target_of_runs
+        (template_of kind_name.now env.old) nesting kind_name.now name.now call.now env.old out) }
 {
     let Some(definition) = env.template(kind_name)? else {
         return begin_target_kind(alloc, kind_name, name, call, env);
@@ -220,6 +227,14 @@ fn begin_defaults(
     Ok(Opened::Defaults { kind })
 }
 
+// `declare_args`
+fn begin_arguments(env: &mut Env) -> Result<Opened, StepEnd>
+    ensures runs { (out : Effects) → IsStep opened_view result env.new out (ends opened_arguments (declaring_entered env.old) out) }
+{
+    env.enter_declaring()?;
+    Ok(Opened::Arguments)
+}
+
 /// Opens the scope in which the block of the call runs, with the values of its arguments; its name nests so deep in its file.
 /// `Wrong` has `BadTypes` at the argument of a wrong type; then, at the call of `target`, `Nesting` of the template that it
 /// calls, or `NotAllowedHere` or `BadArguments` of the kind that it names; then `AlreadySet` at the call with the
@@ -269,12 +284,17 @@ fn begin_function(
             [kind] => begin_defaults(alloc, kind, call, env),
             _ => Err(refuse(alloc, call, env)),
         },
+        Opening::DeclareArguments => match values {
+            [] => begin_arguments(env),
+            _ => Err(refuse(alloc, call, env)),
+        },
     }
 }
 
 /// Closes what is open, whose call stands at the position. An item is defined, its label has to be new, and its names have to
 /// be read; behind a template's body the names of the call's block and those of the body have to be read; the variables
-/// of the block of `set_defaults` are the defaults of its kind. `Wrong` has the first of these that isn't so.
+/// of the block of `set_defaults` are the defaults of its kind, and those of `declare_args`, which must not be set around the
+/// block, are set there. `Wrong` has the first of these that isn't so.
 #[tactic(auto, unfolding(gn_meaning::specs::OpeningCalls::closed_runs))]
 pub fn end_call<D: Definer>(
     alloc: Global,
@@ -291,5 +311,6 @@ pub fn end_call<D: Definer>(
         Opened::Item { kind, name } => end_item(alloc, kind, &name, position, env, out, definer),
         Opened::Template { depth, .. } => end_template(alloc, depth, env),
         Opened::Defaults { kind } => end_defaults(alloc, &kind, env),
+        Opened::Arguments => end_arguments(alloc, position, env, out),
     }
 }

@@ -93,7 +93,8 @@ pub(crate) fn selection_of(alloc: Global, value: &Value) -> Result<Selection, Al
 
 // The excepted names: none without a last argument, else those of that list of strings, which stands at the position.
 fn excepted(alloc: Global, last: Option<(&Value, Position)>, env: &Env) -> Result<Texts, StepEnd>
-    ensures { (next : List (List ℕ) → Steps (Option Val)) (out : Effects) → IsExcepted result next env.now out (excepted_runs (option_map (λ p. (val_of p.0.now, p.1)) last.entry) next env.now out) }
+    ensures { (next : List (List ℕ) → Steps (Option Val)) (out : Effects) →
+        IsExcepted result next env.now out (excepted_runs (option_map (λ p. (val_of p.0.now, p.1)) last.entry) next env.now out) }
 {
     let Some((names, at)) = last else {
         return Ok(Texts::new(alloc));
@@ -114,7 +115,8 @@ fn select(
     name: &Text,
     env: &Env,
 ) -> Result<Selected, StepEnd>
-    ensures { (all : List (List ℕ) → Steps (Option Val)) (some : List (List ℕ) → List (List ℕ) → Steps (Option Val)) (out : Effects) → IsSelected result all some env.now out (selected_runs (selection_of (val_of names.now)) (option_map (λ p. (val_of p.0.now, p.1)) last.entry) at position name.now all some env.now out) }
+    ensures { (all : List (List ℕ) → Steps (Option Val)) (some : List (List ℕ) → List (List ℕ) → Steps (Option Val)) (out : Effects) →
+        IsSelected result all some env.now out (selected_runs (selection_of (val_of names.now)) (option_map (λ p. (val_of p.0.now, p.1)) last.entry) at position name.now all some env.now out) }
 {
     match selection_of(alloc, names)? {
         Selection::Every => Ok(Selected::Every(excepted(alloc, last, env)?)),
@@ -150,7 +152,7 @@ fn forward_names(
 ) -> Result<Option<Value>, StepEnd>
     ensures { (out : Effects) → IsStep (option_map val_of) result env.new out (names_forwarded_runs (origin_of origin.entry) names.now except.now position env.old out) }
 {
-    match env.forward_names(alloc, origin, names, except) {
+    match env.bring_names(alloc, origin, names, except, position) {
         Ok(()) => Ok(None),
         Err(error) => Err(not_forwarded(alloc, error, position, env)),
     }
@@ -230,11 +232,12 @@ fn forward_selected(
     name: &Text,
     env: &mut Env,
 ) -> Result<Option<Value>, StepEnd>
-    ensures { (out : Effects) → IsStep (option_map val_of) result env.new out (origin_forwarded_runs (origin_of origin.entry) (val_of names.now) (option_map (λ p. (val_of p.0.now, p.1)) last.entry) at position name.now env.old out) }
+    ensures { (out : Effects) → IsStep (option_map val_of) result env.new out (origin_forwarded_runs (origin_of origin.entry) (val_of names.now)
+        (option_map (λ p. (val_of p.0.now, p.1)) last.entry) at position name.now env.old out) }
 {
     match select(alloc, names, last, at, position, name, env)? {
         Selected::Every(except) => {
-            env.forward_all(alloc, origin, &except)?;
+            env.bring_all(alloc, origin, &except, position)?;
             Ok(None)
         }
         Selected::Listed(names, except) => {
@@ -260,7 +263,8 @@ fn forward(
     name: &Text,
     env: &mut Env,
 ) -> Result<Option<Value>, StepEnd>
-    ensures { (out : Effects) → IsStep (option_map val_of) result env.new out (forwarded_runs (source_view source.entry) (val_of names.now) (option_map (λ p. (val_of p.0.now, p.1)) last.entry) source_at at position name.now env.old out) }
+    ensures { (out : Effects) → IsStep (option_map val_of) result env.new out (forwarded_runs (source_view source.entry) (val_of names.now)
+        (option_map (λ p. (val_of p.0.now, p.1)) last.entry) source_at at position name.now env.old out) }
 {
     match source {
         FirstArgument::Invoker => {
@@ -285,7 +289,8 @@ fn not_needed_here(
     name: &Text,
     env: &mut Env,
 ) -> Result<Option<Value>, StepEnd>
-    ensures { (out : Effects) → IsStep (option_map val_of) result env.new out (unneeded_here_runs (val_of names.now) (option_map (λ p. (val_of p.0.now, p.1)) last.entry) at position name.now env.old out) }
+    ensures { (out : Effects) → IsStep (option_map val_of) result env.new out (unneeded_here_runs (val_of names.now)
+        (option_map (λ p. (val_of p.0.now, p.1)) last.entry) at position name.now env.old out) }
 {
     match select(alloc, names, last, at, position, name, env)? {
         Selected::Every(except) => env.read_all_here(alloc, &except)?,
@@ -304,7 +309,8 @@ fn not_needed_at_invoker(
     name: &Text,
     env: &mut Env,
 ) -> Result<Option<Value>, StepEnd>
-    ensures { (out : Effects) → IsStep (option_map val_of) result env.new out (unneeded_at_invoker_runs (val_of names.now) (option_map (λ p. (val_of p.0.now, p.1)) last.entry) at position name.now env.old out) }
+    ensures { (out : Effects) → IsStep (option_map val_of) result env.new out (unneeded_at_invoker_runs (val_of names.now)
+        (option_map (λ p. (val_of p.0.now, p.1)) last.entry) at position name.now env.old out) }
 {
     match select(alloc, names, last, at, position, name, env)? {
         Selected::Every(except) => env.read_invoker_but(alloc, &except)?,
@@ -323,7 +329,8 @@ fn not_needed_in_value(
     name: &Text,
     env: &Env,
 ) -> Result<Option<Value>, StepEnd>
-    ensures { (out : Effects) → IsStep (option_map val_of) result env.now out (unneeded_in_value_runs (val_of names.now) (option_map (λ p. (val_of p.0.now, p.1)) last.entry) at position name.now env.now out) }
+    ensures { (out : Effects) → IsStep (option_map val_of) result env.now out (unneeded_in_value_runs (val_of names.now)
+        (option_map (λ p. (val_of p.0.now, p.1)) last.entry) at position name.now env.now out) }
 {
     select(alloc, names, last, at, position, name, env)?;
     Ok(None)
@@ -365,7 +372,8 @@ fn not_needed_of_two(
     name: &Text,
     env: &mut Env,
 ) -> Result<Option<Value>, StepEnd>
-    ensures { (out : Effects) → IsStep (option_map val_of) result env.new out (unneeded_two_runs (source_view source.entry) (val_of second.now) first_at at position name.now env.old out) }
+    ensures { (out : Effects) → IsStep (option_map val_of) result env.new out (unneeded_two_runs (source_view source.entry)
+        (val_of second.now) first_at at position name.now env.old out) }
 {
     match source {
         FirstArgument::Invoker => not_needed_at_invoker(
@@ -396,7 +404,8 @@ fn not_needed_of_three(
     name: &Text,
     env: &mut Env,
 ) -> Result<Option<Value>, StepEnd>
-    ensures { (out : Effects) → IsStep (option_map val_of) result env.new out (unneeded_three_runs (source_view source.entry) (val_of names.now) (val_of last.now) first_at at last_at position name.now env.old out) }
+    ensures { (out : Effects) → IsStep (option_map val_of) result env.new out (unneeded_three_runs (source_view source.entry) (val_of names.now)
+        (val_of last.now) first_at at last_at position name.now env.old out) }
 {
     let last = Some((last, last_at));
     match source {

@@ -8,7 +8,7 @@ use Rattle.gn_tree.specs.Tree.{ExprTree, name_expr, item_expr, ExprTrees, no_exp
 use Rattle.gn_tree.specs.Depth.{exprs_depth}
 use Rattle.gn_tree.specs.Views.{expr_of, exprs_of, body_of, call_of}
 use Rattle.gn_values.specs.Val.{Val}
-use Rattle.gn_values.specs.Imported.{DefinitionState}
+use Rattle.gn_definitions.specs.Imported.{DefinitionState}
 use Rattle.gn_environment.specs.Templates.{template_of}
 use Rattle.gn_items.specs.Effects.{Effects}
 use Rattle.gn_runs.specs.Runs.{Answers}

@@ -13,7 +13,7 @@ use Rattle.gn_eval.specs.Operations.{IsOperand, joined}
 use Rattle.gn_eval.specs.Library.{Need}
 use Rattle.gn_eval.specs.Ends.{IsFailure}
 use Rattle.gn_eval.specs.declared.ending.EvalEnd.{EvalEnd}
-use Rattle.gn_eval.proofs.Covered.{then_failed}
+use Rattle.gn_eval.specs.Telling.{then_failed}
 
 -- one operator more inside
 pub joined_more : (e : ExprTree) (os : List Operation) (o : Operation) → joined e (os ++ o ∷ []) ≡ joined (binary_expr o.operator o.position e o.right.now) os

@@ -1,5 +1,5 @@
 pub mod CallParts
-pub mod Covered
+pub mod Configurations
 pub mod Joined
 pub mod Passed
 pub mod ReadValues

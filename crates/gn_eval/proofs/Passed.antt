@@ -11,7 +11,7 @@ use Rattle.gn_eval.specs.Library.{Need, LibraryState, Includes, GoesOn}
 use Rattle.gn_eval.specs.Ends.{end_of_step, lifted, Covers, IsFailure, IsRun, Claims, Evaluates}
 use Rattle.gn_eval.specs.declared.ending.EvalEnd.{EvalEnd}
 use Rattle.gn_eval.specs.declared.ending.EvalEnd.TheVariants.{Wrong, Spoiled, Stopped, Memory}
-use Rattle.gn_eval.proofs.Covered.{covered, told_before, goes_on_further, then_failed}
+use Rattle.gn_eval.specs.Telling.{covered, told_before, goes_on_further, then_failed}
 
 -- a library goes on that isn't asked
 pub goes_on_still : (state : LibraryState) → GoesOn state state

@@ -1,24 +1,29 @@
 // Whole blocks and files.
 
-ghost use Rattle.std.specs.Prelude.{◌≡◌};
+ghost use Rattle.std.specs.Prelude.{◌≡◌, ◌≢◌, [], ◌∷◌, Err, option_map, codes};
 ghost use Rattle.gn_tree.specs.Depth.{IsShallow};
-ghost use Rattle.gn_meaning.specs.Meaning.{whole_block_runs, file_runs, import_file_runs};
+ghost use Rattle.gn_meaning.specs.Meaning.{whole_block_runs, file_runs, import_file_runs, lacks_toolchain, configuration_ends, configuration_file_runs};
 ghost use Rattle.gn_items.specs.Effects.{Effects};
 ghost use Rattle.gn_environment.specs.Environment.{reported_here};
 ghost use Rattle.gn_meaning.specs.Calls.{checked_end};
-ghost use Rattle.gn_steps.specs.Ends.{IsStep};
-ghost use Rattle.gn_eval.specs.Ends.{Evaluates, EvaluatesSpent};
+ghost use Rattle.gn_environment.specs.Faults.{fault_in};
+ghost use Rattle.gn_faults.specs.declared.code.Code.TheVariants as code;
+ghost use Rattle.gn_steps.specs.Ends.{IsStep, IsFault};
+ghost use Rattle.gn_eval.specs.Library.{Need};
+ghost use Rattle.gn_eval.specs.Ends.{Evaluates, EvaluatesSpent, IsSpentRun};
 
 use crate::ending::EvalEnd;
 use crate::level::Level;
 use crate::library::Library;
 use crate::statements::run_statements;
 use gn_calls_scopes::Definer;
+use gn_definitions::ImportValue;
 use gn_env::Env;
-use gn_items::Outcome;
-use gn_steps::{StepEnd, no_effect};
-use gn_tree::Block;
-use gn_values::ImportValue;
+use gn_faults::Code;
+use gn_items::{DefaultToolchain, Outcome};
+use gn_paths::Text;
+use gn_steps::{StepEnd, no_effect, wrong_with};
+use gn_tree::{Block, Position};
 use std::alloc::Global;
 
 /// Runs the statements of a block in the innermost scope of the environment. What they define and print is added to
@@ -85,6 +90,62 @@ pub fn run_import_file<L: Library + Definer>(
 {
     match run_block(alloc, block, &mut env, out, library) {
         Ok(()) => Ok(env.import_value(alloc)?),
+        Err(end) => {
+            drop(env);
+            Err(end)
+        }
+    }
+}
+
+// Whether a build configuration lacks the name of the default toolchain.
+fn lacks_toolchain(toolchain: &Text, named: Option<&DefaultToolchain>) -> bool
+    ensures { result ≡ lacks_toolchain toolchain.now (option_map (λ t. t.now) named.entry) }
+{
+    toolchain.len() == 0 && named.is_none()
+}
+
+// The end of a build configuration that names no default toolchain.
+fn no_toolchain(alloc: Global, env: &Env) -> StepEnd
+    ensures { IsFault result (fault_in env.now.setting (record { line = 1; column = 1 }) code.Missing (codes "set_default_toolchain" ∷ [])) }
+{
+    let beginning = Position { line: 1, column: 1 };
+    match Text::from_bytes(alloc, b"set_default_toolchain") {
+        Ok(name) => wrong_with(alloc, env, Code::Missing, beginning, &name),
+        Err(_) => StepEnd::Memory,
+    }
+}
+
+// The environment of a build configuration whose block has run, unless it lacks the name of the default toolchain.
+#[tactic(auto, unfolding(gn_meaning::specs::Meaning::configuration_ends))]
+fn end_configuration(alloc: Global, env: Env, out: &Outcome) -> Result<ImportValue, EvalEnd>
+    ensures runs { (need : Need) → IsSpentRun (λ v. v) need result out.now (configuration_ends env out.now) }
+    ensures goes_on { result ≢ Err EvalEnd.Stopped }
+{
+    if lacks_toolchain(&env.context().toolchain, out.default_toolchain()) {
+        let end = no_toolchain(alloc, &env);
+        drop(env);
+        return Err(end.into());
+    }
+    Ok(env.configuration_value(alloc)?)
+}
+
+/// Runs the build configuration, in the innermost scope of the environment: its block, and then what it leaves for the files
+/// beneath which it stands, for which the environment is spent. No name has to be read. Under the default toolchain, whose text
+/// isn't known while it runs, `Wrong` has `Missing` at line 1, column 1 where it doesn't name that toolchain. Else it is as
+/// `run_block`.
+#[tactic(auto, unfolding(gn_meaning::specs::Meaning::configuration_file_runs, gn_meaning::specs::Meaning::configuration_ends))]
+pub fn run_configuration_file<L: Library + Definer>(
+    alloc: Global,
+    block: &Block,
+    mut env: Env,
+    out: &mut Outcome,
+    library: &mut L,
+) -> Result<ImportValue, EvalEnd>
+    requires shallow { IsShallow block.now }
+    ensures { EvaluatesSpent (λ v. v) (L.state library.old) (L.state library.new) result out.new (λ a. configuration_file_runs a block.now env out.old) }
+{
+    match run_block(alloc, block, &mut env, out, library) {
+        Ok(()) => end_configuration(alloc, env, out),
         Err(end) => {
             drop(env);
             Err(end)

@@ -26,6 +26,7 @@ use gn_calls_plain::apply_plain;
 use gn_calls_scopes::{
     Definer, Opened, Opener, accept, accept_template, begin_call, end_call, is_skipped,
 };
+use gn_definitions::Definition;
 use gn_env::Env;
 use gn_faults::Code;
 use gn_functions::{Changing, Function, Plain};
@@ -33,7 +34,7 @@ use gn_items::Outcome;
 use gn_paths::Text;
 use gn_steps::{begins_with_invoker, evaluated, wrong};
 use gn_tree::{Block, Call, Position};
-use gn_values::{Definition, Value};
+use gn_values::Value;
 use std::alloc::Global;
 use std::sync::Arc;
 
@@ -49,7 +50,8 @@ pub(crate) fn run_call<L: Library + Definer>(
     library: &mut L,
 ) -> Result<Option<Value>, EvalEnd>
     requires shallow { call_depth (call_of call.now) ≤ max_tree_depth }
-    ensures { Evaluates (option_map val_of) (L.state library.old) (L.state library.new) result env.new out.new (λ a. call_runs (world level.room a) level.nesting (call_of call.now) env.old out.old) }
+    ensures { Evaluates (option_map val_of) (L.state library.old) (L.state library.new) result env.new out.new (λ a. call_runs (world level.room a) level.nesting
+        (call_of call.now) env.old out.old) }
 {
     match env.template(&call.name)? {
         Some(definition) => run_template(alloc, level, definition, call, env, out, library),
@@ -70,7 +72,8 @@ fn run_template<L: Library + Definer>(
     library: &mut L,
 ) -> Result<Option<Value>, EvalEnd>
     requires shallow { call_depth (call_of call.now) ≤ max_tree_depth }
-    ensures { Evaluates (option_map val_of) (L.state library.old) (L.state library.new) result env.new out.new (λ a. template_called_runs (calls level.room a) definition.value level.nesting call.now (parts (world level.room a) level.nesting call.now) env.old out.old) }
+    ensures { Evaluates (option_map val_of) (L.state library.old) (L.state library.new) result env.new out.new (λ a. template_called_runs
+        (calls level.room a) definition.value level.nesting call.now (parts (world level.room a) level.nesting call.now) env.old out.old) }
 {
     let depth = accept_template(alloc, level.nesting, call, env)?;
     let opener = Opener::Template(definition, depth);
@@ -89,7 +92,8 @@ fn run_built_in<L: Library + Definer>(
     library: &mut L,
 ) -> Result<Option<Value>, EvalEnd>
     requires shallow { call_depth (call_of call.now) ≤ max_tree_depth }
-    ensures { Evaluates (option_map val_of) (L.state library.old) (L.state library.new) result env.new out.new (λ a. built_in_runs a (calls level.room a) level.nesting (deeper level.nesting 1) call.now (parts (world level.room a) level.nesting call.now) env.old out.old) }
+    ensures { Evaluates (option_map val_of) (L.state library.old) (L.state library.new) result env.new out.new (λ a. built_in_runs a (calls level.room a) level.nesting
+        (deeper level.nesting 1) call.now (parts (world level.room a) level.nesting call.now) env.old out.old) }
 {
     let function = accept(alloc, level.nesting, call, env)?;
     run_function(alloc, level, function, call, env, out, library)
@@ -108,7 +112,8 @@ fn run_function<L: Library + Definer>(
     library: &mut L,
 ) -> Result<Option<Value>, EvalEnd>
     requires shallow { call_depth (call_of call.now) ≤ max_tree_depth }
-    ensures { Evaluates (option_map val_of) (L.state library.old) (L.state library.new) result env.new out.new (λ a. function_runs a (calls level.room a) function level.nesting (deeper level.nesting 1) call.now (parts (world level.room a) level.nesting call.now) env.old out.old) }
+    ensures { Evaluates (option_map val_of) (L.state library.old) (L.state library.new) result env.new out.new (λ a. function_runs a (calls level.room a) function level.nesting
+        (deeper level.nesting 1) call.now (parts (world level.room a) level.nesting call.now) env.old out.old) }
 {
     match function {
         Function::Plain(plain) => run_plain(alloc, level, plain, call, env, out, library),
@@ -140,7 +145,8 @@ fn run_plain<L: Library + Definer>(
     library: &mut L,
 ) -> Result<Option<Value>, EvalEnd>
     requires shallow { call_depth (call_of call.now) ≤ max_tree_depth }
-    ensures { Evaluates (option_map val_of) (L.state library.old) (L.state library.new) result env.new out.new (λ a. then_do (values_run (world level.room a) (deeper level.nesting 1) call.now.arguments [] env.old out.old) (λ vs env1 out1. plain_runs plain vs call.now env1 out1)) }
+    ensures { Evaluates (option_map val_of) (L.state library.old) (L.state library.new) result env.new out.new (λ a. then_do
+        (values_run (world level.room a) (deeper level.nesting 1) call.now.arguments [] env.old out.old) (λ vs env1 out1. plain_runs plain vs call.now env1 out1)) }
 {
     let arguments = call.arguments.as_slice();
     let values = eval_values(alloc, level.deeper(1), arguments, env, out, library)?;
@@ -160,7 +166,8 @@ fn run_changing<L: Library + Definer>(
     library: &mut L,
 ) -> Result<Option<Value>, EvalEnd>
     requires shallow { call_depth (call_of call.now) ≤ max_tree_depth }
-    ensures { Evaluates (option_map val_of) (L.state library.old) (L.state library.new) result env.new out.new (λ a. changing_runs a changing (deeper level.nesting 1) call.now (parts (world level.room a) level.nesting call.now) env.old out.old) }
+    ensures { Evaluates (option_map val_of) (L.state library.old) (L.state library.new) result env.new out.new (λ a. changing_runs a changing (deeper level.nesting 1) call.now
+        (parts (world level.room a) level.nesting call.now) env.old out.old) }
 {
     let inside = level.deeper(1);
     let invoker = begins_with_invoker(changing, call, env);
@@ -192,7 +199,8 @@ fn run_opening<L: Library + Definer>(
     library: &mut L,
 ) -> Result<Option<Value>, EvalEnd>
     requires shallow { call_depth (call_of call.now) ≤ max_tree_depth }
-    ensures { Evaluates (option_map val_of) (L.state library.old) (L.state library.new) result env.new out.new (λ a. opening_runs (calls level.room a) (opener_view opener) level.nesting call.now (parts (world level.room a) level.nesting call.now).values (parts (world level.room a) level.nesting call.now).block env.old out.old) }
+    ensures { Evaluates (option_map val_of) (L.state library.old) (L.state library.new) result env.new out.new (λ a. opening_runs (calls level.room a)
+        (opener_view opener) level.nesting call.now (parts (world level.room a) level.nesting call.now).values (parts (world level.room a) level.nesting call.now).block env.old out.old) }
 {
     let arguments = call.arguments.as_slice();
     let values = eval_values(alloc, level.deeper(1), arguments, env, out, library)?;
@@ -213,7 +221,8 @@ fn run_valued<L: Library + Definer>(
     library: &mut L,
 ) -> Result<Option<Value>, EvalEnd>
     requires shallow { call_depth (call_of call.now) ≤ max_tree_depth }
-    ensures { Evaluates (option_map val_of) (L.state library.old) (L.state library.new) result env.new out.new (λ a. valued_runs (calls level.room a) (opener_view opener) (map val_of values.now) level.nesting call.now (parts (world level.room a) level.nesting call.now).block env.old out.old) }
+    ensures { Evaluates (option_map val_of) (L.state library.old) (L.state library.new) result env.new out.new (λ a. valued_runs (calls level.room a) (opener_view opener)
+        (map val_of values.now) level.nesting call.now (parts (world level.room a) level.nesting call.now).block env.old out.old) }
 {
     let opened = begin_call(alloc, opener, values, level.nesting, call, env)?;
     run_opened(alloc, level, opened, call, env, out, library)
@@ -232,7 +241,8 @@ fn run_opened<L: Library + Definer>(
     library: &mut L,
 ) -> Result<Option<Value>, EvalEnd>
     requires shallow { call_depth (call_of call.now) ≤ max_tree_depth }
-    ensures { Evaluates (option_map val_of) (L.state library.old) (L.state library.new) result env.new out.new (λ a. opened_call_runs (calls level.room a) (opened_view opened) call.now.position (parts (world level.room a) level.nesting call.now).block env.old out.old) }
+    ensures { Evaluates (option_map val_of) (L.state library.old) (L.state library.new) result env.new out.new (λ a. opened_call_runs (calls level.room a)
+        (opened_view opened) call.now.position (parts (world level.room a) level.nesting call.now).block env.old out.old) }
 {
     run_block_of(alloc, level.deeper(1), &call.block, env, out, library)?;
     run_body(alloc, level, &opened, call.position, env, out, library)?;
@@ -251,7 +261,8 @@ pub(crate) fn run_block_of<L: Library + Definer>(
     library: &mut L,
 ) -> Result<(), EvalEnd>
     requires shallow { body_depth (body_of block.now) ≤ max_tree_depth }
-    ensures { Evaluates (λ u. u) (L.state library.old) (L.state library.new) result env.new out.new (λ a. body_runs (world level.room a) level.nesting (body_of block.now) env.old out.old) }
+    ensures { Evaluates (λ u. u) (L.state library.old) (L.state library.new) result env.new out.new (λ a. body_runs (world level.room a) level.nesting
+        (body_of block.now) env.old out.old) }
 {
     match block {
         Some(block) => run_statements(alloc, level, block, env, out, library),
@@ -270,7 +281,8 @@ fn run_body<L: Library + Definer>(
     out: &mut Outcome,
     library: &mut L,
 ) -> Result<(), EvalEnd>
-    ensures { Evaluates (λ u. u) (L.state library.old) (L.state library.new) result env.new out.new (λ a. body_run (calls level.room a) (opened_view opened.now) position env.old out.old) }
+    ensures { Evaluates (λ u. u) (L.state library.old) (L.state library.new) result env.new out.new (λ a. body_run (calls level.room a)
+        (opened_view opened.now) position env.old out.old) }
 {
     match opened {
         Opened::Template {
@@ -281,7 +293,7 @@ fn run_body<L: Library + Definer>(
             let definition = definition.clone()?;
             run_template_body(alloc, level, definition, name, position, env, out, library)
         }
-        Opened::Item { .. } | Opened::Defaults { .. } => Ok(()),
+        Opened::Item { .. } | Opened::Defaults { .. } | Opened::Arguments => Ok(()),
     }
 }
 
@@ -298,7 +310,8 @@ fn run_template_body<L: Library + Definer>(
     out: &mut Outcome,
     library: &mut L,
 ) -> Result<(), EvalEnd>
-    ensures { Evaluates (λ u. u) (L.state library.old) (L.state library.new) result env.new out.new (λ a. calls level.room a definition.value position (body_begins definition.value name.now env.old) out.old) }
+    ensures { Evaluates (λ u. u) (L.state library.old) (L.state library.new) result env.new out.new (λ a. calls level.room a definition.value position
+        (body_begins definition.value name.now env.old) out.old) }
 {
     let body = definition.clone()?;
     env.begin_body(alloc, definition, name)?;

@@ -16,6 +16,7 @@ use crate::ending::{EvalEnd, lift};
 use crate::library::{Imported, LibStop, Library};
 use gn_calls_scopes::{
     define_template, forward_variables, mark_not_needed, merge_import, resolve_import,
+    set_default_toolchain,
 };
 use gn_env::Env;
 use gn_faults::Code;
@@ -42,7 +43,8 @@ pub(crate) fn change<L: Library>(
     library: &mut L,
 ) -> Result<Option<Value>, EvalEnd>
     requires shallow { call_depth (call_of call.now) ≤ max_tree_depth }
-    ensures { Evaluates (option_map val_of) (L.state library.old) (L.state library.new) result env.new out.new (λ a. changed_runs a changing invoker (map val_of values.items) call.now nesting env.old out.old) }
+    ensures { Evaluates (option_map val_of) (L.state library.old) (L.state library.new) result env.new out.new (λ a. changed_runs a changing invoker
+        (map val_of values.items) call.now nesting env.old out.old) }
 {
     match changing {
         Changing::Import => import_value(alloc, &values, call, env, out, library),
@@ -51,6 +53,9 @@ pub(crate) fn change<L: Library>(
             lift(forward_variables(alloc, invoker, &values, call, env))
         }
         Changing::NotNeeded => lift(mark_not_needed(alloc, invoker, &values, call, env)),
+        Changing::SetDefaultToolchain => lift(set_default_toolchain(
+            alloc, &values, call, env, out,
+        )),
     }
 }
 
@@ -63,7 +68,8 @@ fn import_value<L: Library>(
     out: &mut Outcome,
     library: &mut L,
 ) -> Result<Option<Value>, EvalEnd>
-    ensures { Evaluates (option_map val_of) (L.state library.old) (L.state library.new) result env.new out.new (λ a. importing_runs a (map val_of values.now) call.now env.old out.old) }
+    ensures { Evaluates (option_map val_of) (L.state library.old) (L.state library.new) result env.new out.new (λ a. importing_runs a
+        (map val_of values.now) call.now env.old out.old) }
 {
     match values {
         [argument] => import_argument(alloc, argument, call, env, out, library),
@@ -80,7 +86,8 @@ fn import_argument<L: Library>(
     out: &mut Outcome,
     library: &mut L,
 ) -> Result<Option<Value>, EvalEnd>
-    ensures { Evaluates (option_map val_of) (L.state library.old) (L.state library.new) result env.new out.new (λ a. imported_runs a (val_of argument.now) (at_argument call.now 0) call.now.position env.old out.old) }
+    ensures { Evaluates (option_map val_of) (L.state library.old) (L.state library.new) result env.new out.new (λ a. imported_runs a (val_of argument.now)
+        (at_argument call.now 0) call.now.position env.old out.old) }
 {
     let at = argument_position(call, 0);
     let path = resolve_import(alloc, argument, at, env)?;

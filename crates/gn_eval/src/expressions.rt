@@ -43,7 +43,8 @@ pub(crate) fn eval_expr<L: Library + Definer>(
     library: &mut L,
 ) -> Result<Value, EvalEnd>
     requires shallow { expr_depth (expr_of expr.now) ≤ max_tree_depth }
-    ensures { Evaluates val_of (L.state library.old) (L.state library.new) result env.new out.new (λ a. expr_runs (world level.room a) level.nesting (expr_of expr.now) env.old out.old) }
+    ensures { Evaluates val_of (L.state library.old) (L.state library.new) result env.new out.new (λ a. expr_runs (world level.room a) level.nesting
+        (expr_of expr.now) env.old out.old) }
 {
     let (leftmost, mut operations) = left_operand(alloc, expr)?;
     let mut value = eval_operand(alloc, level, leftmost, env, out, library)?;
@@ -68,7 +69,8 @@ fn eval_operand<L: Library + Definer>(
 ) -> Result<Value, EvalEnd>
     requires operand { IsOperand (expr_of expr.now) }
     requires shallow { expr_depth (expr_of expr.now) ≤ max_tree_depth }
-    ensures { Evaluates val_of (L.state library.old) (L.state library.new) result env.new out.new (λ a. expr_runs (world level.room a) level.nesting (expr_of expr.now) env.old out.old) }
+    ensures { Evaluates val_of (L.state library.old) (L.state library.new) result env.new out.new (λ a. expr_runs (world level.room a) level.nesting
+        (expr_of expr.now) env.old out.old) }
 {
     match expr {
         Expr::Name { position, name } => Ok(read_name(alloc, name, *position, env)?),
@@ -137,7 +139,8 @@ fn eval_call<L: Library + Definer>(
     library: &mut L,
 ) -> Result<Value, EvalEnd>
     requires shallow { call_depth (call_of call.now) ≤ max_tree_depth }
-    ensures { Evaluates val_of (L.state library.old) (L.state library.new) result env.new out.new (λ a. then_do (call_runs (world level.room a) level.nesting (call_of call.now) env.old out.old) (λ v env1 out1. call_value_runs v call.now.position env1 out1)) }
+    ensures { Evaluates val_of (L.state library.old) (L.state library.new) result env.new out.new (λ a. then_do
+        (call_runs (world level.room a) level.nesting (call_of call.now) env.old out.old) (λ v env1 out1. call_value_runs v call.now.position env1 out1)) }
 {
     let value = run_call(alloc, level, call, env, out, library)?;
     Ok(value_of_call(alloc, value, call.position, env)?)
@@ -157,7 +160,8 @@ fn eval_item<L: Library + Definer>(
     library: &mut L,
 ) -> Result<Value, EvalEnd>
     requires shallow { expr_depth index.now ≤ max_tree_depth }
-    ensures { Evaluates val_of (L.state library.old) (L.state library.new) result env.new out.new (λ a. then_do (base_runs base.now position env.old out.old) (λ _ env1 out1. then_do (expr_runs (world level.room a) (deeper level.nesting 1) index.now env1 out1) (λ at env2 out2. element_runs base.now position at bracket env2 out2))) }
+    ensures { Evaluates val_of (L.state library.old) (L.state library.new) result env.new out.new (λ a. then_do (base_runs base.now position env.old out.old)
+        (λ _ env1 out1. then_do (expr_runs (world level.room a) (deeper level.nesting 1) index.now env1 out1) (λ at env2 out2. element_runs base.now position at bracket env2 out2))) }
 {
     read_base(alloc, base, position, env)?;
     let at = eval_expr(alloc, level.deeper(1), index.get(), env, out, library)?;
@@ -177,7 +181,8 @@ fn apply<L: Library + Definer>(
     library: &mut L,
 ) -> Result<Value, EvalEnd>
     requires shallow { expr_depth operation.right.now ≤ max_tree_depth }
-    ensures { Evaluates val_of (L.state library.old) (L.state library.new) result env.new out.new (λ a. operator_runs operation.entry.operator (val_of left) (expr_runs (world level.room a) level.nesting operation.entry.right.now) operation.entry.position env.old out.old) }
+    ensures { Evaluates val_of (L.state library.old) (L.state library.new) result env.new out.new (λ a. operator_runs operation.entry.operator (val_of left)
+        (expr_runs (world level.room a) level.nesting operation.entry.right.now) operation.entry.position env.old out.old) }
 {
     let Operation {
         operator,
@@ -220,7 +225,8 @@ fn eval_scope<L: Library + Definer>(
     library: &mut L,
 ) -> Result<Value, EvalEnd>
     requires shallow { block_depth block.now ≤ max_tree_depth }
-    ensures { Evaluates val_of (L.state library.old) (L.state library.new) result env.new out.new (λ a. then_do (block_runs (world level.room a) level.nesting block.now (entered false env.old) out.old) (λ _ env1 out1. scope_runs position env1 out1)) }
+    ensures { Evaluates val_of (L.state library.old) (L.state library.new) result env.new out.new (λ a. then_do
+        (block_runs (world level.room a) level.nesting block.now (entered false env.old) out.old) (λ _ env1 out1. scope_runs position env1 out1)) }
 {
     env.enter(false)?;
     run_statements(alloc, level, block, env, out, library)?;
@@ -240,7 +246,8 @@ fn eval_list<L: Library + Definer>(
     library: &mut L,
 ) -> Result<Value, EvalEnd>
     requires shallow { exprs_depth items.now ≤ max_tree_depth }
-    ensures { Evaluates val_of (L.state library.old) (L.state library.new) result env.new out.new (λ a. then_do (values_run (world level.room a) level.nesting items.now [] env.old out.old) (λ vs env1 out1. list_runs vs position env1 out1)) }
+    ensures { Evaluates val_of (L.state library.old) (L.state library.new) result env.new out.new (λ a. then_do
+        (values_run (world level.room a) level.nesting items.now [] env.old out.old) (λ vs env1 out1. list_runs vs position env1 out1)) }
 {
     let values = eval_values(alloc, level, items.as_slice(), env, out, library)?;
     Ok(make_list(alloc, values, position, env)?)
@@ -258,7 +265,8 @@ pub(crate) fn eval_values<L: Library + Definer>(
     library: &mut L,
 ) -> Result<Vec<Value>, EvalEnd>
     requires shallow { exprs_depth (exprs_of arguments.now) ≤ max_tree_depth }
-    ensures { Evaluates (λ vs. map val_of vs.items) (L.state library.old) (L.state library.new) result env.new out.new (λ a. values_run (world level.room a) level.nesting (exprs_of arguments.now) [] env.old out.old) }
+    ensures { Evaluates (λ vs. map val_of vs.items) (L.state library.old) (L.state library.new) result env.new out.new (λ a. values_run (world level.room a) level.nesting
+        (exprs_of arguments.now) [] env.old out.old) }
 {
     let mut values = Vec::new(alloc);
     for argument in arguments {

@@ -4,8 +4,8 @@ ghost use Rattle.std.specs.Prelude.{◌≡◌, ◌<◌, Some, Err, IfOk};
 ghost use Rattle.gn_runs.specs.Runs.{Answers};
 ghost use Rattle.gn_eval.specs.Library.{LibraryState, Includes, GoesOn, ImportAnswers, ImportLacks, ContentAnswers, ContentLacks, IsWithinLimit};
 
+use gn_definitions::ImportValue;
 use gn_paths::{Path, Place, Text};
-use gn_values::ImportValue;
 use std::alloc::Global;
 
 /// Why a library doesn't answer.

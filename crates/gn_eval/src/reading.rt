@@ -37,7 +37,8 @@ pub(crate) fn run_read_file<L: Library + Definer>(
     library: &mut L,
 ) -> Result<Option<Value>, EvalEnd>
     requires shallow { call_depth (call_of call.now) ≤ max_tree_depth }
-    ensures { Evaluates (option_map val_of) (L.state library.old) (L.state library.new) result env.new out.new (λ a. then_do (values_run (world level.room a) (deeper level.nesting 1) call.now.arguments [] env.old out.old) (λ vs env1 out1. read_file_runs a (reads level.room a) vs level.nesting call.now env1 out1)) }
+    ensures { Evaluates (option_map val_of) (L.state library.old) (L.state library.new) result env.new out.new (λ a. then_do
+        (values_run (world level.room a) (deeper level.nesting 1) call.now.arguments [] env.old out.old) (λ vs env1 out1. read_file_runs a (reads level.room a) vs level.nesting call.now env1 out1)) }
 {
     let arguments = call.arguments.as_slice();
     let values = eval_values(alloc, level.deeper(1), arguments, env, out, library)?;
@@ -58,7 +59,8 @@ fn end_read<L: Library + Definer>(
     library: &mut L,
 ) -> Result<Option<Value>, EvalEnd>
     requires shallow { IsShallowRead read }
-    ensures { Evaluates (option_map val_of) (L.state library.old) (L.state library.new) result env.now out.new (λ a. read_ends (reads level.room a) (read_view read) level.nesting call.now env.now out.old) }
+    ensures { Evaluates (option_map val_of) (L.state library.old) (L.state library.new) result env.now out.new (λ a. read_ends (reads level.room a)
+        (read_view read) level.nesting call.now env.now out.old) }
 {
     match read {
         Read::Answer(settled) => lift(settle(alloc, settled, call, env, out)),
@@ -120,7 +122,8 @@ fn read_file<L: Library>(
     out: &mut Outcome,
     library: &mut L,
 ) -> Result<Read, EvalEnd>
-    ensures read { Evaluates read_view (L.state library.old) (L.state library.new) result env.now out.new (λ a. reading_runs a (map val_of values.now) nesting call.now env.now out.old) }
+    ensures read { Evaluates read_view (L.state library.old) (L.state library.new) result env.now out.new (λ a. reading_runs a
+        (map val_of values.now) nesting call.now env.now out.old) }
     ensures shallow { IfOk result IsShallowRead }
 {
     let reading = begin_reading(alloc, values, nesting, call, env)?;
@@ -136,7 +139,8 @@ fn read_content<L: Library>(
     out: &mut Outcome,
     library: &mut L,
 ) -> Result<Read, EvalEnd>
-    ensures read { Evaluates read_view (L.state library.old) (L.state library.new) result env.now out.new (λ a. content_read reading.now.conversion reading.now.path a call.now env.now out.old) }
+    ensures read { Evaluates read_view (L.state library.old) (L.state library.new) result env.now out.new
+        (λ a. content_read reading.now.conversion reading.now.path a call.now env.now out.old) }
     ensures shallow { IfOk result IsShallowRead }
 {
     let place = place_here(alloc, call.position, env)?;

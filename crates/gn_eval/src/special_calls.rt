@@ -39,7 +39,8 @@ pub(crate) fn run_defined<L: Library + Definer>(
     library: &mut L,
 ) -> Result<Option<Value>, EvalEnd>
     requires shallow { call_depth (call_of call.now) ≤ max_tree_depth }
-    ensures { Evaluates (option_map val_of) (L.state library.old) (L.state library.new) result env.new out.new (λ a. defined_runs (world level.room a) level.nesting call.now.arguments call.now.position call.now.name env.old out.old) }
+    ensures { Evaluates (option_map val_of) (L.state library.old) (L.state library.new) result env.new out.new (λ a. defined_runs
+        (world level.room a) level.nesting call.now.arguments call.now.position call.now.name env.old out.old) }
 {
     let [argument] = call.arguments.as_slice() else {
         return Err(refuse(alloc, call, env).into());
@@ -78,7 +79,8 @@ fn has_item<L: Library + Definer>(
     library: &mut L,
 ) -> Result<Option<Value>, EvalEnd>
     requires shallow { expr_depth index.now ≤ max_tree_depth }
-    ensures { Evaluates (option_map val_of) (L.state library.old) (L.state library.new) result env.new out.new (λ a. then_do (base_runs base.now position env.old out.old) (λ _ env1 out1. then_do (expr_runs (world level.room a) (deeper level.nesting 1) index.now env1 out1) (λ at env2 out2. has_entry_runs base.now at position env2 out2))) }
+    ensures { Evaluates (option_map val_of) (L.state library.old) (L.state library.new) result env.new out.new (λ a. then_do (base_runs base.now position env.old out.old)
+        (λ _ env1 out1. then_do (expr_runs (world level.room a) (deeper level.nesting 1) index.now env1 out1) (λ at env2 out2. has_entry_runs base.now at position env2 out2))) }
 {
     read_base(alloc, base, position, env)?;
     let at = eval_expr(alloc, level.deeper(1), index.get(), env, out, library)?;
@@ -97,7 +99,8 @@ pub(crate) fn run_foreach<L: Library + Definer>(
     library: &mut L,
 ) -> Result<Option<Value>, EvalEnd>
     requires shallow { call_depth (call_of call.now) ≤ max_tree_depth }
-    ensures { Evaluates (option_map val_of) (L.state library.old) (L.state library.new) result env.new out.new (λ a. foreach_runs (world level.room a) level.nesting call.now.arguments call.now.position call.now.name (body_runs (world level.room a) level.nesting (body_of call.now.block)) env.old out.old) }
+    ensures { Evaluates (option_map val_of) (L.state library.old) (L.state library.new) result env.new out.new (λ a. foreach_runs
+        (world level.room a) level.nesting call.now.arguments call.now.position call.now.name (body_runs (world level.room a) level.nesting (body_of call.now.block)) env.old out.old) }
 {
     let [variable, list] = call.arguments.as_slice() else {
         return Err(refuse(alloc, call, env).into());
@@ -135,7 +138,8 @@ fn run_loop<L: Library + Definer>(
     library: &mut L,
 ) -> Result<Option<Value>, EvalEnd>
     requires shallow { body_depth (body_of block.now) ≤ max_tree_depth }
-    ensures { Evaluates (option_map val_of) (L.state library.old) (L.state library.new) result env.new out.new (λ a. loop_runs name.now (val_of list) at (body_runs (world level.room a) level.nesting (body_of block.now)) env.old out.old) }
+    ensures { Evaluates (option_map val_of) (L.state library.old) (L.state library.new) result env.new out.new (λ a. loop_runs name.now (val_of list) at
+        (body_runs (world level.room a) level.nesting (body_of block.now)) env.old out.old) }
 {
     match list {
         Value::List(items) => {
@@ -162,7 +166,8 @@ fn run_rounds<L: Library + Definer>(
     library: &mut L,
 ) -> Result<(), EvalEnd>
     requires shallow { body_depth (body_of block.now) ≤ max_tree_depth }
-    ensures { Evaluates (λ u. u) (L.state library.old) (L.state library.new) result env.new out.new (λ a. turns_run name.now (body_runs (world level.room a) level.nesting (body_of block.now)) (map val_of items.items) env.old out.old) }
+    ensures { Evaluates (λ u. u) (L.state library.old) (L.state library.new) result env.new out.new (λ a. turns_run name.now
+        (body_runs (world level.room a) level.nesting (body_of block.now)) (map val_of items.items) env.old out.old) }
 {
     'rounds: for item in items {
         env.give(alloc, name, item)?;

@@ -52,7 +52,8 @@ fn run_statement<L: Library + Definer>(
     library: &mut L,
 ) -> Result<(), EvalEnd>
     requires shallow { statement_depth (statement_of statement.now) ≤ max_tree_depth }
-    ensures { Evaluates (λ u. u) (L.state library.old) (L.state library.new) result env.new out.new (λ a. statement_runs (world level.room a) level.nesting (statement_of statement.now) env.old out.old) }
+    ensures { Evaluates (λ u. u) (L.state library.old) (L.state library.new) result env.new out.new (λ a. statement_runs (world level.room a) level.nesting
+        (statement_of statement.now) env.old out.old) }
 {
     match statement {
         Statement::Assignment {
@@ -91,7 +92,8 @@ fn assign<L: Library + Definer>(
     library: &mut L,
 ) -> Result<(), EvalEnd>
     requires shallow { target_depth (target_of target.now) ≤ max_tree_depth }
-    ensures { Evaluates (λ u. u) (L.state library.old) (L.state library.new) result env.new out.new (λ a. assignment_runs (world level.room a) level.nesting (target_of target.now) operator position (val_of value) env.old out.old) }
+    ensures { Evaluates (λ u. u) (L.state library.old) (L.state library.new) result env.new out.new (λ a. assignment_runs (world level.room a) level.nesting
+        (target_of target.now) operator position (val_of value) env.old out.old) }
 {
     match target {
         Target::Name { position: at, name } => {
@@ -137,7 +139,8 @@ fn run_condition<L: Library + Definer>(
     library: &mut L,
 ) -> Result<(), EvalEnd>
     requires shallow { condition_depth (condition_of condition.now) ≤ max_tree_depth }
-    ensures { Evaluates (λ u. u) (L.state library.old) (L.state library.new) result env.new out.new (λ a. condition_runs (world level.room a) level.nesting (condition_of condition.now) env.old out.old) }
+    ensures { Evaluates (λ u. u) (L.state library.old) (L.state library.new) result env.new out.new (λ a. condition_runs (world level.room a) level.nesting
+        (condition_of condition.now) env.old out.old) }
 {
     let value = eval_expr(alloc, level.deeper(1), &condition.test, env, out, library)?;
     let holds = truth(alloc, &value, condition.test.first_position(), env)?;
@@ -160,7 +163,8 @@ fn run_otherwise<L: Library + Definer>(
     library: &mut L,
 ) -> Result<(), EvalEnd>
     requires shallow { otherwise_depth (otherwise_of otherwise.now) ≤ max_tree_depth }
-    ensures { Evaluates (λ u. u) (L.state library.old) (L.state library.new) result env.new out.new (λ a. otherwise_runs (world level.room a) level.nesting (otherwise_of otherwise.now) env.old out.old) }
+    ensures { Evaluates (λ u. u) (L.state library.old) (L.state library.new) result env.new out.new (λ a. otherwise_runs (world level.room a) level.nesting
+        (otherwise_of otherwise.now) env.old out.old) }
 {
     match otherwise {
         Otherwise::Nothing => Ok(()),

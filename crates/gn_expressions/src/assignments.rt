@@ -28,7 +28,8 @@ fn not_assigned(
     at: Position,
     position: Position,
 ) -> StepEnd
-    ensures { (after : Result Environment Refusal) (out : Effects) → IfSome (refusal_of error) (λ r. after ≡ Err r) → IsStepFailure result out (assigned_to after name.now at position env.now out) }
+    ensures { (after : Result Environment Refusal) (out : Effects) → IfSome (refusal_of error) (λ r. after ≡ Err r) →
+        IsStepFailure result out (assigned_to after name.now at position env.now out) }
 {
     match error {
         AssignError::Overwrite => wrong_with(alloc, env, Code::Overwrite, position, name),
@@ -48,7 +49,8 @@ fn assign_variable(
     value: Value,
     env: &mut Env,
 ) -> Result<(), StepEnd>
-    ensures runs { (out : Effects) → IsStep (λ u. u) result env.new out (assigned_to (after_assignment name.now operator (val_of value) position env.old) name.now at position env.old out) }
+    ensures runs { (out : Effects) → IsStep (λ u. u) result env.new out (assigned_to
+        (after_assignment name.now operator (val_of value) position env.old) name.now at position env.old out) }
 {
     match env.assign(alloc, name, operator, value, position) {
         Ok(()) => Ok(()),
@@ -67,7 +69,8 @@ fn assign_over(
     value: Value,
     env: &mut Env,
 ) -> Result<(), StepEnd>
-    ensures runs { (out : Effects) → IsStep (λ u. u) result env.new out (assigned_to (after_assignment_over (val_of old.now) name.now operator (val_of value) position env.old) name.now at position env.old out) }
+    ensures runs { (out : Effects) → IsStep (λ u. u) result env.new out (assigned_to
+        (after_assignment_over (val_of old.now) name.now operator (val_of value) position env.old) name.now at position env.old out) }
 {
     match env.assign_over(alloc, old, name, operator, value, position) {
         Ok(()) => Ok(()),
@@ -85,7 +88,8 @@ fn assign_over_invoker(
     value: Value,
     env: &mut Env,
 ) -> Result<(), StepEnd>
-    ensures runs { (out : Effects) → IsStep (λ u. u) result env.new out (over_invoker position (λ old env1. assigned_to (after_assignment_over old name.now operator (val_of value) position env1) name.now at position env1 out) env.old out) }
+    ensures runs { (out : Effects) → IsStep (λ u. u) result env.new out (over_invoker position
+        (λ old env1. assigned_to (after_assignment_over old name.now operator (val_of value) position env1) name.now at position env1 out) env.old out) }
 {
     match env.invoker_value(alloc) {
         Ok(old) => {
@@ -161,7 +165,8 @@ fn element_not_assigned(
     subscript: Position,
     position: Position,
 ) -> StepEnd
-    ensures { (after : Result Environment ElementRefusal) (out : Effects) → IfSome (element_refusal_of error) (λ r. after ≡ Err r) → IsStepFailure result out (element_assigned_to after base.now base_position (val_of at.now) subscript position env.now out) }
+    ensures { (after : Result Environment ElementRefusal) (out : Effects) → IfSome (element_refusal_of error) (λ r. after ≡ Err r) →
+        IsStepFailure result out (element_assigned_to after base.now base_position (val_of at.now) subscript position env.now out) }
 {
     match error {
         ElementAssignError::Undefined => {
@@ -185,7 +190,8 @@ fn assign_variable_element(
     value: Value,
     env: &mut Env,
 ) -> Result<(), StepEnd>
-    ensures runs { (out : Effects) → IsStep (λ u. u) result env.new out (variable_element_assigned_runs base.now base_position (val_of at.now) subscript operator position (val_of value) env.old out) }
+    ensures runs { (out : Effects) → IsStep (λ u. u) result env.new out (variable_element_assigned_runs base.now base_position (val_of at.now) subscript operator position
+        (val_of value) env.old out) }
 {
     match env.assign_element(alloc, base, at, operator, value, position) {
         Ok(()) => Ok(()),
@@ -215,7 +221,8 @@ fn assign_element_over(
     value: Value,
     env: &mut Env,
 ) -> Result<(), StepEnd>
-    ensures runs { (out : Effects) → IsStep (λ u. u) result env.new out (element_assigned_to (after_element_assignment_over (val_of old.now) base.now (val_of at.now) operator (val_of value) position env.old) base.now base_position (val_of at.now) subscript position env.old out) }
+    ensures runs { (out : Effects) → IsStep (λ u. u) result env.new out (element_assigned_to
+        (after_element_assignment_over (val_of old.now) base.now (val_of at.now) operator (val_of value) position env.old) base.now base_position (val_of at.now) subscript position env.old out) }
 {
     match env.assign_element_over(alloc, old, base, at, operator, value, position) {
         Ok(()) => Ok(()),
@@ -247,7 +254,8 @@ fn assign_element_of_invoker(
     value: Value,
     env: &mut Env,
 ) -> Result<(), StepEnd>
-    ensures runs { (out : Effects) → IsStep (λ u. u) result env.new out (invoker_element_assigned_runs (val_of old) base.now base_position (val_of at.now) subscript operator position (val_of value) env.old out) }
+    ensures runs { (out : Effects) → IsStep (λ u. u) result env.new out (invoker_element_assigned_runs (val_of old) base.now base_position
+        (val_of at.now) subscript operator position (val_of value) env.old out) }
 {
     if !env.is_invoker_here(base) {
         return assign_element_over(
@@ -289,7 +297,8 @@ fn assign_element_over_invoker(
     value: Value,
     env: &mut Env,
 ) -> Result<(), StepEnd>
-    ensures runs { (out : Effects) → IsStep (λ u. u) result env.new out (over_invoker position (λ old env1. invoker_element_assigned_runs old base.now base_position (val_of at.now) subscript operator position (val_of value) env1 out) env.old out) }
+    ensures runs { (out : Effects) → IsStep (λ u. u) result env.new out (over_invoker position
+        (λ old env1. invoker_element_assigned_runs old base.now base_position (val_of at.now) subscript operator position (val_of value) env1 out) env.old out) }
 {
     match env.invoker_value(alloc) {
         Ok(old) => {
@@ -327,7 +336,8 @@ pub fn assign_element(
     value: Value,
     env: &mut Env,
 ) -> Result<(), StepEnd>
-    ensures runs { (out : Effects) → IsStep (λ u. u) result env.new out (element_assigned_runs base.now base_position (val_of at.now) subscript operator position (val_of value) env.old out) }
+    ensures runs { (out : Effects) → IsStep (λ u. u) result env.new out (element_assigned_runs base.now base_position (val_of at.now) subscript operator position
+        (val_of value) env.old out) }
 {
     if env.is_invoker(base) {
         assign_element_over_invoker(

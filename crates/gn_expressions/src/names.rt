@@ -238,7 +238,8 @@ pub fn has_value(name: &Text, env: &mut Env) -> Result<Option<Value>, StepEnd>
 
 // `defined(invoker.entry)`: this name alone counts as read.
 fn invoker_has_entry(entry: &Text, env: &mut Env) -> Result<Option<Value>, StepEnd>
-    ensures runs { (out : Effects) → IsStep (option_map val_of) result env.new out (ends (Some (vbool (is_some (invoker_entry entry.now env.old)))) (after_invoker_entry_read entry.now env.old) out) }
+    ensures runs { (out : Effects) → IsStep (option_map val_of) result env.new out (ends (Some (vbool (is_some (invoker_entry entry.now env.old))))
+        (after_invoker_entry_read entry.now env.old) out) }
 {
     let found = env.invoker_entry(entry).is_some();
     env.read_invoker_entry(entry);

@@ -65,7 +65,8 @@ fn add_variable(
     env: &mut Env,
     text: &mut Option<Text>,
 ) -> Result<(), StepEnd>
-    ensures runs { (out : Effects) → IsStep (λ _. text.new) result env.new out (then_do (text_runs (value_or_undefined (value_of name.now env.old) name.now position env.old out)) (λ more env1 out1. ends (lengthened text.old more) env1 out1)) }
+    ensures runs { (out : Effects) → IsStep (λ _. text.new) result env.new out (then_do (text_runs (value_or_undefined (value_of name.now env.old) name.now position env.old out))
+        (λ more env1 out1. ends (lengthened text.old more) env1 out1)) }
 {
     match env.look(name) {
         Some(value) => add_value(alloc, value, text),
@@ -82,7 +83,8 @@ fn add_name(
     env: &mut Env,
     text: &mut Option<Text>,
 ) -> Result<(), StepEnd>
-    ensures runs { (out : Effects) → IsStep (λ _. text.new) result env.new out (then_do (text_runs (name_runs name.now position env.old out)) (λ more env1 out1. ends (lengthened text.old more) env1 out1)) }
+    ensures runs { (out : Effects) → IsStep (λ _. text.new) result env.new out (then_do (text_runs (name_runs name.now position env.old out))
+        (λ more env1 out1. ends (lengthened text.old more) env1 out1)) }
 {
     if env.is_invoker(name) {
         let value = read_invoker(alloc, position, env)?;
@@ -102,7 +104,8 @@ fn add_variable_element(
     env: &mut Env,
     text: &mut Option<Text>,
 ) -> Result<(), StepEnd>
-    ensures runs { (out : Effects) → IsStep (λ _. text.new) result env.new out (then_do (text_runs (element_of_base (value_of base.now env.old) base.now position (val_of at.now) position env.old out)) (λ more env1 out1. ends (lengthened text.old more) env1 out1)) }
+    ensures runs { (out : Effects) → IsStep (λ _. text.new) result env.new out (then_do
+        (text_runs (element_of_base (value_of base.now env.old) base.now position (val_of at.now) position env.old out)) (λ more env1 out1. ends (lengthened text.old more) env1 out1)) }
 {
     match env.look(base) {
         Some(value) => match index(value, at) {
@@ -123,7 +126,8 @@ fn add_element(
     env: &mut Env,
     text: &mut Option<Text>,
 ) -> Result<(), StepEnd>
-    ensures runs { (out : Effects) → IsStep (λ _. text.new) result env.new out (then_do (text_runs (element_runs base.now position (val_of at.now) position env.old out)) (λ more env1 out1. ends (lengthened text.old more) env1 out1)) }
+    ensures runs { (out : Effects) → IsStep (λ _. text.new) result env.new out (then_do (text_runs (element_runs base.now position (val_of at.now) position env.old out))
+        (λ more env1 out1. ends (lengthened text.old more) env1 out1)) }
 {
     if env.is_invoker(base) {
         let value = read_invoker_element(alloc, at, position, env)?;
@@ -156,7 +160,8 @@ fn add_piece(
     env: &mut Env,
     text: &mut Option<Text>,
 ) -> Result<(), StepEnd>
-    ensures runs { (out : Effects) → IsStep (λ _. text.new) result env.new out (then_do (piece_runs piece.now env.old out) (λ more env1 out1. ends (lengthened text.old more) env1 out1)) }
+    ensures runs { (out : Effects) → IsStep (λ _. text.new) result env.new out (then_do (piece_runs piece.now env.old out)
+        (λ more env1 out1. ends (lengthened text.old more) env1 out1)) }
 {
     match piece {
         Piece::Bytes(bytes) => add_bytes(bytes.as_bytes(), text),

@@ -8,10 +8,10 @@ use Rattle.gn_rows.specs.declared.kinds.ItemKind.TheVariants as kinds
 use Rattle.gn_rows.specs.Names.{kind_name, is_target, kind_named}
 use Rattle.gn_functions.specs.Functions.{excluded_names, as_target, plain_of, other_function_of, item_or_other, plain_or_other, function_of}
 use Rattle.gn_functions.specs.Laws.{CallsAreOfTheirKinds, KindsAreCalled, KindsAreOfTargets, TargetsAreKinds}
-use Rattle.gn_functions.specs.declared.function.Changing.TheVariants.{Import, Template, ForwardVariablesFrom, NotNeeded}
+use Rattle.gn_functions.specs.declared.function.Changing.TheVariants.{Import, Template, ForwardVariablesFrom, NotNeeded, SetDefaultToolchain}
 use Rattle.gn_functions.specs.declared.function.Function.TheVariants.{Changing, Opening, Defined, Foreach, ReadFile}
 use Rattle.gn_functions.specs.declared.function.Named.TheVariants.{Function as OfFunction, Excluded, Unknown}
-use Rattle.gn_functions.specs.declared.function.Opening.TheVariants.{Item, Target, SetDefaults}
+use Rattle.gn_functions.specs.declared.function.Opening.TheVariants.{Item, Target, SetDefaults, DeclareArguments}
 use Rattle.gn_functions.specs.declared.function.Plain.{Plain as PlainCall}
 
 -- a kind that is found by a name has it
@@ -19,31 +19,34 @@ abbrev pub FoundHaveNames : Type 0
 FoundHaveNames = (name : List ℕ) (kind : ItemKind) → kind_named name ≡ Some kind → name ≡ kind_name kind
 
 -- no other function defines an item
-others : (b1 b2 b3 b4 b5 b6 b7 b8 b9 b10 : Bool) (kind : ItemKind)
+others : (b1 b2 b3 b4 b5 b6 b7 b8 b9 b10 b11 b12 : Bool) (kind : ItemKind)
     → (if b1 then OfFunction Defined else if b2 then OfFunction Foreach else if b3 then OfFunction (Changing Import)
     else if b4 then OfFunction (Changing Template) else if b5 then OfFunction (Opening Target) else if b6 then OfFunction (Opening SetDefaults)
-    else if b7 then OfFunction (Changing ForwardVariablesFrom) else if b8 then OfFunction (Changing NotNeeded)
-    else if b9 then OfFunction ReadFile else if b10 then Excluded else Unknown)
+    else if b7 then OfFunction (Opening DeclareArguments) else if b8 then OfFunction (Changing ForwardVariablesFrom)
+    else if b9 then OfFunction (Changing NotNeeded) else if b10 then OfFunction ReadFile
+    else if b11 then OfFunction (Changing SetDefaultToolchain) else if b12 then Excluded else Unknown)
     ≡ OfFunction (Opening (Item kind)) → ⊥
-others true b2 b3 b4 b5 b6 b7 b8 b9 b10 kind h = cc
-others false true b3 b4 b5 b6 b7 b8 b9 b10 kind h = cc
-others false false true b4 b5 b6 b7 b8 b9 b10 kind h = cc
-others false false false true b5 b6 b7 b8 b9 b10 kind h = cc
-others false false false false true b6 b7 b8 b9 b10 kind h = cc
-others false false false false false true b7 b8 b9 b10 kind h = cc
-others false false false false false false true b8 b9 b10 kind h = cc
-others false false false false false false false true b9 b10 kind h = cc
-others false false false false false false false false true b10 kind h = cc
-others false false false false false false false false false true kind h = cc
-others false false false false false false false false false false kind h = cc
+others true b2 b3 b4 b5 b6 b7 b8 b9 b10 b11 b12 kind h = cc
+others false true b3 b4 b5 b6 b7 b8 b9 b10 b11 b12 kind h = cc
+others false false true b4 b5 b6 b7 b8 b9 b10 b11 b12 kind h = cc
+others false false false true b5 b6 b7 b8 b9 b10 b11 b12 kind h = cc
+others false false false false true b6 b7 b8 b9 b10 b11 b12 kind h = cc
+others false false false false false true b7 b8 b9 b10 b11 b12 kind h = cc
+others false false false false false false true b8 b9 b10 b11 b12 kind h = cc
+others false false false false false false false true b9 b10 b11 b12 kind h = cc
+others false false false false false false false false true b10 b11 b12 kind h = cc
+others false false false false false false false false false true b11 b12 kind h = cc
+others false false false false false false false false false false true b12 kind h = cc
+others false false false false false false false false false false false true kind h = cc
+others false false false false false false false false false false false false kind h = cc
 
 other_called : (name : List ℕ) (kind : ItemKind) → other_function_of name ≡ OfFunction (Opening (Item kind)) → ⊥
 unfolding other_function_of
 other_called name kind h =
     others (bytes_eq name (codes "defined")) (bytes_eq name (codes "foreach")) (bytes_eq name (codes "import"))
     (bytes_eq name (codes "template")) (bytes_eq name (codes "target")) (bytes_eq name (codes "set_defaults"))
-    (bytes_eq name (codes "forward_variables_from")) (bytes_eq name (codes "not_needed")) (bytes_eq name (codes "read_file"))
-    (list_any (bytes_eq name) excluded_names) kind h
+    (bytes_eq name (codes "declare_args")) (bytes_eq name (codes "forward_variables_from")) (bytes_eq name (codes "not_needed"))
+    (bytes_eq name (codes "read_file")) (bytes_eq name (codes "set_default_toolchain")) (list_any (bytes_eq name) excluded_names) kind h
 
 -- the name of a kind of items calls that kind
 item_or_other_called : FoundHaveNames → (found : Option ItemKind) (name : List ℕ) (kind : ItemKind)

@@ -11,15 +11,15 @@ use Rattle.gn_functions.specs.declared.function.Named.TheVariants.{Function as O
 use Rattle.gn_functions.specs.declared.function.Function.TheVariants.{Plain as OfPlain, Changing, Opening, Defined, Foreach, ReadFile}
 use Rattle.gn_functions.specs.declared.function.Plain.{Plain}
 use Rattle.gn_functions.specs.declared.function.Plain.TheVariants.{Assert, Print, WriteFile, Text, Path, TargetOutputs}
-use Rattle.gn_functions.specs.declared.function.Changing.TheVariants.{Import, Template, ForwardVariablesFrom, NotNeeded}
-use Rattle.gn_functions.specs.declared.function.Opening.TheVariants.{Item, Target, SetDefaults}
+use Rattle.gn_functions.specs.declared.function.Changing.TheVariants.{Import, Template, ForwardVariablesFrom, NotNeeded, SetDefaultToolchain}
+use Rattle.gn_functions.specs.declared.function.Opening.TheVariants.{Item, Target, SetDefaults, DeclareArguments}
 
 -- the functions of GN that define no items and are left out: those that the profile leaves out for good, and those that aren't built yet
 unfoldable pub excluded_names : List (List ℕ)
 excluded_names =
-    codes "bundle_data" ∷ codes "create_bundle" ∷ codes "declare_args" ∷ codes "exec_script" ∷ codes "filter_labels_exclude"
+    codes "bundle_data" ∷ codes "create_bundle" ∷ codes "exec_script" ∷ codes "filter_labels_exclude"
     ∷ codes "filter_labels_include" ∷ codes "generated_file" ∷ codes "getenv" ∷ codes "path_exists"
-    ∷ codes "rust_library" ∷ codes "rust_proc_macro" ∷ codes "set_default_toolchain" ∷ codes "string_hash" ∷ []
+    ∷ codes "rust_library" ∷ codes "rust_proc_macro" ∷ codes "string_hash" ∷ []
 
 -- the kind, if it is one of targets
 abbrev pub as_target : Option ItemKind → Option ItemKind
@@ -59,9 +59,11 @@ other_function_of name =
     else if bytes_eq name (codes "template") then OfFunction (Changing Template)
     else if bytes_eq name (codes "target") then OfFunction (Opening Target)
     else if bytes_eq name (codes "set_defaults") then OfFunction (Opening SetDefaults)
+    else if bytes_eq name (codes "declare_args") then OfFunction (Opening DeclareArguments)
     else if bytes_eq name (codes "forward_variables_from") then OfFunction (Changing ForwardVariablesFrom)
     else if bytes_eq name (codes "not_needed") then OfFunction (Changing NotNeeded)
     else if bytes_eq name (codes "read_file") then OfFunction ReadFile
+    else if bytes_eq name (codes "set_default_toolchain") then OfFunction (Changing SetDefaultToolchain)
     else if list_any (bytes_eq name) excluded_names then Excluded
     else Unknown
 

@@ -3,12 +3,12 @@ use Rattle.std.specs.Prelude.{ℕ, Bool, true, false, ◌&&◌, not, nat_le, Opt
 use Rattle.gn_calls_text.specs.declared.call.TextCall.TheVariants.{FilterInclude, FilterExclude, SplitList, StringJoin, StringReplace, StringSplit}
 use Rattle.gn_calls_path.specs.declared.call.PathCall.TheVariants.{GetLabelInfo, GetPathInfo, LabelMatches, ProcessFileTemplate, RebasePath}
 use Rattle.gn_functions.specs.declared.rule.Rule.{Rule}
-use Rattle.gn_functions.specs.declared.rule.Allowed.TheVariants.{Everywhere, WhereItems}
+use Rattle.gn_functions.specs.declared.rule.Allowed.TheVariants.{Everywhere, WhereItems, WhereFiles, WhereArguments, InBuildConfiguration}
 use Rattle.gn_functions.specs.declared.function.Function.{Function}
 use Rattle.gn_functions.specs.declared.function.Function.TheVariants.{Plain, Changing, Opening, Defined, Foreach, ReadFile}
 use Rattle.gn_functions.specs.declared.function.Plain.TheVariants.{Assert, Print, WriteFile, Text, Path, TargetOutputs}
-use Rattle.gn_functions.specs.declared.function.Changing.TheVariants.{Import, Template, ForwardVariablesFrom, NotNeeded}
-use Rattle.gn_functions.specs.declared.function.Opening.TheVariants.{Item, Target, SetDefaults}
+use Rattle.gn_functions.specs.declared.function.Changing.TheVariants.{Import, Template, ForwardVariablesFrom, NotNeeded, SetDefaultToolchain}
+use Rattle.gn_functions.specs.declared.function.Opening.TheVariants.{Item, Target, SetDefaults, DeclareArguments}
 
 -- so many arguments at least and at most, and no block, or one
 abbrev pub without_block : ℕ → Option ℕ → Rule
@@ -21,7 +21,7 @@ with_block count = record { least = count; most = Some count; block = true; impo
 unfoldable pub rule_of : Function → Rule
 rule_of (Plain Assert) = without_block 1 (Some 2)
 rule_of (Plain Print) = without_block 1 None
-rule_of (Plain WriteFile) = without_block 2 (Some 2)
+rule_of (Plain WriteFile) = record (without_block 2 (Some 2)) { allowed = WhereFiles }
 rule_of (Plain (Text FilterExclude)) = without_block 2 (Some 2)
 rule_of (Plain (Text FilterInclude)) = without_block 2 (Some 2)
 rule_of (Plain (Text SplitList)) = without_block 2 (Some 2)
@@ -34,16 +34,18 @@ rule_of (Plain (Path LabelMatches)) = without_block 2 (Some 2)
 rule_of (Plain (Path ProcessFileTemplate)) = without_block 2 (Some 2)
 rule_of (Plain (Path RebasePath)) = without_block 1 (Some 3)
 rule_of (Plain TargetOutputs) = without_block 1 (Some 1)
-rule_of (Changing Import) = record (without_block 1 (Some 1)) { imports = true }
+rule_of (Changing Import) = record (without_block 1 (Some 1)) { imports = true; allowed = WhereFiles }
 rule_of (Changing Template) = with_block 1
 rule_of (Changing ForwardVariablesFrom) = without_block 2 (Some 3)
 rule_of (Changing NotNeeded) = without_block 1 (Some 3)
+rule_of (Changing SetDefaultToolchain) = record (without_block 1 (Some 1)) { allowed = InBuildConfiguration }
 rule_of (Opening (Item kind)) = record (with_block 1) { allowed = WhereItems kind }
 rule_of (Opening Target) = with_block 2
 rule_of (Opening SetDefaults) = with_block 1
+rule_of (Opening DeclareArguments) = record (with_block 0) { allowed = WhereArguments }
 rule_of Defined = without_block 1 (Some 1)
 rule_of Foreach = with_block 2
-rule_of ReadFile = without_block 2 (Some 2)
+rule_of ReadFile = record (without_block 2 (Some 2)) { allowed = WhereFiles }
 
 -- the row of the calls of templates
 abbrev pub template_rule : Rule

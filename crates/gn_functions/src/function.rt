@@ -37,6 +37,8 @@ pub enum Changing {
     ForwardVariablesFrom,
     /// `not_needed`
     NotNeeded,
+    /// `set_default_toolchain`
+    SetDefaultToolchain,
 }
 
 /// A function that opens a scope, in which its block runs.
@@ -48,6 +50,8 @@ pub enum Opening {
     Target,
     /// `set_defaults`
     SetDefaults,
+    /// `declare_args`
+    DeclareArguments,
 }
 
 /// A function of the language.
@@ -80,10 +84,9 @@ pub enum Named {
 
 // The functions of GN that define no items and are left out: those that the profile leaves out for good, and those that aren't
 // built yet.
-const EXCLUDED: [&[u8]; 13] = [
+const EXCLUDED: [&[u8]; 11] = [
     b"bundle_data",
     b"create_bundle",
-    b"declare_args",
     b"exec_script",
     b"filter_labels_exclude",
     b"filter_labels_include",
@@ -92,7 +95,6 @@ const EXCLUDED: [&[u8]; 13] = [
     b"path_exists",
     b"rust_library",
     b"rust_proc_macro",
-    b"set_default_toolchain",
     b"string_hash",
 ];
 
@@ -176,12 +178,16 @@ fn other_function_of(name: &[u8]) -> Named
         Named::Function(Function::Opening(Opening::Target))
     } else if name == b"set_defaults".as_slice() {
         Named::Function(Function::Opening(Opening::SetDefaults))
+    } else if name == b"declare_args".as_slice() {
+        Named::Function(Function::Opening(Opening::DeclareArguments))
     } else if name == b"forward_variables_from".as_slice() {
         Named::Function(Function::Changing(Changing::ForwardVariablesFrom))
     } else if name == b"not_needed".as_slice() {
         Named::Function(Function::Changing(Changing::NotNeeded))
     } else if name == b"read_file".as_slice() {
         Named::Function(Function::ReadFile)
+    } else if name == b"set_default_toolchain".as_slice() {
+        Named::Function(Function::Changing(Changing::SetDefaultToolchain))
     } else if is_excluded(name) {
         Named::Excluded
     } else {

@@ -16,6 +16,12 @@ pub enum Allowed {
     /// Where an item of this kind may be defined: a tool in the block of a toolchain, all others in a build file, outside the
     /// blocks of other items.
     WhereItems(ItemKind),
+    /// Where other files may be asked for: not in the dotfile, and not in the build arguments.
+    WhereFiles,
+    /// Where build arguments may be declared: where other files may be asked for, outside the blocks of items.
+    WhereArguments,
+    /// In the build configuration.
+    InBuildConfiguration,
 }
 
 /// What is judged of a call before its arguments are evaluated, in this order: whether it is allowed where it stands, its
@@ -60,6 +66,19 @@ fn with_block(count: usize, allowed: Allowed) -> Rule
     }
 }
 
+// A function that reads or writes a file, given its path and one value more.
+fn of_files() -> Rule
+    ensures { result ≡ record (without_block 2 (Some 2)) { allowed = Allowed.WhereFiles } }
+{
+    Rule {
+        least: 2,
+        most: Some(2),
+        block: false,
+        imports: false,
+        allowed: Allowed::WhereFiles,
+    }
+}
+
 impl Function {
     /// The rule of the function. It takes no memory.
     #[tactic(auto, unfolding(crate::specs::Rules::rule_of))]
@@ -69,7 +88,7 @@ impl Function {
         match self {
             Function::Plain(Plain::Assert) => without_block(1, Some(2)),
             Function::Plain(Plain::Print) => without_block(1, None),
-            Function::Plain(Plain::WriteFile) => without_block(2, Some(2)),
+            Function::Plain(Plain::WriteFile) => of_files(),
             Function::Plain(Plain::Text(TextCall::FilterExclude)) => without_block(2, Some(2)),
             Function::Plain(Plain::Text(TextCall::FilterInclude)) => without_block(2, Some(2)),
             Function::Plain(Plain::Text(TextCall::SplitList)) => without_block(2, Some(2)),
@@ -89,17 +108,25 @@ impl Function {
                 most: Some(1),
                 block: false,
                 imports: true,
-                allowed: Allowed::Everywhere,
+                allowed: Allowed::WhereFiles,
             },
             Function::Changing(Changing::Template) => with_block(1, Allowed::Everywhere),
             Function::Changing(Changing::ForwardVariablesFrom) => without_block(2, Some(3)),
             Function::Changing(Changing::NotNeeded) => without_block(1, Some(3)),
+            Function::Changing(Changing::SetDefaultToolchain) => Rule {
+                least: 1,
+                most: Some(1),
+                block: false,
+                imports: false,
+                allowed: Allowed::InBuildConfiguration,
+            },
             Function::Opening(Opening::Item(kind)) => with_block(1, Allowed::WhereItems(kind)),
             Function::Opening(Opening::Target) => with_block(2, Allowed::Everywhere),
             Function::Opening(Opening::SetDefaults) => with_block(1, Allowed::Everywhere),
+            Function::Opening(Opening::DeclareArguments) => with_block(0, Allowed::WhereArguments),
             Function::Defined => without_block(1, Some(1)),
             Function::Foreach => with_block(2, Allowed::Everywhere),
-            Function::ReadFile => without_block(2, Some(2)),
+            Function::ReadFile => of_files(),
         }
     }
 }

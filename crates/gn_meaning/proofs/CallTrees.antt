@@ -5,7 +5,7 @@ use Rattle.gn_tree.specs.declared.tree.Call.{Call}
 use Rattle.gn_tree.specs.Counts.{expr_count}
 use Rattle.gn_tree.specs.Tree.{ExprTree}
 use Rattle.gn_values.specs.Val.{Val}
-use Rattle.gn_values.specs.Imported.{DefinitionState}
+use Rattle.gn_definitions.specs.Imported.{DefinitionState}
 use Rattle.gn_items.specs.Effects.{Effects}
 use Rattle.gn_runs.specs.Runs.{Answers}
 use Rattle.gn_environment.specs.Environment.{Environment}

@@ -6,7 +6,7 @@ use Rattle.gn_paths.specs.Components.{is_system}
 use Rattle.gn_paths.specs.Resolve.{path_meant}
 use Rattle.gn_tree.specs.declared.tree.Call.{Call}
 use Rattle.gn_tree.specs.Tree.{ExprTree}
-use Rattle.gn_values.specs.Imported.{ImportState}
+use Rattle.gn_definitions.specs.Imported.{ImportState}
 use Rattle.gn_values.specs.Val.{Val}
 use Rattle.gn_faults.specs.declared.fault.Fault.{Fault}
 use Rattle.gn_faults.specs.declared.code.Code.TheVariants as code

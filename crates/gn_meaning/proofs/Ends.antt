@@ -1,7 +1,7 @@
 -- What holds of all that a run leaves, if it ends.
 use Rattle.std.proofs.Common.{◌≡◌, ℕ, Bool, true, false, if◌then◌else◌, List, Option, Some, None, subst}
 use Rattle.gn_paths.specs.declared.place.Place.{Place}
-use Rattle.gn_values.specs.Imported.{ImportState}
+use Rattle.gn_definitions.specs.Imported.{ImportState}
 use Rattle.gn_faults.specs.declared.fault.Fault.{Fault}
 use Rattle.gn_items.specs.Effects.{Effects}
 use Rattle.gn_runs.specs.Runs.{Question, Content, Imported, has_value, is_unusable, End, ended, wrong, spoiled, needs, Run}

@@ -8,7 +8,7 @@ use Rattle.gn_values.specs.Val.{Val, vstr}
 use Rattle.gn_items.specs.Effects.{with_asked}
 use Rattle.gn_runs.specs.Runs.{content_of, import_of, Content, has_bytes, is_absent, is_too_big}
 use Rattle.gn_environment.specs.Environment.{Environment}
-use Rattle.gn_environment.specs.Imports.{merged}
+use Rattle.gn_environment.specs.Declaring.{import_brought}
 use Rattle.gn_meaning.specs.Imports.{merged_to, content_runs, path_runs, imported_runs}
 use Rattle.gn_meaning.proofs.Steps.{AreQuiet, AreTrees, tree_ends, tree_fails, tree_if, tree_asks_content, tree_asks_import}
 
@@ -18,8 +18,8 @@ merged_tree (Err name) p env out = tree_fails _ out
 
 content_tree : (content : Content) (path : List ℕ) (at p : Position) → AreTrees (λ a. content_runs content a path at p)
 content_tree is_absent path at p env out = tree_fails _ out
-content_tree (has_bytes bytes) path at p env out = tree_asks_import path _ out _ (λ value. merged_tree (merged value env) p env (with_asked (import_of path) out))
-content_tree is_too_big path at p env out = tree_asks_import path _ out _ (λ value. merged_tree (merged value env) p env (with_asked (import_of path) out))
+content_tree (has_bytes bytes) path at p env out = tree_asks_import path _ out _ (λ value. merged_tree (import_brought p value env) p env (with_asked (import_of path) out))
+content_tree is_too_big path at p env out = tree_asks_import path _ out _ (λ value. merged_tree (import_brought p value env) p env (with_asked (import_of path) out))
 
 path_tree : (r : Result (List ℕ) PathFault) (at p : Position) → AreTrees (λ a. path_runs r a at p)
 path_tree (Err e) at p env out = tree_fails _ out

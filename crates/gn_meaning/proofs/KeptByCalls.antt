@@ -4,7 +4,7 @@ use Rattle.gn_tree.specs.declared.tree.Call.{Call}
 use Rattle.gn_tree.specs.declared.position.Position.{Position}
 use Rattle.gn_tree.specs.Counts.{expr_count}
 use Rattle.gn_values.specs.Val.{Val}
-use Rattle.gn_values.specs.Imported.{DefinitionState}
+use Rattle.gn_definitions.specs.Imported.{DefinitionState}
 use Rattle.gn_items.specs.Effects.{Effects}
 use Rattle.gn_runs.specs.Runs.{Answers}
 use Rattle.gn_environment.specs.Environment.{Environment}
@@ -23,7 +23,7 @@ use Rattle.gn_functions.specs.declared.function.Function.{Function}
 use Rattle.gn_functions.specs.declared.function.Function.TheVariants.{Plain, Changing as OfChanging, Opening as OfOpening, Defined, Foreach, ReadFile}
 use Rattle.gn_functions.specs.declared.function.Changing.{Changing}
 use Rattle.gn_functions.specs.declared.function.Opening.{Opening}
-use Rattle.gn_functions.specs.declared.function.Opening.TheVariants.{Item as ItemCall, Target, SetDefaults}
+use Rattle.gn_functions.specs.declared.function.Opening.TheVariants.{Item as ItemCall, Target, SetDefaults, DeclareArguments}
 use Rattle.gn_functions.specs.declared.function.Named.{Named}
 use Rattle.gn_functions.specs.declared.function.Named.TheVariants.{Function as OfFunction, Excluded, Unknown}
 use Rattle.gn_meaning.proofs.Ends.{Ends, Leaves, Keep, ends_do, moved, keep_do, fails_so, so_if}
@@ -51,6 +51,7 @@ allowed_is_ready (OfChanging f) env h = refl
 allowed_is_ready (OfOpening (ItemCall kind)) env h = (refl, is_open_around kind env h)
 allowed_is_ready (OfOpening Target) env h = refl
 allowed_is_ready (OfOpening SetDefaults) env h = refl
+allowed_is_ready (OfOpening DeclareArguments) env h = refl
 allowed_is_ready Defined env h = refl
 allowed_is_ready Foreach env h = refl
 allowed_is_ready ReadFile env h = refl
@@ -84,6 +85,7 @@ around_before : (f : Opening) (s env : Environment) → Before (of_function f) s
 around_before (ItemCall kind) s env b = b.0
 around_before Target s env b = b
 around_before SetDefaults s env b = b
+around_before DeclareArguments s env b = b
 
 unless_leaves : (s : Environment) (skipped : Bool) (steps : Steps (Option Val)) (env : Environment) (out : Effects) → surroundings env ≡ s → Leaves s (steps env out) → Leaves s (unless_skipped skipped steps env out)
 unless_leaves s true steps env out h l = record { so = h }

@@ -3,7 +3,7 @@ use Rattle.std.proofs.Common.{◌≡◌, ℕ, Bool, true, false, nat_lt, if◌th
 use Rattle.gn_tree.specs.declared.position.Position.{Position}
 use Rattle.gn_tree.specs.declared.tree.Call.{Call}
 use Rattle.gn_values.specs.Val.{Val, vstr}
-use Rattle.gn_values.specs.Imported.{DefinitionState}
+use Rattle.gn_definitions.specs.Imported.{DefinitionState}
 use Rattle.gn_faults.specs.declared.fault.Fault.{Fault}
 use Rattle.gn_items.specs.declared.item.Item.{Item}
 use Rattle.gn_rows.specs.declared.kinds.ItemKind.{ItemKind}
@@ -20,15 +20,17 @@ use Rattle.gn_environment.specs.declared.context.OpenBlock.TheVariants as block
 use Rattle.gn_environment.specs.Environment.{Environment, after_read, entered, left, reported_here, with_open}
 use Rattle.gn_environment.specs.Templates.{template_of, block_begins, defaults_given, at_depth, body_begins, body_ends, reported_by_invoker}
 use Rattle.gn_environment.specs.Surroundings.{surroundings}
+use Rattle.gn_environment.specs.Declaring.{declaring_entered, ArgumentState, arguments_here, arguments_declared}
 use Rattle.gn_environment.proofs.Surroundings.{IsKept, read_keeps, left_keeps, defaults_given_keep, block_begins_so, defaults_set_keep, at_depth_keeps, depth_again, body_ends_keep}
-use Rattle.gn_environment.proofs.SurroundingsOfCalls.{block_ends, same_open}
+use Rattle.gn_environment.proofs.SurroundingsOfCalls.{block_ends, same_open, arguments_declared_keep}
 use Rattle.gn_meaning.specs.Steps.{Left, Steps, max_evaluation_depth}
 use Rattle.gn_meaning.specs.Items.{fields_here, rows_read, item_made, defined}
 use Rattle.gn_meaning.specs.Calls.{open_in, open_around, item_runs, item_end_runs, defaults_taken, scope_begun_runs, item_scope, item_scope_begun_runs}
 use Rattle.gn_meaning.specs.Templates.{opened_depth, invoker_checked, template_end_runs, is_build_file, is_inside, allows_items, is_toolchain, allows, defaults_end_runs}
+use Rattle.gn_meaning.specs.Declaring.{arguments_taken, arguments_end_runs}
 use Rattle.gn_functions.specs.Functions.{target_kind_of}
-use Rattle.gn_meaning.specs.OpeningCalls.{Opener, of_template, of_function, Opened, opened_item, opened_template, opened_defaults, template_begun_runs, item_begun_runs, template_named_runs, item_named_runs, target_kind_runs, target_of_runs, target_runs, defaults_begun_runs, begun_runs, closed_runs, opened_call_runs, valued_runs, opening_runs}
-use Rattle.gn_functions.specs.declared.function.Opening.TheVariants.{Item as ItemCall, Target, SetDefaults}
+use Rattle.gn_meaning.specs.OpeningCalls.{Opener, of_template, of_function, Opened, opened_item, opened_template, opened_defaults, opened_arguments, template_begun_runs, item_begun_runs, template_named_runs, item_named_runs, target_kind_runs, target_of_runs, target_runs, defaults_begun_runs, begun_runs, closed_runs, opened_call_runs, valued_runs, opening_runs}
+use Rattle.gn_functions.specs.declared.function.Opening.TheVariants.{Item as ItemCall, Target, SetDefaults, DeclareArguments}
 use Rattle.gn_meaning.proofs.Ends.{Ends, Leaves, Keep, ends_do, moved, keep_ends, fails_so, so_if}
 use Rattle.gn_meaning.proofs.KeptBySteps.{checked_leaves}
 
@@ -39,12 +41,14 @@ Before (of_template definition depth) s env = surroundings (at_depth depth env) 
 Before (of_function (ItemCall kind)) s env = (surroundings env ≡ s) × (env.setting.inside ≡ open_around kind)
 Before (of_function Target) s env = surroundings env ≡ s
 Before (of_function SetDefaults) s env = surroundings env ≡ s
+Before (of_function DeclareArguments) s env = surroundings env ≡ s
 
 pub before_moved : (o : Opener) (s env after : Environment) → surroundings after ≡ surroundings env → Before o s env → Before o s after
 before_moved (of_template definition depth) s env after h b = at_depth_keeps depth env after h ∙ b
 before_moved (of_function (ItemCall kind)) s env after h b = (h ∙ b.0, same_open env after h ∙ b.1)
 before_moved (of_function Target) s env after h b = h ∙ b
 before_moved (of_function SetDefaults) s env after h b = h ∙ b
+before_moved (of_function DeclareArguments) s env after h b = h ∙ b
 
 -- what stands around while the block of the call runs
 
@@ -52,6 +56,7 @@ abbrev pub During : Opened → Environment → Environment → Type 0
 During (opened_item kind name) s env = (env0 : Environment) × (surroundings env0 ≡ s) × (env0.setting.inside ≡ open_around kind) × (surroundings env ≡ surroundings (entered true (with_open (open_in kind) env0)))
 During (opened_template definition name depth) s env = (env0 : Environment) × (surroundings (at_depth depth env0) ≡ s) × (surroundings env ≡ surroundings (entered true env0))
 During (opened_defaults kind) s env = (env0 : Environment) × (surroundings env0 ≡ s) × (surroundings env ≡ surroundings (entered false env0))
+During opened_arguments s env = (env0 : Environment) × (surroundings env0 ≡ s) × (surroundings env ≡ surroundings (declaring_entered env0))
 
 abbrev pub IsOpened : Environment → Left Opened → Type 0
 IsOpened s l = During l.value s l.environment
@@ -100,7 +105,6 @@ nothing_inside block.Nothing r h = refl
 nothing_inside block.Item r h = absurd (true≢false (sym h))
 nothing_inside block.Toolchain r h = absurd (true≢false (sym h))
 nothing_inside block.Tool r h = absurd (true≢false (sym h))
-nothing_inside block.Arguments r h = absurd (true≢false (sym h))
 
 nothing_open : (env : Environment) → allows_items env ≡ true → env.setting.inside ≡ block.Nothing
 nothing_open env h = nothing_inside env.setting.inside (is_build_file env.setting.kind) h
@@ -111,7 +115,6 @@ toolchain_inside block.Toolchain h = refl
 toolchain_inside block.Nothing h = absurd (true≢false (sym h))
 toolchain_inside block.Item h = absurd (true≢false (sym h))
 toolchain_inside block.Tool h = absurd (true≢false (sym h))
-toolchain_inside block.Arguments h = absurd (true≢false (sym h))
 
 pub is_open_around : (kind : ItemKind) (env : Environment) → allows kind env ≡ true → env.setting.inside ≡ open_around kind
 is_open_around kinds.Tool env h = toolchain_inside env.setting.inside h
@@ -147,6 +150,7 @@ begun_so s (of_template d depth) (v ∷ []) n call env out b = template_named_so
 begun_so s (of_function (ItemCall kind)) (v ∷ []) n call env out b = item_named_so s kind v call env out b.0 b.1
 begun_so s (of_function Target) (kind ∷ v ∷ []) n call env out b = target_so s kind v n call env out b
 begun_so s (of_function SetDefaults) (v ∷ []) n call env out b = defaults_begun_so s v call env out b
+begun_so s (of_function DeclareArguments) [] n call env out b = record { so = (env, b, refl) }
 begun_so s o vs n call env out b = fails_so _ out
 
 -- Ends
@@ -190,6 +194,15 @@ defaults_end_leaves : (kind : List ℕ) (env0 env : Environment) (out : Effects)
 unfolding defaults_end_runs
 defaults_end_leaves kind env0 env out h = keep_ends _ _ out (defaults_set_keep kind env ∙ left_keeps false env0 env h)
 
+arguments_taken_leaves : (r : Result Environment (List ℕ)) (arguments : List ArgumentState) (p : Position) (env0 env : Environment) (out : Effects) → IsKept env0 r → Leaves (surroundings env0) (arguments_taken r arguments p env out)
+arguments_taken_leaves (Ok after) arguments p env0 env out h = keep_ends _ after _ h
+arguments_taken_leaves (Err name) arguments p env0 env out h = fails_so _ out
+
+arguments_end_leaves : (p : Position) (env0 env : Environment) (out : Effects) → surroundings env ≡ surroundings (declaring_entered env0) → Leaves (surroundings env0) (arguments_end_runs p env out)
+unfolding arguments_end_runs
+arguments_end_leaves p env0 env out h =
+    arguments_taken_leaves (arguments_declared p env) (arguments_here p env) p env0 env out (arguments_declared_keep p env0 env h)
+
 -- The whole
 
 -- the bodies of templates, each of which leaves what stands around its scope
@@ -205,6 +218,8 @@ module _ (body : DefinitionState → Position → Steps (Unit {0})) (b : BodiesK
       ends_do _ _ (u env out) (λ l h. ends_do _ _ (b definition p (body_begins definition name l.environment) l.effects) (λ k g. moved d.1 (template_end_leaves definition name depth d.0 l.environment k.environment k.effects (h ∙ d.2) g)))
   opened_leaves s (opened_defaults kind) p env out d =
       ends_do _ _ (u env out) (λ l h. moved d.1 (defaults_end_leaves kind d.0 l.environment l.effects (h ∙ d.2)))
+  opened_leaves s opened_arguments p env out d =
+      ends_do _ _ (u env out) (λ l h. moved d.1 (arguments_end_leaves p d.0 l.environment l.effects (h ∙ d.2)))
 
   valued_leaves : (s : Environment) (o : Opener) (vs : List Val) (n : ℕ) (call : Call) (env : Environment) (out : Effects) → Before o s env → Leaves s (valued_runs body o vs n call block env out)
   unfolding valued_runs

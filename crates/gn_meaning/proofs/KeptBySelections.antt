@@ -4,7 +4,8 @@ use Rattle.gn_tree.specs.declared.position.Position.{Position}
 use Rattle.gn_values.specs.Limits.{scope_fits}
 use Rattle.gn_values.specs.Val.{Val, vstr, vscope, entries_of}
 use Rattle.gn_environment.specs.Environment.{Environment}
-use Rattle.gn_environment.specs.Forwarding.{Origin, from_entries, from_invoker, names_forwarded}
+use Rattle.gn_environment.specs.Forwarding.{Origin, from_entries, from_invoker}
+use Rattle.gn_environment.specs.Declaring.{names_brought, import_brought}
 use Rattle.gn_environment.specs.Invoker.{forwards_outer_invoker, outer_invoker_entries}
 use Rattle.gn_meaning.specs.Steps.{Steps}
 use Rattle.gn_meaning.specs.Selections.{FirstArgument, the_invoker, a_value, Selection, every_name, listed_names, other_text, no_names, strings_of, selection_of, excepting_runs, excepted_runs, selected_runs, forwarded_to, names_forwarded_runs, outer_invoker_runs, outer_invoker_forwarded_runs, invoker_forwarded_runs, listed_forwarded_runs, origin_forwarded_runs, forwarded_runs, unneeded_here_runs, unneeded_at_invoker_runs, unneeded_in_value_runs, unneeded_one_runs, unneeded_two_runs, unneeded_three_runs}
@@ -13,19 +14,22 @@ use Rattle.gn_paths.specs.Components.{is_system}
 use Rattle.gn_paths.specs.Resolve.{path_meant}
 use Rattle.gn_tree.specs.declared.tree.Call.{Call}
 use Rattle.gn_tree.specs.Tree.{BlockTree}
+use Rattle.gn_labels.specs.declared.error.LabelFault.{LabelFault}
+use Rattle.gn_labels.specs.declared.label.Label.{Label}
+use Rattle.gn_labels.specs.Reading.{label_read}
 use Rattle.gn_items.specs.Effects.{Effects}
 use Rattle.gn_runs.specs.Runs.{Content, has_bytes, is_absent, is_too_big, Answers}
 use Rattle.gn_environment.specs.Templates.{has_template_here}
-use Rattle.gn_environment.specs.Imports.{merged}
 use Rattle.gn_environment.specs.Surroundings.{surroundings}
 use Rattle.gn_environment.proofs.Surroundings.{IsKept, template_defined_keeps}
-use Rattle.gn_environment.proofs.SurroundingsOfCalls.{names_read_here_keep, all_read_here_keeps, invoker_read_but_keeps, invoker_names_read_keep, outer_invoker_read_keeps, names_forwarded_keep, all_forwarded_keep, merged_keeps}
+use Rattle.gn_environment.proofs.SurroundingsOfCalls.{names_read_here_keep, all_read_here_keeps, invoker_read_but_keeps, invoker_names_read_keep, outer_invoker_read_keeps, names_brought_keep, all_brought_keep, import_brought_keeps}
 use Rattle.gn_meaning.specs.Arguments.{at_argument}
 use Rattle.gn_meaning.specs.Imports.{merged_to, content_runs, path_runs, imported_runs}
 use Rattle.gn_meaning.specs.Templates.{template_defined_runs}
+use Rattle.gn_meaning.specs.Toolchains.{label_named_runs, toolchain_set_runs, toolchain_setting_runs}
 use Rattle.gn_meaning.specs.ChangingCalls.{source_and_rest, forwarding_runs, unneeded_runs, importing_runs, defining_runs, changed_runs}
 use Rattle.gn_functions.specs.declared.function.Changing.{Changing}
-use Rattle.gn_functions.specs.declared.function.Changing.TheVariants.{Import, Template, ForwardVariablesFrom, NotNeeded}
+use Rattle.gn_functions.specs.declared.function.Changing.TheVariants.{Import, Template, ForwardVariablesFrom, NotNeeded, SetDefaultToolchain}
 use Rattle.gn_meaning.proofs.Ends.{Leaves, Keep, keep_do, keep_ends, fails_so, so_if, keep_asks_content, keep_asks_import}
 
 excepting_keeps : {A : Type 0} (names : Option (List (List ℕ))) (at : Position) (next : List (List ℕ) → Steps A) → ((except : List (List ℕ)) → Keep (next except)) → Keep (excepting_runs names at next)
@@ -50,7 +54,7 @@ forwarded_to_keeps (Err name) p env out h = fails_so _ out
 
 names_keep : (origin : Origin) (names except : List (List ℕ)) (p : Position) → Keep (names_forwarded_runs origin names except p)
 names_keep origin names except p env out =
-    forwarded_to_keeps (names_forwarded origin names except env) p env out (names_forwarded_keep origin names except env)
+    forwarded_to_keeps (names_brought p origin names except env) p env out (names_brought_keep p origin names except env)
 
 outer_invoker_keeps : (p : Position) → Keep (outer_invoker_runs p)
 unfolding outer_invoker_runs
@@ -71,7 +75,7 @@ listed_forwarded_keeps (from_invoker outer) names except p env out = invoker_for
 
 origin_forwarded_keeps : (origin : Origin) (names : Val) (last : Option (Val × Position)) (at p : Position) (name : List ℕ) → Keep (origin_forwarded_runs origin names last at p name)
 origin_forwarded_keeps origin names last at p name env out =
-    selected_keeps (selection_of names) last at p name _ _ (λ except env1 out1. keep_ends _ _ out1 (all_forwarded_keep origin except env1))
+    selected_keeps (selection_of names) last at p name _ _ (λ except env1 out1. keep_ends _ _ out1 (all_brought_keep p origin except env1))
     (λ listed except env1 out1. listed_forwarded_keeps origin listed except p env1 out1) env out
 
 pub forwarded_keeps : (source : FirstArgument) (names : Val) (last : Option (Val × Position)) (source_at at p : Position) (name : List ℕ) → Keep (forwarded_runs source names last source_at at p name)
@@ -121,9 +125,9 @@ merged_to_keeps (Err name) p env out h = fails_so _ out
 content_keeps : (content : Content) (a : Answers) (path : List ℕ) (at p : Position) → Keep (content_runs content a path at p)
 content_keeps is_absent a path at p env out = fails_so _ out
 content_keeps (has_bytes bytes) a path at p env out =
-    keep_asks_import (a.imports path) path _ out _ (λ value out1. merged_to_keeps (merged value env) p env out1 (merged_keeps value env))
+    keep_asks_import (a.imports path) path _ out _ (λ value out1. merged_to_keeps (import_brought p value env) p env out1 (import_brought_keeps p value env))
 content_keeps is_too_big a path at p env out =
-    keep_asks_import (a.imports path) path _ out _ (λ value out1. merged_to_keeps (merged value env) p env out1 (merged_keeps value env))
+    keep_asks_import (a.imports path) path _ out _ (λ value out1. merged_to_keeps (import_brought p value env) p env out1 (import_brought_keeps p value env))
 
 path_keeps : (r : Result (List ℕ) PathFault) (a : Answers) (at p : Position) → Keep (path_runs r a at p)
 path_keeps (Err e) a at p env out = fails_so _ out
@@ -169,9 +173,24 @@ unfolding defining_runs
 defining_keeps (v ∷ []) (Some block) call n env out = template_keeps v (at_argument call 0) call.position n block env out
 defining_keeps vs block call n env out = fails_so _ out
 
+label_named_keeps : (r : Result Label LabelFault) (at p : Position) → Keep (label_named_runs r at p)
+label_named_keeps (Ok label) at p env out = keep_ends _ env _ refl
+label_named_keeps (Err fault) at p env out = fails_so _ out
+
+toolchain_set_keeps : (v : Val) (at p : Position) → Keep (toolchain_set_runs v at p)
+unfolding toolchain_set_runs
+toolchain_set_keeps (vstr text) at p env out = label_named_keeps (label_read env.setting.directory env.setting.context.toolchain text) at p env out
+toolchain_set_keeps v at p env out = fails_so _ out
+
+toolchain_setting_keeps : (vs : List Val) (call : Call) → Keep (toolchain_setting_runs vs call)
+unfolding toolchain_setting_runs
+toolchain_setting_keeps (v ∷ []) call env out = toolchain_set_keeps v (at_argument call 0) call.position env out
+toolchain_setting_keeps vs call env out = fails_so _ out
+
 pub changed_keeps : (a : Answers) (f : Changing) (invoker : Bool) (vs : List Val) (call : Call) (n : ℕ) → Keep (changed_runs a f invoker vs call n)
 unfolding changed_runs
 changed_keeps a Import invoker vs call n env out = importing_keeps a vs call env out
 changed_keeps a Template invoker vs call n env out = defining_keeps vs call.block call n env out
 changed_keeps a ForwardVariablesFrom invoker vs call n env out = forwarding_keeps (source_and_rest invoker vs) call env out
 changed_keeps a NotNeeded invoker vs call n env out = unneeded_keeps (source_and_rest invoker vs) call env out
+changed_keeps a SetDefaultToolchain invoker vs call n env out = toolchain_setting_keeps vs call env out

@@ -3,7 +3,7 @@ use Rattle.std.proofs.Common.{ℕ, List, [], ◌∷◌, Option, Some, None}
 use Rattle.gn_tree.specs.declared.position.Position.{Position}
 use Rattle.gn_tree.specs.declared.tree.Call.{Call}
 use Rattle.gn_values.specs.Val.{Val, vstr}
-use Rattle.gn_values.specs.Imported.{DefinitionState}
+use Rattle.gn_definitions.specs.Imported.{DefinitionState}
 use Rattle.gn_rows.specs.declared.kinds.ItemKind.{ItemKind}
 use Rattle.gn_runs.specs.Runs.{Answers}
 use Rattle.gn_environment.specs.Environment.{with_open}
@@ -12,11 +12,11 @@ use Rattle.gn_meaning.specs.Steps.{Steps}
 use Rattle.gn_meaning.specs.Calls.{open_in}
 use Rattle.gn_meaning.specs.Templates.{allows}
 use Rattle.gn_functions.specs.Functions.{target_kind_of}
-use Rattle.gn_meaning.specs.OpeningCalls.{Opener, of_template, of_function, Opened, opened_item, opened_template, opened_defaults, template_begun_runs, item_begun_runs, template_named_runs, item_named_runs, target_kind_runs, target_of_runs, target_runs, defaults_begun_runs, begun_runs, body_run, closed_runs, opened_call_runs, valued_runs, opening_runs}
-use Rattle.gn_functions.specs.declared.function.Opening.TheVariants.{Item, Target, SetDefaults}
+use Rattle.gn_meaning.specs.OpeningCalls.{Opener, of_template, of_function, Opened, opened_item, opened_template, opened_defaults, opened_arguments, template_begun_runs, item_begun_runs, template_named_runs, item_named_runs, target_kind_runs, target_of_runs, target_runs, defaults_begun_runs, begun_runs, body_run, closed_runs, opened_call_runs, valued_runs, opening_runs}
+use Rattle.gn_functions.specs.declared.function.Opening.TheVariants.{Item, Target, SetDefaults, DeclareArguments}
 use Rattle.gn_meaning.proofs.Steps.{AreQuiet, AreTrees, tree_do, tree_ends, tree_fails, tree_if}
 use Rattle.gn_meaning.proofs.Calls.{scope_begun_tree, item_scope_begun_tree, item_end_tree}
-use Rattle.gn_meaning.proofs.Templates.{opened_tree, template_end_tree, defaults_end_tree}
+use Rattle.gn_meaning.proofs.Templates.{opened_tree, template_end_tree, defaults_end_tree, arguments_end_tree}
 
 template_begun_tree : (d : DefinitionState) (depth : ℕ) (kind_name name : List ℕ) (p : Position) → AreQuiet (template_begun_runs d depth kind_name name p)
 unfolding template_begun_runs
@@ -59,6 +59,7 @@ begun_tree (of_template d depth) (v ∷ []) n call env out = template_named_tree
 begun_tree (of_function (Item kind)) (v ∷ []) n call env out = item_named_tree kind v call env out
 begun_tree (of_function Target) (kind ∷ v ∷ []) n call env out = target_tree kind v n call env out
 begun_tree (of_function SetDefaults) (v ∷ []) n call env out = defaults_begun_tree v call env out
+begun_tree (of_function DeclareArguments) [] n call env out = tree_ends _ _ out
 begun_tree o vs n call env out = tree_fails _ out
 
 closed_tree : (o : Opened) (p : Position) → AreQuiet (closed_runs o p)
@@ -66,6 +67,7 @@ unfolding closed_runs
 closed_tree (opened_item kind name) p env out = item_end_tree kind name p env out
 closed_tree (opened_template d name depth) p env out = template_end_tree depth env out
 closed_tree (opened_defaults kind) p env out = defaults_end_tree kind env out
+closed_tree opened_arguments p env out = arguments_end_tree p env out
 
 -- the bodies of templates, each of which is a tree
 abbrev pub BodiesAreTrees : (Answers → DefinitionState → Position → Steps (Unit {0})) → Type 0
@@ -75,6 +77,7 @@ body_run_tree : (body : Answers → DefinitionState → Position → Steps (Unit
 body_run_tree body b (opened_template d name depth) p env out = b d p (body_begins d name env) out
 body_run_tree body b (opened_item kind name) p env out = tree_ends tt env out
 body_run_tree body b (opened_defaults kind) p env out = tree_ends tt env out
+body_run_tree body b opened_arguments p env out = tree_ends tt env out
 
 module _ (body : Answers → DefinitionState → Position → Steps (Unit {0})) (b : BodiesAreTrees body) (block : Answers → Steps (Unit {0})) (u : AreTrees block) where
   opened_call_tree : (o : Opened) (p : Position) → AreTrees (λ a. opened_call_runs (body a) o p (block a))

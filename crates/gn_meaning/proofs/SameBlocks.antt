@@ -11,7 +11,7 @@ use Rattle.gn_runs.specs.Runs.{Answers}
 use Rattle.gn_environment.specs.Environment.{Environment, entered, restored, given}
 use Rattle.gn_meaning.specs.Steps.{Steps, World, deeper}
 use Rattle.gn_meaning.specs.Meaning.{operator_runs, picked_runs, operators_in, call_in, expr_runs, values_run, others_run, call_runs, body_runs, defined_runs, foreach_runs, assignment_runs, statement_runs, condition_runs, otherwise_runs, block_runs, calls, reads, world}
-use Rattle.gn_values.specs.Imported.{DefinitionState}
+use Rattle.gn_definitions.specs.Imported.{DefinitionState}
 use Rattle.gn_environment.specs.Within.{IsWithin}
 use Rattle.gn_environment.proofs.Surroundings.{given_keeps, restored_keeps}
 use Rattle.gn_meaning.specs.Calls.{turns_run, loop_runs}

@@ -4,13 +4,14 @@ use Rattle.gn_tree.specs.declared.position.Position.{Position}
 use Rattle.gn_tree.specs.declared.tree.Call.{Call}
 use Rattle.gn_tree.specs.Tree.{ExprTree}
 use Rattle.gn_values.specs.Val.{Val, vstr}
-use Rattle.gn_values.specs.Imported.{DefinitionState}
+use Rattle.gn_definitions.specs.Imported.{DefinitionState}
 use Rattle.gn_items.specs.Effects.{Effects}
 use Rattle.gn_rows.specs.declared.kinds.ItemKind.{ItemKind}
 use Rattle.gn_runs.specs.Runs.{Answers, Question, End, ended, wrong, spoiled, needs, Run}
 use Rattle.gn_environment.specs.Environment.{Environment, with_open, entered}
 use Rattle.gn_environment.specs.Templates.{template_of, at_depth, body_begins, same_place}
 use Rattle.gn_environment.specs.Surroundings.{surroundings}
+use Rattle.gn_environment.specs.Declaring.{declaring_entered}
 use Rattle.gn_environment.specs.Within.{IsWithin}
 use Rattle.gn_environment.proofs.WithinBodies.{not_found_within}
 use Rattle.gn_meaning.specs.Steps.{Left, Steps, onward, then_do, max_evaluation_depth}
@@ -20,13 +21,13 @@ use Rattle.gn_functions.specs.Functions.{target_kind_of}
 use Rattle.gn_meaning.specs.ChangingCalls.{begins_with_invoker, changed_runs}
 use Rattle.gn_meaning.specs.PlainCalls.{plain_runs}
 use Rattle.gn_meaning.specs.Contents.{read_file_runs}
-use Rattle.gn_meaning.specs.OpeningCalls.{Opener, of_template, of_function, Opened, opened_item, opened_template, opened_defaults, template_begun_runs, item_begun_runs, template_named_runs, item_named_runs, target_kind_runs, target_of_runs, target_runs, defaults_begun_runs, begun_runs, body_run, closed_runs, opened_call_runs, valued_runs, opening_runs}
+use Rattle.gn_meaning.specs.OpeningCalls.{Opener, of_template, of_function, Opened, opened_item, opened_template, opened_defaults, opened_arguments, template_begun_runs, item_begun_runs, template_named_runs, item_named_runs, target_kind_runs, target_of_runs, target_runs, defaults_begun_runs, begun_runs, body_run, closed_runs, opened_call_runs, valued_runs, opening_runs}
 use Rattle.gn_meaning.specs.FunctionCalls.{accepted_runs, template_accepted_runs, is_skipped, unless_skipped, Parts, given_runs, changing_runs, function_runs, built_in_runs, template_called_runs, template_or_built_in, called_runs}
 use Rattle.gn_meaning.specs.TemplateLaws.{AreTheSameBut}
 use Rattle.gn_functions.specs.declared.function.Function.{Function}
 use Rattle.gn_functions.specs.declared.function.Function.TheVariants.{Plain, Changing as OfChanging, Opening, Defined, Foreach, ReadFile}
 use Rattle.gn_functions.specs.declared.function.Changing.{Changing}
-use Rattle.gn_functions.specs.declared.function.Opening.TheVariants.{Item as ItemCall, Target, SetDefaults}
+use Rattle.gn_functions.specs.declared.function.Opening.TheVariants.{Item as ItemCall, Target, SetDefaults, DeclareArguments}
 use Rattle.gn_meaning.proofs.Ends.{IfEnded, Ends, Leaves, Keep, ends_do, fails_so, so_if}
 use Rattle.gn_meaning.proofs.KeptByOpenings.{Before, During, IsOpened, begun_so, before_moved}
 use Rattle.gn_meaning.proofs.KeptByCalls.{IsReady, IsAccepted, PartsKeep, accepted_so, template_accepted_so}
@@ -83,12 +84,14 @@ body_before (of_template definition depth) env0 env b = ap (λ (s : Environment)
 body_before (of_function (ItemCall kind)) env0 env b = ap (λ (s : Environment). s.body) b.0
 body_before (of_function Target) env0 env b = ap (λ (s : Environment). s.body) b
 body_before (of_function SetDefaults) env0 env b = ap (λ (s : Environment). s.body) b
+body_before (of_function DeclareArguments) env0 env b = ap (λ (s : Environment). s.body) b
 
 body_during : (o : Opened) (env0 env : Environment) → During o (surroundings env0) env → env.body ≡ env0.body
-unfolding surroundings at_depth entered
+unfolding surroundings at_depth entered declaring_entered
 body_during (opened_item kind name) env0 env d = ap (λ (s : Environment). s.body) d.3 ∙ ap (λ (s : Environment). s.body) d.1
 body_during (opened_template definition name depth) env0 env d = ap (λ (s : Environment). s.body) d.2 ∙ ap (λ (s : Environment). s.body) d.1
 body_during (opened_defaults kind) env0 env d = ap (λ (s : Environment). s.body) d.2 ∙ ap (λ (s : Environment). s.body) d.1
+body_during opened_arguments env0 env d = ap (λ (s : Environment). s.body) d.2 ∙ ap (λ (s : Environment). s.body) d.1
 
 -- Where the evaluation stands in the body of a template
 
@@ -101,6 +104,7 @@ module _ (outermost inner : DefinitionState) (w : IsWithin outermost inner) wher
   OpensOther (opened_item kind name) = Unit {0}
   OpensOther (opened_template definition name depth) = IsOther definition
   OpensOther (opened_defaults kind) = Unit {0}
+  OpensOther opened_arguments = Unit {0}
 
   abbrev IsOpenedOther : Left Opened → Type 0
   IsOpenedOther l = OpensOther l.value
@@ -158,6 +162,7 @@ module _ (outermost inner : DefinitionState) (w : IsWithin outermost inner) wher
   begun_other (of_function (ItemCall kind)) (v ∷ []) n call env out i e = item_named_other kind v call env out
   begun_other (of_function Target) (kind ∷ v ∷ []) n call env out i e = target_other kind v n call env out e
   begun_other (of_function SetDefaults) (v ∷ []) n call env out i e = defaults_begun_other v call env out
+  begun_other (of_function DeclareArguments) [] n call env out i e = record { so = tt }
   begun_other o vs n call env out i e = fails_so _ out
 
   -- steps that are the same there
@@ -182,6 +187,7 @@ module _ (outermost inner : DefinitionState) (w : IsWithin outermost inner) wher
     body_run_same (opened_item kind name) p env out i = refl
     body_run_same (opened_template definition name depth) p env out i = same definition i p (body_begins definition name env) out
     body_run_same (opened_defaults kind) p env out i = refl
+    body_run_same opened_arguments p env out i = refl
 
     module _ (block block1 : Steps (Unit {0})) (u : Keep block) (v : AreSame block block1) where
       opened_same : (o : Opened) (p : Position) (env : Environment) (out : Effects) → OpensOther o → env.body ≡ Some inner → opened_call_runs bodies o p block env out ≡ opened_call_runs others o p block1 env out

@@ -4,7 +4,8 @@ use Rattle.gn_tree.specs.declared.position.Position.{Position}
 use Rattle.gn_values.specs.Limits.{scope_fits}
 use Rattle.gn_values.specs.Val.{Val, vscope, entries_of}
 use Rattle.gn_environment.specs.Environment.{Environment}
-use Rattle.gn_environment.specs.Forwarding.{Origin, from_entries, from_invoker, names_forwarded}
+use Rattle.gn_environment.specs.Forwarding.{Origin, from_entries, from_invoker}
+use Rattle.gn_environment.specs.Declaring.{names_brought}
 use Rattle.gn_environment.specs.Invoker.{forwards_outer_invoker, outer_invoker_entries}
 use Rattle.gn_meaning.specs.Steps.{Steps}
 use Rattle.gn_meaning.specs.Selections.{FirstArgument, the_invoker, a_value, Selection, every_name, listed_names, other_text, no_names, strings_of, selection_of, excepting_runs, excepted_runs, selected_runs, forwarded_to, names_forwarded_runs, outer_invoker_runs, outer_invoker_forwarded_runs, invoker_forwarded_runs, listed_forwarded_runs, origin_forwarded_runs, forwarded_runs, unneeded_here_runs, unneeded_at_invoker_runs, unneeded_in_value_runs, unneeded_one_runs, unneeded_two_runs, unneeded_three_runs}
@@ -31,7 +32,7 @@ forwarded_to_tree (Ok after) p env out = tree_ends _ after out
 forwarded_to_tree (Err name) p env out = tree_fails _ out
 
 names_forwarded_tree : (origin : Origin) (names except : List (List ℕ)) (p : Position) → AreQuiet (names_forwarded_runs origin names except p)
-names_forwarded_tree origin names except p env out = forwarded_to_tree (names_forwarded origin names except env) p env out
+names_forwarded_tree origin names except p env out = forwarded_to_tree (names_brought p origin names except env) p env out
 
 outer_invoker_tree : (p : Position) → AreQuiet (outer_invoker_runs p)
 unfolding outer_invoker_runs

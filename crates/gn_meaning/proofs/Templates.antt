@@ -1,13 +1,16 @@
--- What templates do are trees of questions.
-use Rattle.std.proofs.Common.{ℕ, nat_lt, List, Option, Some, None}
+-- What templates do are trees of questions, and the ends of blocks that set something around them.
+use Rattle.std.proofs.Common.{ℕ, nat_lt, List, Option, Some, None, Result, Ok, Err}
 use Rattle.gn_tree.specs.declared.position.Position.{Position}
 use Rattle.gn_tree.specs.Tree.{BlockTree}
 use Rattle.gn_values.specs.Val.{Val, vstr}
 use Rattle.gn_runs.specs.Runs.{Answers}
-use Rattle.gn_environment.specs.Environment.{reported_here}
+use Rattle.gn_items.specs.Effects.{with_declarations}
+use Rattle.gn_environment.specs.Environment.{Environment, reported_here}
 use Rattle.gn_environment.specs.Templates.{has_template_here, at_depth, reported_by_invoker}
+use Rattle.gn_environment.specs.Declaring.{ArgumentState, arguments_here, arguments_declared}
 use Rattle.gn_meaning.specs.Steps.{Steps, max_evaluation_depth}
 use Rattle.gn_meaning.specs.Templates.{template_defined_runs, opened_depth, opened_runs, invoker_checked, template_end_runs, defaults_end_runs}
+use Rattle.gn_meaning.specs.Declaring.{arguments_taken, arguments_end_runs}
 use Rattle.gn_meaning.proofs.Steps.{AreQuiet, AreTrees, tree_ends, tree_fails, tree_if}
 use Rattle.gn_meaning.proofs.Calls.{checked_tree}
 
@@ -31,3 +34,12 @@ template_end_tree depth env out = invoker_checked_tree (reported_by_invoker env)
 pub defaults_end_tree : (kind : List ℕ) → AreQuiet (defaults_end_runs kind)
 unfolding defaults_end_runs
 defaults_end_tree kind env out = tree_ends _ _ out
+
+arguments_taken_tree : (r : Result Environment (List ℕ)) (arguments : List ArgumentState) (p : Position) → AreQuiet (arguments_taken r arguments p)
+unfolding with_declarations
+arguments_taken_tree (Ok after) arguments p env out = tree_ends _ after (with_declarations _ out)
+arguments_taken_tree (Err name) arguments p env out = tree_fails _ out
+
+pub arguments_end_tree : (p : Position) → AreQuiet (arguments_end_runs p)
+unfolding arguments_end_runs
+arguments_end_tree p env out = arguments_taken_tree (arguments_declared p env) (arguments_here p env) p env out

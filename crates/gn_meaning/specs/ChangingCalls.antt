@@ -1,4 +1,5 @@
--- Calls that need the values of their arguments and change the environment: `import`, `template`, `forward_variables_from`, `not_needed`.
+-- Calls that need the values of their arguments and change where they stand: `import`, `template`, `forward_variables_from`, `not_needed`,
+-- `set_default_toolchain`.
 use Rattle.std.specs.Prelude.{ℕ, Bool, true, false, ◌&&◌, List, [], ◌∷◌, Option, Some, None}
 use Rattle.gn_tree.specs.declared.tree.Call.{Call}
 use Rattle.gn_tree.specs.Tree.{ExprTrees, no_exprs, expr_then, BlockTree}
@@ -9,9 +10,10 @@ use Rattle.gn_meaning.specs.Steps.{Steps}
 use Rattle.gn_meaning.specs.Arguments.{at_argument, refused_runs}
 use Rattle.gn_meaning.specs.Imports.{imported_runs}
 use Rattle.gn_meaning.specs.Templates.{template_defined_runs}
+use Rattle.gn_meaning.specs.Toolchains.{toolchain_setting_runs}
 use Rattle.gn_meaning.specs.Selections.{is_bare_invoker, FirstArgument, the_invoker, a_value, forwarded_runs, unneeded_one_runs, unneeded_two_runs, unneeded_three_runs}
 use Rattle.gn_functions.specs.declared.function.Changing.{Changing}
-use Rattle.gn_functions.specs.declared.function.Changing.TheVariants.{Import, Template, ForwardVariablesFrom, NotNeeded}
+use Rattle.gn_functions.specs.declared.function.Changing.TheVariants.{Import, Template, ForwardVariablesFrom, NotNeeded, SetDefaultToolchain}
 
 -- whether the first argument may be the invoker itself
 abbrev pub takes_invoker : Changing → Bool
@@ -19,6 +21,7 @@ takes_invoker Import = false
 takes_invoker Template = false
 takes_invoker ForwardVariablesFrom = true
 takes_invoker NotNeeded = true
+takes_invoker SetDefaultToolchain = false
 
 -- whether the first argument is the invoker itself: then it isn't evaluated, and this is no read
 unfoldable pub begins_with_invoker : Changing → ExprTrees → Environment → Bool
@@ -63,3 +66,4 @@ changed_runs answers Import invoker vs call nesting env out = importing_runs ans
 changed_runs answers Template invoker vs call nesting env out = defining_runs vs call.block call nesting env out
 changed_runs answers ForwardVariablesFrom invoker vs call nesting env out = forwarding_runs (source_and_rest invoker vs) call env out
 changed_runs answers NotNeeded invoker vs call nesting env out = unneeded_runs (source_and_rest invoker vs) call env out
+changed_runs answers SetDefaultToolchain invoker vs call nesting env out = toolchain_setting_runs vs call env out

@@ -6,7 +6,7 @@ use Rattle.gn_tree.specs.declared.tree.Call.{Call}
 use Rattle.gn_tree.specs.Counts.{expr_count}
 use Rattle.gn_tree.specs.Tree.{ExprTree}
 use Rattle.gn_values.specs.Val.{Val}
-use Rattle.gn_values.specs.Imported.{DefinitionState}
+use Rattle.gn_definitions.specs.Imported.{DefinitionState}
 use Rattle.gn_faults.specs.declared.code.Code.TheVariants as code
 use Rattle.gn_runs.specs.Runs.{Answers}
 use Rattle.gn_environment.specs.Environment.{Environment}
@@ -15,7 +15,7 @@ use Rattle.gn_meaning.specs.Steps.{Steps, then_do, ends}
 use Rattle.gn_meaning.specs.Words.{fails_at}
 use Rattle.gn_meaning.specs.Arguments.{refused_runs}
 use Rattle.gn_meaning.specs.Imports.{max_import_nesting}
-use Rattle.gn_meaning.specs.Templates.{opened_runs, allows}
+use Rattle.gn_meaning.specs.Templates.{opened_runs, asks_for_files, allows_arguments, is_build_configuration, allows}
 use Rattle.gn_meaning.specs.PlainCalls.{plain_runs}
 use Rattle.gn_meaning.specs.Contents.{read_file_runs}
 use Rattle.gn_meaning.specs.ChangingCalls.{begins_with_invoker, changed_runs}
@@ -24,7 +24,7 @@ use Rattle.gn_functions.specs.Functions.{function_of}
 use Rattle.gn_functions.specs.Rules.{takes, rule_of, template_rule}
 use Rattle.gn_functions.specs.declared.rule.Rule.{Rule}
 use Rattle.gn_functions.specs.declared.rule.Allowed.{Allowed}
-use Rattle.gn_functions.specs.declared.rule.Allowed.TheVariants.{Everywhere, WhereItems}
+use Rattle.gn_functions.specs.declared.rule.Allowed.TheVariants.{Everywhere, WhereItems, WhereFiles, WhereArguments, InBuildConfiguration}
 use Rattle.gn_functions.specs.declared.function.Function.{Function}
 use Rattle.gn_functions.specs.declared.function.Function.TheVariants.{Plain, Changing as OfChanging, Opening as OfOpening, Defined, Foreach, ReadFile}
 use Rattle.gn_functions.specs.declared.function.Changing.{Changing}
@@ -39,6 +39,9 @@ use Rattle.gn_functions.specs.declared.function.Named.TheVariants.{Function as O
 abbrev pub allowed_here : Allowed → Environment → Bool
 allowed_here Everywhere env = true
 allowed_here (WhereItems kind) env = allows kind env
+allowed_here WhereFiles env = asks_for_files env.setting.kind
+allowed_here WhereArguments env = allows_arguments env
+allowed_here InBuildConfiguration env = is_build_configuration env.setting.kind
 
 -- whether the call is allowed here, takes its arguments and its block, and doesn't nest too deep, where it is one that may
 unfoldable pub ruled_runs : Function → Rule → ℕ → Call → Steps Function

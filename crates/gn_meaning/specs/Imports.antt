@@ -11,7 +11,7 @@ use Rattle.gn_faults.specs.declared.code.Code.{Code}
 use Rattle.gn_faults.specs.declared.code.Code.TheVariants as code
 use Rattle.gn_runs.specs.Runs.{Content, has_bytes, is_absent, is_too_big, Answers}
 use Rattle.gn_environment.specs.Environment.{Environment}
-use Rattle.gn_environment.specs.Imports.{merged}
+use Rattle.gn_environment.specs.Declaring.{import_brought}
 use Rattle.gn_meaning.specs.Steps.{Steps, ends, content_asked, import_asked}
 use Rattle.gn_meaning.specs.Words.{fails_at}
 
@@ -37,9 +37,9 @@ merged_to (Err name) position env out = fails_at code.Conflict position (name �
 abbrev pub content_runs : Content → Answers → List ℕ → Position → Position → Steps (Option Val)
 content_runs is_absent a path at position env out = fails_at code.NoFile at (path ∷ []) env out
 content_runs (has_bytes bytes) a path at position env out =
-    import_asked (a.imports path) path (place_here position env) out (λ value out1. merged_to (merged value env) position env out1)
+    import_asked (a.imports path) path (place_here position env) out (λ value out1. merged_to (import_brought position value env) position env out1)
 content_runs is_too_big a path at position env out =
-    import_asked (a.imports path) path (place_here position env) out (λ value out1. merged_to (merged value env) position env out1)
+    import_asked (a.imports path) path (place_here position env) out (λ value out1. merged_to (import_brought position value env) position env out1)
 
 -- the content of the file is asked for first
 abbrev pub path_runs : Result (List ℕ) PathFault → Answers → Position → Position → Steps (Option Val)

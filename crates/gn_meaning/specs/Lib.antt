@@ -7,9 +7,11 @@ pub mod Outputs
 pub mod PlainCalls
 pub mod Pieces
 pub mod Templates
+pub mod Declaring
 pub mod Selections
 pub mod Imports
 pub mod Contents
+pub mod Toolchains
 pub mod ChangingCalls
 pub mod OpeningCalls
 pub mod FunctionCalls

@@ -1,5 +1,5 @@
 -- What expressions, statements and blocks mean: the run of each in an environment, over known answers, as deep as it nests in its file.
-use Rattle.std.specs.Prelude.{ℕ, zero, suc, ◌+◌, Bool, true, false, List, [], ◌∷◌, ◌++◌, Option, Some, None}
+use Rattle.std.specs.Prelude.{ℕ, zero, suc, ◌+◌, Bool, true, false, List, [], ◌∷◌, ◌++◌, if◌then◌else◌, ◌&&◌, ◌==◌, not, length, is_some, codes, Option, Some, None}
 use Rattle.gn_tree.specs.declared.position.Position.{Position}
 use Rattle.gn_tree.specs.declared.operator.BinaryOp.{BinaryOp}
 use Rattle.gn_tree.specs.declared.operator.BinaryOp.TheVariants.{And, Or}
@@ -9,10 +9,11 @@ use Rattle.gn_tree.specs.declared.operator.AssignOp.{AssignOp}
 use Rattle.gn_tree.specs.FirstPosition.{first_position, call_position}
 use Rattle.gn_values.specs.Val.{Val, vbool, vint, vstr}
 use Rattle.gn_faults.specs.declared.code.Code.TheVariants as code
-use Rattle.gn_values.specs.Imported.{DefinitionState, ImportState}
+use Rattle.gn_definitions.specs.Imported.{DefinitionState, ImportState}
 use Rattle.gn_runs.specs.Runs.{Answers}
 use Rattle.gn_environment.specs.Environment.{entered, reported_here}
-use Rattle.gn_environment.specs.Imports.{import_left}
+use Rattle.gn_items.specs.declared.default_toolchain.DefaultToolchain.{DefaultToolchain}
+use Rattle.gn_environment.specs.Imports.{import_left, configuration_left}
 use Rattle.gn_meaning.specs.Steps.{Steps, World, max_evaluation_depth, deeper, then_do, ends}
 use Rattle.gn_meaning.specs.Words.{fails_at, value_or_fault, name_runs, element_runs, base_runs, negation_runs, operated, boolean_runs, list_runs, scope_runs, string_runs, name_assigned_runs, element_assigned_runs}
 use Rattle.gn_meaning.specs.Calls.{has_entry_runs, has_value_runs, loop_runs, call_value_runs, checked_end}
@@ -166,3 +167,18 @@ file_runs answers b env out = then_do (whole_block_runs answers b env out) (λ _
 -- a file that is imported: its block, and then what it leaves
 unfoldable pub import_file_runs : Answers → BlockTree → Steps ImportState
 import_file_runs answers b env out = then_do (whole_block_runs answers b env out) (λ _ env1 out1. ends (import_left env1) env1 out1)
+
+-- whether a build configuration lacks the name of the default toolchain: under that toolchain, whose text isn't known while it runs, it has to have one
+abbrev pub lacks_toolchain : List ℕ → Option DefaultToolchain → Bool
+lacks_toolchain toolchain named = length toolchain == 0 && not (is_some named)
+
+-- the build configuration: its block, and then what it leaves for the files beneath which it stands; where it names no default toolchain, that is missing
+-- at line 1, column 1
+unfoldable pub configuration_ends : Steps ImportState
+configuration_ends env out =
+    if lacks_toolchain env.setting.context.toolchain out.default_toolchain
+    then fails_at code.Missing (record { line = 1; column = 1 }) (codes "set_default_toolchain" ∷ []) env out
+    else ends (configuration_left env) env out
+
+unfoldable pub configuration_file_runs : Answers → BlockTree → Steps ImportState
+configuration_file_runs answers b env out = then_do (whole_block_runs answers b env out) (λ _ env1 out1. configuration_ends env1 out1)

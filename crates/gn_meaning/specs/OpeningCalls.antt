@@ -1,32 +1,36 @@
--- Calls that open a scope, run their block in it and close it: of templates, of items, `target` and `set_defaults`.
+-- Calls that open a scope, run their block in it and close it: of templates, of items, `target`, `set_defaults` and `declare_args`.
 use Rattle.std.specs.Prelude.{ℕ, false, if◌then◌else◌, List, [], ◌∷◌, Option, Some, None}
 use Rattle.gn_tree.specs.declared.position.Position.{Position}
 use Rattle.gn_tree.specs.declared.tree.Call.{Call}
 use Rattle.gn_values.specs.Val.{Val, vstr}
-use Rattle.gn_values.specs.Imported.{DefinitionState}
+use Rattle.gn_definitions.specs.Imported.{DefinitionState}
 use Rattle.gn_faults.specs.declared.code.Code.TheVariants as code
 use Rattle.gn_rows.specs.declared.kinds.ItemKind.{ItemKind}
 use Rattle.gn_environment.specs.Environment.{with_open, entered}
 use Rattle.gn_environment.specs.Templates.{template_of, body_begins}
+use Rattle.gn_environment.specs.Declaring.{declaring_entered}
 use Rattle.gn_meaning.specs.Steps.{Steps, then_do, ends}
 use Rattle.gn_meaning.specs.Words.{fails_at}
 use Rattle.gn_meaning.specs.Arguments.{at_argument, refused_runs}
 use Rattle.gn_meaning.specs.Calls.{open_in, scope_begun_runs, item_scope_begun_runs, item_end_runs}
 use Rattle.gn_meaning.specs.Templates.{opened_runs, template_end_runs, allows, defaults_end_runs}
+use Rattle.gn_meaning.specs.Declaring.{arguments_end_runs}
 use Rattle.gn_functions.specs.Functions.{target_kind_of}
 use Rattle.gn_functions.specs.declared.function.Opening.{Opening}
-use Rattle.gn_functions.specs.declared.function.Opening.TheVariants.{Item, Target, SetDefaults}
+use Rattle.gn_functions.specs.declared.function.Opening.TheVariants.{Item, Target, SetDefaults, DeclareArguments}
 
 -- which call opens a scope: that of a template, before which the evaluation was so deep, or that of a function
 pub data Opener : Type 0 where
   of_template : (definition : DefinitionState) (depth : ℕ) → Opener
   of_function : (function : Opening) → Opener
 
--- what is open while the block of a call runs: an item of this name, a template of this name with the depth before its call, or the defaults of a kind
+-- what is open while the block of a call runs: an item of this name, a template of this name with the depth before its call, the defaults of a kind, or
+-- declared arguments
 pub data Opened : Type 0 where
   opened_item : (kind : ItemKind) (name : List ℕ) → Opened
   opened_template : (definition : DefinitionState) (name : List ℕ) (depth : ℕ) → Opened
   opened_defaults : (kind : List ℕ) → Opened
+  opened_arguments : Opened
 
 -- The scope in which the block of a call of this kind and name begins
 
@@ -75,6 +79,7 @@ begun_runs (of_template definition depth) (v ∷ []) nesting call env out = temp
 begun_runs (of_function (Item kind)) (v ∷ []) nesting call env out = item_named_runs kind v call env out
 begun_runs (of_function Target) (kind ∷ v ∷ []) nesting call env out = target_runs kind v nesting call env out
 begun_runs (of_function SetDefaults) (v ∷ []) nesting call env out = defaults_begun_runs v call env out
+begun_runs (of_function DeclareArguments) [] nesting call env out = ends opened_arguments (declaring_entered env) out
 begun_runs opener vs nesting call env out = refused_runs call env out
 
 -- behind the block of a template's call its body runs; behind that of another call nothing does
@@ -82,12 +87,14 @@ abbrev pub body_run : (DefinitionState → Position → Steps (Unit {0})) → Op
 body_run body (opened_template definition name depth) position env out = body definition position (body_begins definition name env) out
 body_run body (opened_item kind name) position env out = ends tt env out
 body_run body (opened_defaults kind) position env out = ends tt env out
+body_run body opened_arguments position env out = ends tt env out
 
 -- how what is open is closed
 unfoldable pub closed_runs : Opened → Position → Steps (Option Val)
 closed_runs (opened_item kind name) position env out = item_end_runs kind name position env out
 closed_runs (opened_template definition name depth) position env out = template_end_runs depth env out
 closed_runs (opened_defaults kind) position env out = defaults_end_runs kind env out
+closed_runs opened_arguments position env out = arguments_end_runs position env out
 
 -- what is done where the scope of a call is open: its block runs, then its body, and it is closed
 unfoldable pub opened_call_runs : (DefinitionState → Position → Steps (Unit {0})) → Opened → Position → Steps (Unit {0}) → Steps (Option Val)

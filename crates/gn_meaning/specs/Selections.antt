@@ -9,7 +9,8 @@ use Rattle.gn_values.specs.Val.{Val, vstr, vlist, vscope, list_of, binds_of, ent
 use Rattle.gn_faults.specs.declared.code.Code.TheVariants as code
 use Rattle.gn_environment.specs.Environment.{Environment}
 use Rattle.gn_environment.specs.Invoker.{names_invoker, after_invoker_read_but, after_invoker_names_read, forwards_outer_invoker, outer_invoker_entries, after_outer_invoker_read}
-use Rattle.gn_environment.specs.Forwarding.{Origin, from_entries, from_invoker, names_forwarded, all_forwarded, after_names_read_here, after_all_read_here}
+use Rattle.gn_environment.specs.Forwarding.{Origin, from_entries, from_invoker, after_names_read_here, after_all_read_here}
+use Rattle.gn_environment.specs.Declaring.{names_brought, all_brought}
 use Rattle.gn_meaning.specs.Steps.{Steps, ends, then_do}
 use Rattle.gn_meaning.specs.Words.{fails_at}
 use Rattle.gn_meaning.specs.Items.{is_string}
@@ -74,7 +75,7 @@ forwarded_to (Err name) position env out = fails_at code.AlreadySet position (na
 
 -- these names of an origin, but for the excepted ones
 abbrev pub names_forwarded_runs : Origin → List (List ℕ) → List (List ℕ) → Position → Steps (Option Val)
-names_forwarded_runs origin names except position env out = forwarded_to (names_forwarded origin names except env) position env out
+names_forwarded_runs origin names except position env out = forwarded_to (names_brought position origin names except env) position env out
 
 -- the invoker around the call as a value: all its names are read, and it must not nest too deep for a scope's value
 unfoldable pub outer_invoker_runs : Position → Steps Val
@@ -100,7 +101,7 @@ listed_forwarded_runs (from_invoker outer) names except position env out = invok
 
 abbrev pub origin_forwarded_runs : Origin → Val → Option (Val × Position) → Position → Position → List ℕ → Steps (Option Val)
 origin_forwarded_runs origin names last at position name env out =
-    selected_runs (selection_of names) last at position name (λ except env1 out1. ends None (all_forwarded origin except env1) out1)
+    selected_runs (selection_of names) last at position name (λ except env1 out1. ends None (all_brought position origin except env1) out1)
     (λ listed except env1 out1. listed_forwarded_runs origin listed except position env1 out1) env out
 
 -- `forward_variables_from`: the source at its position, the names at theirs, and the excepted names, if there are any

@@ -4,7 +4,7 @@ use Rattle.gn_paths.specs.declared.place.Place.{Place}
 use Rattle.gn_tree.specs.declared.position.Position.{Position}
 use Rattle.gn_tree.specs.Tree.{ExprTree}
 use Rattle.gn_values.specs.Val.{Val}
-use Rattle.gn_values.specs.Imported.{DefinitionState, ImportState}
+use Rattle.gn_definitions.specs.Imported.{DefinitionState, ImportState}
 use Rattle.gn_faults.specs.declared.fault.Fault.{Fault}
 use Rattle.gn_items.specs.Effects.{Effects, with_asked}
 use Rattle.gn_runs.specs.Runs.{Question, content_of, import_of, Content, Imported, has_value, is_unusable, Answers, End, ended, wrong, spoiled, needs, Run}

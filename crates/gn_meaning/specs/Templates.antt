@@ -5,7 +5,7 @@ use Rattle.gn_tree.specs.Tree.{BlockTree}
 use Rattle.gn_values.specs.Val.{Val, vstr}
 use Rattle.gn_faults.specs.declared.code.Code.TheVariants as code
 use Rattle.gn_faults.specs.declared.file_kind.FileKind.{FileKind}
-use Rattle.gn_faults.specs.declared.file_kind.FileKind.TheVariants.{BuildFile, Import}
+use Rattle.gn_faults.specs.declared.file_kind.FileKind.TheVariants.{BuildFile, Import, BuildConfiguration, Dotfile, Arguments}
 use Rattle.gn_environment.specs.declared.context.OpenBlock.{OpenBlock}
 use Rattle.gn_rows.specs.declared.kinds.ItemKind.{ItemKind}
 use Rattle.gn_rows.specs.declared.kinds.ItemKind.TheVariants.{Tool}
@@ -46,7 +46,19 @@ template_end_runs depth env out =
 -- items are defined in build files, where no block is open that says what may be called in it
 abbrev pub is_build_file : FileKind → Bool
 is_build_file BuildFile = true
-is_build_file Import = false
+is_build_file _ = false
+
+-- whether a file of this kind may ask for others: the dotfile and the build arguments stand alone
+abbrev pub asks_for_files : FileKind → Bool
+asks_for_files BuildFile = true
+asks_for_files Import = true
+asks_for_files BuildConfiguration = true
+asks_for_files Dotfile = false
+asks_for_files Arguments = false
+
+abbrev pub is_build_configuration : FileKind → Bool
+is_build_configuration BuildConfiguration = true
+is_build_configuration _ = false
 
 abbrev pub is_inside : OpenBlock → Bool
 is_inside Nothing = false
@@ -54,6 +66,10 @@ is_inside _ = true
 
 abbrev pub allows_items : Environment → Bool
 allows_items env = if is_inside env.setting.inside then false else is_build_file env.setting.kind
+
+-- arguments are declared where other files may be asked for, outside the blocks of items
+abbrev pub allows_arguments : Environment → Bool
+allows_arguments env = if is_inside env.setting.inside then false else asks_for_files env.setting.kind
 
 -- a tool is defined in the block of a toolchain, and all else where items are
 abbrev pub is_toolchain : OpenBlock → Bool

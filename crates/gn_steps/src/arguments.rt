@@ -51,7 +51,7 @@ fn takes_invoker(changing: Changing) -> bool
     ensures { result ≡ takes_invoker changing }
 {
     match changing {
-        Changing::Import | Changing::Template => false,
+        Changing::Import | Changing::Template | Changing::SetDefaultToolchain => false,
         Changing::ForwardVariablesFrom | Changing::NotNeeded => true,
     }
 }

@@ -4,7 +4,7 @@ use Rattle.std.specs.declared.sync.Arc.{Arc}
 use Rattle.gn_environment.specs.Environment.{Environment}
 use Rattle.gn_environment.specs.Templates.{body_begins, template_of}
 use Rattle.gn_eval.proofs.CallParts.{called_body, called_built_in, called_template, defined_item, foreach_two, one_expr, two_exprs, values_next}
-use Rattle.gn_eval.proofs.Covered.{covered, goes_on_further, then_failed, told_before}
+use Rattle.gn_eval.specs.Telling.{covered, goes_on_further, then_failed, told_before}
 use Rattle.gn_eval.proofs.Joined.{joined_ended, joined_failed, operand_within, operation_done, operation_failed, operations_run, right_depth, right_depth-more, rights_within}
 use Rattle.gn_eval.proofs.Passed.{ended_claims, failed, failed_claims, goes_on_still, same_claims, step_claims}
 use Rattle.gn_eval.proofs.ReadValues.{read_claims, read_inside}
@@ -29,7 +29,7 @@ use Rattle.gn_tree.specs.Views.{body_of, call_of, expr_of, exprs_of}
 use Rattle.gn_tree.specs.declared.position.Position.{Position}
 use Rattle.gn_tree.specs.declared.tree.Expr.{Expr}
 use Rattle.gn_values.specs.View.{val_of}
-use Rattle.gn_values.specs.declared.kept.Definition.{Definition}
+use Rattle.gn_definitions.specs.declared.kept.Definition.{Definition}
 use Rattle.gn_values.specs.declared.value.Value.{Value}
 use Rattle.gn_eval.proofs.+eval.Goals as goal
 

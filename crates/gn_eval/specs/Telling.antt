@@ -11,7 +11,7 @@ use Rattle.gn_eval.specs.declared.ending.EvalEnd.{EvalEnd}
 use Rattle.gn_eval.specs.declared.ending.EvalEnd.TheVariants.{Wrong, Spoiled, Stopped, Memory}
 
 -- answers that are told include what is told
-told_included : (told : Option Answers) (a : Answers) → told ≡ Some a → Includes told a
+pub told_included : (told : Option Answers) (a : Answers) → told ≡ Some a → Includes told a
 told_included told a h = subst (λ (t : Option Answers). Includes t a) (sym h) (below_itself a)
 
 -- answers of which something is claimed include what is told
@@ -21,6 +21,13 @@ covered told (Err (Wrong fault)) a h = h
 covered told (Err (Spoiled path place)) a h = h
 covered told (Err Stopped) a h = told_included told a h
 covered told (Err Memory) a h = absurd h
+
+-- what is claimed of a failure is the same for every kind of result
+pub covers_error : (T U : Type 0) (told : Option Answers) (e : EvalEnd) (a : Answers) → Covers {T = T} told (Err e) a → Covers {T = U} told (Err e) a
+covers_error T U told (Wrong fault) a h = h
+covers_error T U told (Spoiled path place) a h = h
+covers_error T U told Stopped a h = h
+covers_error T U told Memory a h = h
 
 -- answers that include what is told later include what was told before
 pub told_before : {s t : LibraryState} → GoesOn s t → (a : Answers) → Includes t.told a → Includes s.told a
