@@ -1,5 +1,5 @@
 -- An execution is a tree of questions, and one of a path at which there is no file is wrong at once.
-use Rattle.std.proofs.Common.{◌≡◌, ℕ, List, Some, Result, Ok, Err, ap, refl}
+use Rattle.std.proofs.Common.{◌≡◌, ℕ, List, Option, Some, None, Result, Ok, Err, ap, refl}
 use Rattle.gn_tree.specs.Tree.{BlockTree}
 use Rattle.gn_grammar.specs.declared.fault.SyntaxFault.{SyntaxFault}
 use Rattle.gn_faults.specs.declared.code.Code.TheVariants as code
@@ -12,17 +12,18 @@ use Rattle.gn_runs.proofs.Trees.{tree_then, tree_leaves}
 use Rattle.gn_environment.specs.Environment.{new_environment}
 use Rattle.gn_meaning.specs.Meaning.{import_file_runs}
 use Rattle.gn_meaning.proofs.Steps.{AreQuiet, AreTrees, whole_tree, tree_do, tree_ends, tree_fails, tree_asks_content}
-use Rattle.gn_meaning.proofs.ImportTrees.{file_tree, import_file_tree}
+use Rattle.gn_meaning.proofs.ImportTrees.{file_tree, import_file_tree, configuration_file_tree}
 use Rattle.gn_syntax.specs.Reading.{reading}
 use Rattle.gn_executions.specs.Faults.{whole_file_fault}
 use Rattle.gn_executions.specs.Units.{reading_runs, content_runs, own_place, tree_runs, import_begins, import_runs, import_execution, import_meaning, build_file_of, load_begins, load_runs, load_execution}
 use Rattle.gn_executions.specs.Base.{BaseState, setting_of}
+use Rattle.gn_executions.specs.Setups.{path_below, in_file, other_content_runs, content_or_other, content_in, secondary_tree_runs, setup_begins, setup_runs, setup_execution}
 
 reading_tree : (bytes : List ℕ) (x : Result BlockTree SyntaxFault) → AreQuiet (reading_runs bytes x)
 reading_tree bytes (Ok tree) env out = tree_ends tree env out
 reading_tree bytes (Err error) env out = tree_fails _ out
 
-content_tree : (y : Content) → AreQuiet (content_runs y)
+pub content_tree : (y : Content) → AreQuiet (content_runs y)
 content_tree (has_bytes bytes) env out = reading_tree bytes (reading bytes) env out
 content_tree is_absent env out = tree_fails _ out
 content_tree is_too_big env out = tree_fails _ out
@@ -47,6 +48,33 @@ pub load_execution_tree : (base : BaseState) (directory toolchain : List ℕ) �
 unfolding load_runs
 load_execution_tree base directory toolchain =
     whole_tree _ (tree_do _ _ (tree_runs_tree (load_begins base directory toolchain (build_file_of directory)) no_effects) (λ tree env1 out1. file_tree tree env1 out1))
+
+-- the execution of a build configuration is one
+
+other_content_tree : (other : List ℕ) (y : Content) → AreQuiet (other_content_runs other y)
+other_content_tree other is_absent env out = tree_fails _ out
+other_content_tree other (has_bytes bytes) env out = content_tree (has_bytes bytes) (in_file other env) out
+other_content_tree other is_too_big env out = content_tree is_too_big (in_file other env) out
+
+content_or_other_tree : (other : List ℕ) (y : Content) → AreTrees (λ a. content_or_other other a y)
+content_or_other_tree other is_absent env out =
+    tree_asks_content other (own_place other) out _ (λ y. other_content_tree other y env (with_asked (content_of other) out))
+content_or_other_tree other (has_bytes bytes) env out = content_tree (has_bytes bytes) env out
+content_or_other_tree other is_too_big env out = content_tree is_too_big env out
+
+content_in_tree : (secondary : Option (List ℕ)) (y : Content) → AreTrees (λ a. content_in secondary a y)
+content_in_tree None y env out = content_tree y env out
+content_in_tree (Some tree) y env out = content_or_other_tree (path_below tree env.setting.file) y env out
+
+secondary_tree_runs_tree : (secondary : Option (List ℕ)) → AreTrees (secondary_tree_runs secondary)
+unfolding secondary_tree_runs
+secondary_tree_runs_tree secondary env out =
+    tree_asks_content env.setting.file (own_place env.setting.file) out _ (λ y. content_in_tree secondary y env (with_asked (content_of env.setting.file) out))
+
+pub setup_execution_tree : (base : BaseState) (toolchain : List ℕ) → IsTree (setup_execution base toolchain)
+unfolding setup_runs
+setup_execution_tree base toolchain =
+    whole_tree _ (tree_do _ _ (secondary_tree_runs_tree base.secondary (setup_begins base toolchain) no_effects) (λ tree env1 out1. configuration_file_tree tree env1 out1))
 
 wrong_after : {A B : Type 0} (run : Run A) (next : A → Run B) (fault : Fault) → run.end ≡ wrong fault → (followed run next).end ≡ wrong fault
 wrong_after {A} {B} run next fault h = ap (λ (e : End A). (after {B = B} e run.asked next).end) h

@@ -3,7 +3,7 @@ use Rattle.std.specs.Prelude.{ℕ, true, false, List, [], ◌∷◌, ◌++◌, R
 use Rattle.gn_paths.specs.declared.place.Place.{Place}
 use Rattle.gn_paths.specs.Components.{top_of, components, spelled}
 use Rattle.gn_tree.specs.Tree.{BlockTree}
-use Rattle.gn_values.specs.Imported.{ImportState}
+use Rattle.gn_definitions.specs.Imported.{ImportState}
 use Rattle.gn_grammar.specs.declared.fault.SyntaxFault.{SyntaxFault}
 use Rattle.gn_faults.specs.declared.code.Code.TheVariants as code
 use Rattle.gn_faults.specs.declared.file_kind.FileKind.TheVariants.{BuildFile, Import}
