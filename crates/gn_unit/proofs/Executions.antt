@@ -1,6 +1,5 @@
 -- What is done with the tree of a file is done behind its reading.
-use Rattle.std.proofs.Common.{◌≡◌, ℕ, List, Option, Some, Result, Ok, Err, IsErrAnd, refl, sym, ◌∙◌, ap, subst, arith}
-use Rattle.gn_runs.proofs.TreeLaws.{below_itself}
+use Rattle.std.proofs.Common.{◌≡◌, ℕ, List, Option, Some, Result, Ok, Err, IsErrAnd, refl, sym, ◌∙◌, ap, subst}
 use Rattle.gn_tree.specs.Tree.{BlockTree}
 use Rattle.gn_faults.specs.declared.code.Code.{Code}
 use Rattle.gn_faults.specs.declared.code.Code.TheVariants as code
@@ -12,12 +11,12 @@ use Rattle.gn_items.specs.declared.key.When.{When}
 use Rattle.gn_runs.specs.Runs.{content_of, Content, Answers, Run}
 use Rattle.gn_environment.specs.Environment.{Setting, Environment, new_environment}
 use Rattle.gn_meaning.specs.Steps.{Left, ends, breaks, then_do, content_asked}
-use Rattle.gn_eval.specs.Library.{Need, LibraryState, Includes, GoesOn, ContentAnswers}
+use Rattle.gn_eval.specs.Library.{Need, ContentAnswers}
+use Rattle.gn_eval.specs.Telling.{then_failed, covers_error}
 use Rattle.gn_eval.specs.Ends.{Covers, IsFailure, IsRun, HasLeft, IsSpentRun}
 use Rattle.gn_eval.specs.declared.library.Found.{Found}
 use Rattle.gn_eval.specs.declared.library.Found.TheVariants.{Bytes, Absent, TooBig}
 use Rattle.gn_eval.specs.declared.ending.EvalEnd.{EvalEnd}
-use Rattle.gn_eval.specs.declared.ending.EvalEnd.TheVariants.{Wrong, Spoiled, Stopped, Memory}
 use Rattle.gn_unit.specs.Found.{content_view}
 use Rattle.gn_syntax.specs.Reading.{reading}
 use Rattle.gn_executions.specs.Faults.{whole_file_fault}
@@ -26,7 +25,7 @@ use Rattle.gn_unit.specs.Ends.{EndsWith}
 use Rattle.gn_executions.specs.Base.{BaseState, setting_of}
 
 -- what is found at a path is the content that the answers have
-content_found : (path : List ℕ) (a : Answers) (found : Found) → ContentAnswers path a found → a.contents path ≡ Some (content_view found)
+pub content_found : (path : List ℕ) (a : Answers) (found : Found) → ContentAnswers path a found → a.contents path ≡ Some (content_view found)
 content_found path a (Bytes bytes) h = h
 content_found path a Absent h = h
 content_found path a TooBig h = h
@@ -76,25 +75,6 @@ module _ (base : BaseState) (kind : FileKind) (path : List ℕ) (a : Answers) (e
   told_run view need result found after h same done =
       subst (λ (r : Run (Left BlockTree)). IsRun view need result env after r) (sym (tree_told found h ∙ ap (λ (o : Effects). content_runs (content_view found) env o) (sym same))) done
 
--- answers of which something is claimed include what is told
-pub covered : {T : Type 0} (told : Option Answers) (result : Result T EvalEnd) (a : Answers) → Covers told result a → Includes told a
-covered told (Ok x) a h = h
-covered told (Err (Wrong fault)) a h = h
-covered told (Err (Spoiled path place)) a h = h
-covered told (Err Stopped) a h = subst (λ (t : Option Answers). Includes t a) (sym h) (below_itself a)
-covered told (Err Memory) a h = absurd h
-
--- answers that include what is told later include what was told before
-pub told_before : {s t : LibraryState} → GoesOn s t → (a : Answers) → Includes t.told a → Includes s.told a
-told_before goes a h = subst (λ (x : Option Answers). Includes x a) goes.told h
-
--- a library that goes on, and on from there
-pub goes_on_further : (s t u : LibraryState) → GoesOn s t → GoesOn t u → GoesOn s u
-goes_on_further s t u first second = record {
-  told = second.told ∙ first.told;
-  later = omega (arith, first.later, second.later);
-}
-
 -- how a build file ends that has run
 pub load_ended : (base : BaseState) (directory toolchain : List ℕ) (a : Answers) (before after : Effects) → before ≡ no_effects → HasLeft tt after (load_runs base directory toolchain a before) → EndsWith tt after (load_execution base directory toolchain a).end
 load_ended base directory toolchain a before after same left = (left.0, ap (λ (o : Effects). (load_runs base directory toolchain a o).end) (sym same) ∙ ap (λ (r : Run (Left (Unit {0}))). r.end) left.1)
@@ -106,21 +86,9 @@ module _ {A : Type 0} (next : BlockTree → Environment → Effects → Run (Lef
       subst (λ (r : Run (Left BlockTree)). IsSpentRun view need result after (then_do r next)) (sym h)
       (subst (λ (b : BlockTree). IsSpentRun view need result after (next b env before)) same done)
 
-  failed_so : (e : EvalEnd) (out : Effects) (run : Run (Left BlockTree)) → IsFailure need e out run → IsFailure need e out (then_do run next)
-  failed_so (Wrong fault) out run h = ap (λ (r : Run (Left BlockTree)). then_do r next) h
-  failed_so (Spoiled path place) out run h = ap (λ (r : Run (Left BlockTree)). then_do r next) h
-  failed_so Stopped out run h = ap (λ (r : Run (Left BlockTree)). then_do r next) h
-  failed_so Memory out run h = tt
-
-  covers_error : (T U : Type 0) (told : Option Answers) (e : EvalEnd) (a : Answers) → Covers {T = T} told (Err e) a → Covers {T = U} told (Err e) a
-  covers_error T U told (Wrong fault) a h = h
-  covers_error T U told (Spoiled path place) a h = h
-  covers_error T U told Stopped a h = h
-  covers_error T U told Memory a h = h
-
   -- where it hasn't, its execution fails as its reading does
   pub then_fails : {T : Type 0} (U : Type 0) (view : T → A) (told : Option Answers) (run : Run (Left BlockTree)) (result : Result T EvalEnd) (e : EvalEnd) (a : Answers) (out : Effects) → IsErrAnd result (λ y. y ≡ e) → (Covers {T = U} told (Err e) a → IsFailure need e out run) → Covers told result a → IsSpentRun view need result out (then_do run next)
   then_fails U view told run (Ok x) e a out is fails h = absurd is
   then_fails {T = T} U view told run (Err y) e a out is fails h =
       subst (λ (z : EvalEnd). IsFailure need z out (then_do run next)) (sym is)
-      (failed_so e out run (fails (covers_error T U told e a (subst (λ (z : EvalEnd). Covers {T = T} told (Err z) a) is h))))
+      (then_failed need e out run next (fails (covers_error T U told e a (subst (λ (z : EvalEnd). Covers {T = T} told (Err z) a) is h))))

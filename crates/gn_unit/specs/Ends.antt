@@ -1,9 +1,9 @@
 -- How what is answered for a whole file stands to its execution.
 use Rattle.std.specs.Prelude.{◌≡◌, List, map}
-use Rattle.gn_values.specs.Imported.{ImportState}
+use Rattle.gn_definitions.specs.Imported.{ImportState}
 use Rattle.gn_items.specs.Effects.{Effects}
 use Rattle.gn_items.specs.declared.key.Key.{Key}
-use Rattle.gn_items.specs.declared.key.Key.TheVariants.{Import as ImportKey, Load as LoadKey}
+use Rattle.gn_items.specs.declared.key.Key.TheVariants.{Import as ImportKey, Setup as SetupKey, Load as LoadKey}
 use Rattle.gn_items.specs.Questions.{question_of}
 use Rattle.gn_runs.specs.Runs.{Question, Answers, End, ended, wrong, spoiled, needs, Run}
 use Rattle.gn_environment.specs.Environment.{Environment}
@@ -11,8 +11,9 @@ use Rattle.gn_meaning.specs.Steps.{Left}
 use Rattle.gn_eval.specs.Library.{Need}
 use Rattle.gn_eval.specs.Ends.{asked_until}
 use Rattle.gn_executions.specs.Units.{import_execution, load_execution}
+use Rattle.gn_executions.specs.Setups.{setup_execution}
 use Rattle.gn_unit.specs.declared.unit.Unit.{Unit as Evaluated}
-use Rattle.gn_unit.specs.declared.unit.Unit.TheVariants.{Load, Import, Wrong, Spoiled}
+use Rattle.gn_unit.specs.declared.unit.Unit.TheVariants.{Setup, Load, Import, Wrong, Spoiled}
 use Rattle.gn_unit.specs.declared.unit.EvalStop.{EvalStop}
 use Rattle.gn_unit.specs.declared.unit.EvalStop.TheVariants.{Stopped, Memory}
 use Rattle.gn_executions.specs.Base.{BaseState}
@@ -21,27 +22,38 @@ use Rattle.gn_executions.specs.Base.{BaseState}
 abbrev pub EndsWith : {A : Type 0} → A → Effects → End (Left A) → Type 0
 EndsWith value effects end = (environment : Environment) × (end ≡ ended (record { value = value; environment = environment; effects = effects }))
 
--- a key that names the execution of a build file or of one that is imported
+-- a key that names the execution of a file: of a build configuration, of a build file or of one that is imported
 abbrev pub IsExecuted : Key → Type 0
 IsExecuted (ImportKey when toolchain path) = Unit {0}
+IsExecuted (SetupKey toolchain) = Unit {0}
 IsExecuted (LoadKey directory toolchain) = Unit {0}
 IsExecuted _ = ⊥
 
 -- what is answered for a key over a base is how its execution over these answers ends
 abbrev pub IsLoadOf : Evaluated → End (Left (Unit {0})) → Type 0
+IsLoadOf (Setup value effects) end = ⊥
 IsLoadOf (Load effects) end = EndsWith tt effects end
 IsLoadOf (Import value effects) end = ⊥
 IsLoadOf (Wrong fault asked) end = end ≡ wrong fault
 IsLoadOf (Spoiled path place asked) end = end ≡ spoiled path place
 
 abbrev pub IsImportOf : Evaluated → End (Left ImportState) → Type 0
+IsImportOf (Setup value effects) end = ⊥
 IsImportOf (Load effects) end = ⊥
 IsImportOf (Import value effects) end = EndsWith value effects end
 IsImportOf (Wrong fault asked) end = end ≡ wrong fault
 IsImportOf (Spoiled path place asked) end = end ≡ spoiled path place
 
+abbrev pub IsSetupOf : Evaluated → End (Left ImportState) → Type 0
+IsSetupOf (Setup value effects) end = EndsWith value effects end
+IsSetupOf (Load effects) end = ⊥
+IsSetupOf (Import value effects) end = ⊥
+IsSetupOf (Wrong fault asked) end = end ≡ wrong fault
+IsSetupOf (Spoiled path place asked) end = end ≡ spoiled path place
+
 abbrev pub IsUnitOf : BaseState → Key → Evaluated → Answers → Type 0
 IsUnitOf base (ImportKey when toolchain path) unit answers = IsImportOf unit (import_execution base when toolchain path answers).end
+IsUnitOf base (SetupKey toolchain) unit answers = IsSetupOf unit (setup_execution base toolchain answers).end
 IsUnitOf base (LoadKey directory toolchain) unit answers = IsLoadOf unit (load_execution base directory toolchain answers).end
 IsUnitOf base _ unit answers = ⊥
 
@@ -51,6 +63,7 @@ IsNeeded need asked run = run ≡ record { end = needs need.question need.place;
 
 abbrev pub IsNeedOf : BaseState → Key → Need → List Question → Answers → Type 0
 IsNeedOf base (ImportKey when toolchain path) need asked answers = IsNeeded need asked (import_execution base when toolchain path answers)
+IsNeedOf base (SetupKey toolchain) need asked answers = IsNeeded need asked (setup_execution base toolchain answers)
 IsNeedOf base (LoadKey directory toolchain) need asked answers = IsNeeded need asked (load_execution base directory toolchain answers)
 IsNeedOf base _ need asked answers = ⊥
 
@@ -61,6 +74,7 @@ WhereStopped Memory P = Unit {0}
 
 -- the questions that were asked, as is answered for a key
 abbrev pub asked_of : Evaluated → List Question
+asked_of (Setup value effects) = effects.asked
 asked_of (Load effects) = effects.asked
 asked_of (Import value effects) = effects.asked
 asked_of (Wrong fault asked) = map question_of asked.items
@@ -69,5 +83,6 @@ asked_of (Spoiled path place asked) = map question_of asked.items
 -- they are those of its execution over these answers, in order
 abbrev pub HasAskedOf : BaseState → Key → Evaluated → Answers → Type 0
 HasAskedOf base (ImportKey when toolchain path) unit answers = (import_execution base when toolchain path answers).asked ≡ asked_of unit
+HasAskedOf base (SetupKey toolchain) unit answers = (setup_execution base toolchain answers).asked ≡ asked_of unit
 HasAskedOf base (LoadKey directory toolchain) unit answers = (load_execution base directory toolchain answers).asked ≡ asked_of unit
 HasAskedOf base _ unit answers = ⊥

@@ -1,24 +1,31 @@
 // What an evaluation sees besides what it asks of its library.
 
-ghost use Rattle.std.specs.Prelude.{◌≡◌, [], IfOk, map};
+ghost use Rattle.std.specs.Prelude.{◌≡◌, [], IfOk, map, option_map};
 ghost use Rattle.gn_values.specs.Tables.{with_new_names};
-ghost use Rattle.gn_executions.specs.Base.{plain_base};
+ghost use Rattle.gn_executions.specs.Base.{plain_base, setup_base, finished_base, beneath_in};
 
+use crate::built_in::built_in_scope;
+use gn_definitions::{ImportValue, KeptScope, MadeBy};
 use gn_environment::Context;
+use gn_executions::HostNames;
 use gn_faults::Stage;
 use gn_paths::{Path, Text};
-use gn_values::{Bindings, KeptScope, MadeBy};
+use gn_values::Bindings;
 use std::alloc::{AllocError, Global};
 use std::marker::Model;
 use std::sync::Arc;
 
 /// What an evaluation sees besides what it asks of its library: what never changes in the evaluations under its toolchain,
-/// and what stands beneath them, as what the finished build configuration has left. Evaluations share all of it.
+/// and what stands beneath them, as what the finished build configuration has left and the built-in variables. Evaluations share
+/// all of it but these variables, which depend on the directory of the file.
 #[derive(Drop)]
 pub struct Base {
     context: Arc<Context>,
     beneath: Vec<Arc<KeptScope>>,
     definitions: MadeBy,
+    host: Option<HostNames>,
+    configuration: Path,
+    secondary: Option<Path>,
 }
 
 impl Model for Base {
@@ -29,24 +36,83 @@ impl Model for Base {
 
     ghost coded = { base_code };
 
-    ghost view = { λ a. record { context = a.context.value; beneath = map (λ f. f.value) a.beneath.items; definitions = a.definitions } };
+    ghost view = { λ a. record { context = a.context.value; beneath = map (λ f. f.value) a.beneath.items; definitions = a.definitions; host = a.host; configuration = a.configuration; secondary = a.secondary } };
+}
+
+// A new path equal to another one, if there is one.
+fn copy_path(alloc: Global, path: &Option<Path>) -> Result<Option<Path>, AllocError>
+    ensures { IfOk result (λ p. p ≡ path.now) }
+{
+    match path {
+        Some(path) => Ok(Some(path.copy(alloc)?)),
+        None => Ok(None),
+    }
+}
+
+// The same of the names of a host.
+fn copy_host(alloc: Global, host: &Option<HostNames>) -> Result<Option<HostNames>, AllocError>
+    ensures { IfOk result (λ h. h ≡ host.now) }
+{
+    let Some(host) = host else {
+        return Ok(None);
+    };
+    let os = host.os.copy(alloc)?;
+    let cpu = host.cpu.copy(alloc)?;
+    Ok(Some(HostNames { os, cpu }))
 }
 
 impl Base {
-    /// The base of evaluations that share this context; `beneath` is what a read searches behind the scopes of a file, in
-    /// order, with the `definitions` of its templates. It takes no memory.
-    pub fn new(context: Arc<Context>, beneath: Vec<Arc<KeptScope>>, definitions: MadeBy) -> Base
-        ensures { result ≡ record { context = context.value; beneath = map (λ f. f.value) beneath.items; definitions = definitions } }
+    /// The base of the build configuration, and of the files that it imports: they share this context, and nothing stands beneath
+    /// them but the built-in variables, of which some are the host's. The build configuration stands at a path, or where nothing
+    /// is there, at the same path below the secondary source tree.
+    pub fn of_configuration(
+        alloc: Global,
+        context: Arc<Context>,
+        host: HostNames,
+        configuration: Path,
+        secondary: Option<Path>,
+    ) -> Base
+        ensures { result ≡ setup_base context.value host configuration secondary }
     {
         Base {
             context,
-            beneath,
-            definitions,
+            beneath: Vec::new(alloc),
+            definitions: MadeBy::new(alloc),
+            host: Some(host),
+            configuration,
+            secondary,
         }
     }
 
+    /// The base of the other files under a toolchain whose build configuration has left this: it stands beneath them, and they
+    /// share a context in which the toolchain is known. Nothing of what was left is copied but the names of executions.
+    pub fn finished(
+        &self,
+        alloc: Global,
+        context: Arc<Context>,
+        left: &ImportValue,
+    ) -> Result<Base, AllocError>
+        ensures { IfOk result (λ base. base ≡ finished_base self.now context.value left.now) }
+    {
+        let host = copy_host(alloc, &self.host)?;
+        let configuration = self.configuration.copy(alloc)?;
+        let secondary = copy_path(alloc, &self.secondary)?;
+        let mut beneath = Vec::new(alloc);
+        beneath.push(left.shared_scope()?)?;
+        let mut definitions = MadeBy::new(alloc);
+        let _added = definitions.add(alloc, left.definitions())?;
+        Ok(Base {
+            context,
+            beneath,
+            definitions,
+            host,
+            configuration,
+            secondary,
+        })
+    }
+
     /// The base of a build that has no build configuration: its one toolchain is the empty text, no argument is given, and
-    /// nothing stands beneath.
+    /// nothing stands beneath, not even the built-in variables.
     pub fn plain(alloc: Global) -> Result<Base, AllocError>
         ensures { IfOk result (λ base. base ≡ plain_base) }
     {
@@ -60,11 +126,14 @@ impl Base {
             source_root: Text::new(alloc),
             overrides: Bindings::new(alloc),
         };
-        Ok(Base::new(
-            Arc::new(alloc, context)?,
-            Vec::new(alloc),
-            MadeBy::new(alloc),
-        ))
+        Ok(Base {
+            context: Arc::new(alloc, context)?,
+            beneath: Vec::new(alloc),
+            definitions: MadeBy::new(alloc),
+            host: None,
+            configuration: Path::root(alloc)?,
+            secondary: None,
+        })
     }
 
     /// What never changes in the evaluations.
@@ -74,6 +143,20 @@ impl Base {
         &self.context
     }
 
+    /// The path of the build configuration.
+    pub(crate) fn configuration(&self) -> &Path
+        ensures { result.now ≡ self.now.configuration }
+    {
+        &self.configuration
+    }
+
+    /// The source tree in which files are looked for that the source root lacks, if there is one.
+    pub(crate) fn secondary(&self) -> Option<&Path>
+        ensures { option_map (λ p. p.now) result ≡ self.now.secondary }
+    {
+        self.secondary.as_ref()
+    }
+
     /// The context, shared with the base.
     pub(crate) fn share_context(&self) -> Result<Arc<Context>, AllocError>
         ensures { IfOk result (λ c. c.value ≡ self.now.context) }
@@ -81,11 +164,20 @@ impl Base {
         self.context.clone()
     }
 
-    /// The scopes that stand beneath, shared with the base.
-    pub(crate) fn share_beneath(&self, alloc: Global) -> Result<Vec<Arc<KeptScope>>, AllocError>
-        ensures { IfOk result (λ b. map (λ f. f.value) b.items ≡ self.now.beneath) }
+    /// The scopes that stand beneath a file of this directory: what the build configuration has left, shared with the base, and
+    /// the built-in variables.
+    pub(crate) fn share_beneath(
+        &self,
+        alloc: Global,
+        directory: &Path,
+    ) -> Result<Vec<Arc<KeptScope>>, AllocError>
+        ensures { IfOk result (λ b. map (λ f. f.value) b.items ≡ beneath_in self.now directory.now) }
     {
-        shared(alloc, &self.beneath)
+        let mut beneath = shared(alloc, &self.beneath)?;
+        if let Some(host) = &self.host {
+            beneath.push(built_in_scope(alloc, host, &self.context, directory)?)?;
+        }
+        Ok(beneath)
     }
 
     /// The definitions of the templates that stand beneath, shared with the base.

@@ -3,10 +3,12 @@
 ghost use Rattle.std.specs.Prelude.{◌≡◌, ◌<◌, IfOk, IfErr, Some};
 ghost use Rattle.gn_runs.specs.Runs.{Answers};
 ghost use Rattle.gn_eval.specs.Library.{Includes, GoesOn};
-ghost use Rattle.gn_unit.specs.Ends.{IsExecuted, IsLoadOf, IsImportOf, IsUnitOf, IsNeeded, IsNeedOf, WhereStopped, asked_of, HasAskedOf};
+ghost use Rattle.gn_unit.specs.Ends.{IsExecuted, IsSetupOf, IsLoadOf, IsImportOf, IsUnitOf, IsNeeded, IsNeedOf, WhereStopped, asked_of, HasAskedOf};
 ghost use Rattle.gn_executions.specs.Units.{load_execution, import_execution};
+ghost use Rattle.gn_executions.specs.Setups.{setup_execution};
 
 use crate::base::Base;
+use crate::configuration::execute_setup;
 use crate::execution::{execute_import, execute_load};
 use crate::unit::{EvalStop, Unit};
 use gn_eval::{Definer, EvalEnd, Library};
@@ -24,13 +26,38 @@ fn load_unit<L: Library + Definer>(
 ) -> Result<Unit, EvalStop>
     ensures unit { IfOk result (λ unit. (a : Answers) → Includes (L.state library.new).told a → IsLoadOf unit (load_execution base.now directory.now toolchain.now a).end) }
     ensures asked { IfOk result (λ unit. (a : Answers) → Includes (L.state library.new).told a → (load_execution base.now directory.now toolchain.now a).asked ≡ asked_of unit) }
-    ensures need { IfErr result (λ stop. WhereStopped stop (λ asked. (a : Answers) → (L.state library.new).told ≡ Some a → IsNeeded (L.state library.new).need asked (load_execution base.now directory.now toolchain.now a))) }
+    ensures need { IfErr result (λ stop. WhereStopped stop
+        (λ asked. (a : Answers) → (L.state library.new).told ≡ Some a → IsNeeded (L.state library.new).need asked (load_execution base.now directory.now toolchain.now a))) }
     ensures goes { GoesOn (L.state library.old) (L.state library.new) }
     ensures rose { IfErr result (λ stop. WhereStopped stop (λ asked. (L.state library.old).stops < (L.state library.new).stops)) }
 {
     let mut out = Outcome::new(alloc);
     match execute_load(alloc, base, directory, toolchain, &mut out, library) {
         Ok(()) => Ok(Unit::Load(out)),
+        Err(EvalEnd::Wrong(fault)) => Ok(Unit::Wrong(fault, out.into_asked())),
+        Err(EvalEnd::Spoiled(path, place)) => Ok(Unit::Spoiled(path, place, out.into_asked())),
+        Err(EvalEnd::Stopped) => Err(EvalStop::Stopped(out.into_asked())),
+        Err(EvalEnd::Memory) => Err(EvalStop::Memory),
+    }
+}
+
+// The unit of the build configuration.
+fn setup_unit<L: Library + Definer>(
+    alloc: Global,
+    base: &Base,
+    toolchain: &Text,
+    library: &mut L,
+) -> Result<Unit, EvalStop>
+    ensures unit { IfOk result (λ unit. (a : Answers) → Includes (L.state library.new).told a → IsSetupOf unit (setup_execution base.now toolchain.now a).end) }
+    ensures asked { IfOk result (λ unit. (a : Answers) → Includes (L.state library.new).told a → (setup_execution base.now toolchain.now a).asked ≡ asked_of unit) }
+    ensures need { IfErr result (λ stop. WhereStopped stop
+        (λ asked. (a : Answers) → (L.state library.new).told ≡ Some a → IsNeeded (L.state library.new).need asked (setup_execution base.now toolchain.now a))) }
+    ensures goes { GoesOn (L.state library.old) (L.state library.new) }
+    ensures rose { IfErr result (λ stop. WhereStopped stop (λ asked. (L.state library.old).stops < (L.state library.new).stops)) }
+{
+    let mut out = Outcome::new(alloc);
+    match execute_setup(alloc, base, toolchain, &mut out, library) {
+        Ok(value) => Ok(Unit::Setup(value, out)),
         Err(EvalEnd::Wrong(fault)) => Ok(Unit::Wrong(fault, out.into_asked())),
         Err(EvalEnd::Spoiled(path, place)) => Ok(Unit::Spoiled(path, place, out.into_asked())),
         Err(EvalEnd::Stopped) => Err(EvalStop::Stopped(out.into_asked())),
@@ -49,7 +76,8 @@ fn import_unit<L: Library + Definer>(
 ) -> Result<Unit, EvalStop>
     ensures unit { IfOk result (λ unit. (a : Answers) → Includes (L.state library.new).told a → IsImportOf unit (import_execution base.now when toolchain.now path.now a).end) }
     ensures asked { IfOk result (λ unit. (a : Answers) → Includes (L.state library.new).told a → (import_execution base.now when toolchain.now path.now a).asked ≡ asked_of unit) }
-    ensures need { IfErr result (λ stop. WhereStopped stop (λ asked. (a : Answers) → (L.state library.new).told ≡ Some a → IsNeeded (L.state library.new).need asked (import_execution base.now when toolchain.now path.now a))) }
+    ensures need { IfErr result (λ stop. WhereStopped stop
+        (λ asked. (a : Answers) → (L.state library.new).told ≡ Some a → IsNeeded (L.state library.new).need asked (import_execution base.now when toolchain.now path.now a))) }
     ensures goes { GoesOn (L.state library.old) (L.state library.new) }
     ensures rose { IfErr result (λ stop. WhereStopped stop (λ asked. (L.state library.old).stops < (L.state library.new).stops)) }
 {
@@ -73,7 +101,8 @@ fn unit_of<L: Library + Definer>(
     requires { IsExecuted key.now }
     ensures unit { IfOk result (λ unit. (a : Answers) → Includes (L.state library.new).told a → IsUnitOf base.now key.now unit a) }
     ensures asked { IfOk result (λ unit. (a : Answers) → Includes (L.state library.new).told a → HasAskedOf base.now key.now unit a) }
-    ensures need { IfErr result (λ stop. WhereStopped stop (λ asked. (a : Answers) → (L.state library.new).told ≡ Some a → IsNeedOf base.now key.now (L.state library.new).need asked a)) }
+    ensures need { IfErr result (λ stop. WhereStopped stop
+        (λ asked. (a : Answers) → (L.state library.new).told ≡ Some a → IsNeedOf base.now key.now (L.state library.new).need asked a)) }
     ensures goes { GoesOn (L.state library.old) (L.state library.new) }
     ensures rose { IfErr result (λ stop. WhereStopped stop (λ asked. (L.state library.old).stops < (L.state library.new).stops)) }
 {
@@ -82,14 +111,16 @@ fn unit_of<L: Library + Definer>(
         Key::Import(when, toolchain, path) => import_unit(
             alloc, base, *when, toolchain, path, library,
         ),
-        Key::Read(_) | Key::Setup(_) | Key::Resolve(_) => unreachable!(),
+        Key::Setup(toolchain) => setup_unit(alloc, base, toolchain, library),
+        Key::Read(_) | Key::Resolve(_) => unreachable!(),
     }
 }
 
 /// Executes the file that the key of a claim names, under the toolchain of the key, from its start, over a base and what the
 /// library tells. The claim comes back. What is answered is how that execution ends over all answers that include those
 /// told, and what it asked. `Stopped` comes where the library lacks an answer: over just what it tells, the execution needs
-/// the one that it has noted, and asks it behind the questions that come back. The base is that of the evaluations under this toolchain: what its context says is taken.
+/// the one that it has noted, and asks it behind the questions that come back. The base is that of the evaluations under this
+/// toolchain: what its context says is taken.
 pub fn evaluate<L: Library + Definer>(
     alloc: Global,
     claim: Claim,
@@ -101,7 +132,8 @@ pub fn evaluate<L: Library + Definer>(
     ensures claim_back { IfErr result (λ r. r.0 ≡ claim) }
     ensures unit { IfOk result (λ r. (a : Answers) → Includes (L.state library.new).told a → IsUnitOf base.now claim.key r.1 a) }
     ensures asked { IfOk result (λ r. (a : Answers) → Includes (L.state library.new).told a → HasAskedOf base.now claim.key r.1 a) }
-    ensures need { IfErr result (λ r. WhereStopped r.1 (λ asked. (a : Answers) → (L.state library.new).told ≡ Some a → IsNeedOf base.now claim.key (L.state library.new).need asked a)) }
+    ensures need { IfErr result (λ r. WhereStopped r.1
+        (λ asked. (a : Answers) → (L.state library.new).told ≡ Some a → IsNeedOf base.now claim.key (L.state library.new).need asked a)) }
     ensures goes { GoesOn (L.state library.old) (L.state library.new) }
     ensures rose { IfErr result (λ r. WhereStopped r.1 (λ asked. (L.state library.old).stops < (L.state library.new).stops)) }
 {

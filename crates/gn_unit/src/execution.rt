@@ -17,6 +17,7 @@ ghost use Rattle.gn_executions.specs.Base.{setting_of, begins_over};
 
 use crate::base::Base;
 use crate::faults::{syntax_fault, whole_file_fault};
+use gn_definitions::ImportValue;
 use gn_env::Env;
 use gn_eval::{Definer, EvalEnd, Found, LibStop, Library, run_file, run_import_file};
 use gn_faults::{Code, FileKind};
@@ -24,7 +25,6 @@ use gn_items::{Outcome, When, import_name, load_name};
 use gn_paths::{Path, PathError, Place, Text, directory, resolve};
 use gn_syntax::{Parsed, parse};
 use gn_tree::Block;
-use gn_values::ImportValue;
 use std::alloc::{AllocError, Global};
 
 // The path of the build file of a directory.
@@ -40,8 +40,8 @@ fn build_file(alloc: Global, directory: &Path) -> Result<Path, AllocError>
     }
 }
 
-// Where the execution of the file at a path begins over a base, by its name.
-fn environment(
+/// Where the execution of the file at a path begins over a base, by its name.
+pub(crate) fn environment(
     alloc: Global,
     base: &Base,
     path: &Path,
@@ -52,15 +52,17 @@ fn environment(
     ensures { IfOk result (λ env. env ≡ begins_over base.now kind path.now execution checked) }
 {
     let context = base.share_context()?;
+    let stands_in = directory(alloc, path)?;
+    let beneath = base.share_beneath(alloc, &stands_in)?;
     Ok(Env::new(
         alloc,
         context,
         kind,
         path.as_text().copy(alloc)?,
-        directory(alloc, path)?,
+        stands_in,
         execution,
         checked,
-        base.share_beneath(alloc)?,
+        beneath,
         base.share_definitions(alloc)?,
     ))
 }
@@ -68,7 +70,8 @@ fn environment(
 // What the bytes of the file at a path are read as: their tree, or the fault of their first error.
 fn parsed(alloc: Global, base: &Base, path: &Path, bytes: &[u8]) -> Result<Parsed, EvalEnd>
     requires { length bytes.now ≤ max_bytes }
-    ensures tree { (kind : Kind) (env : Environment) (need : Need) (out : Effects) → env.setting ≡ setting_of base.now kind path.now → IsRun (λ t. t) need result env out (reading_runs bytes.now (reading bytes.now) env out) }
+    ensures tree { (kind : Kind) (env : Environment) (need : Need) (out : Effects) → env.setting ≡ setting_of base.now kind path.now →
+        IsRun (λ t. t) need result env out (reading_runs bytes.now (reading bytes.now) env out) }
     ensures reads { result ≢ Err EvalEnd.Stopped }
     ensures shallow { IfOk result (λ tree. IsShallow tree) }
 {
@@ -78,8 +81,8 @@ fn parsed(alloc: Global, base: &Base, path: &Path, bytes: &[u8]) -> Result<Parse
     }
 }
 
-// Where a file asks for its own content.
-fn own_place(alloc: Global, path: &Path) -> Result<Place, AllocError>
+/// Where a file asks for its own content.
+pub(crate) fn own_place(alloc: Global, path: &Path) -> Result<Place, AllocError>
     ensures { IfOk result (λ place. place ≡ own_place path.now) }
 {
     Ok(Place {
@@ -92,7 +95,8 @@ fn own_place(alloc: Global, path: &Path) -> Result<Place, AllocError>
 // What is done with what a library tells of the content of the file at a path.
 fn tree_of(alloc: Global, base: &Base, path: &Path, found: Found) -> Result<Parsed, EvalEnd>
     requires { IsWithinLimit found }
-    ensures tree { (kind : Kind) (env : Environment) (need : Need) (out : Effects) → env.setting ≡ setting_of base.now kind path.now → IsRun (λ t. t) need result env out (content_runs (content_view found) env out) }
+    ensures tree { (kind : Kind) (env : Environment) (need : Need) (out : Effects) → env.setting ≡ setting_of base.now kind path.now →
+        IsRun (λ t. t) need result env out (content_runs (content_view found) env out) }
     ensures reads { result ≢ Err EvalEnd.Stopped }
     ensures shallow { IfOk result (λ tree. IsShallow tree) }
 {
@@ -117,7 +121,8 @@ fn tree_at<L: Library>(
     out: &mut Outcome,
     library: &mut L,
 ) -> Result<Parsed, EvalEnd>
-    ensures evaluates { Claims (L.state library.old) (L.state library.new) result (λ a. (kind : Kind) (env : Environment) → env.setting ≡ setting_of base.now kind path.now → IsRun (λ t. t) (L.state library.new).need result env out.new (tree_runs a env out.old)) }
+    ensures evaluates { Claims (L.state library.old) (L.state library.new) result (λ a. (kind : Kind) (env : Environment) → env.setting ≡ setting_of base.now kind path.now →
+        IsRun (λ t. t) (L.state library.new).need result env out.new (tree_runs a env out.old)) }
     ensures shallow { IfOk result (λ tree. IsShallow tree) }
 {
     let place = own_place(alloc, path)?;
@@ -143,7 +148,8 @@ fn run_build_file<L: Library + Definer>(
     library: &mut L,
 ) -> Result<(), EvalEnd>
     requires shallow { IsShallow block.now }
-    ensures { EvaluatesSpent (λ u. u) (L.state library.old) (L.state library.new) result out.new (λ a. file_runs a block.now (load_begins base.now directory.now toolchain.now path.now) out.old) }
+    ensures { EvaluatesSpent (λ u. u) (L.state library.old) (L.state library.new) result out.new (λ a. file_runs a block.now
+        (load_begins base.now directory.now toolchain.now path.now) out.old) }
 {
     let execution = load_name(alloc, directory, toolchain)?;
     let mut env = environment(alloc, base, path, FileKind::BuildFile, execution, true)?;
@@ -162,7 +168,8 @@ fn load_file<L: Library + Definer>(
     out: &mut Outcome,
     library: &mut L,
 ) -> Result<(), EvalEnd>
-    ensures { EvaluatesSpent (λ u. u) (L.state library.old) (L.state library.new) result out.new (λ a. then_do (tree_runs a (load_begins base.now directory.now toolchain.now path.now) out.old) (λ tree env1 out1. file_runs a tree env1 out1)) }
+    ensures { EvaluatesSpent (λ u. u) (L.state library.old) (L.state library.new) result out.new (λ a. then_do
+        (tree_runs a (load_begins base.now directory.now toolchain.now path.now) out.old) (λ tree env1 out1. file_runs a tree env1 out1)) }
 {
     let parsed = tree_at(alloc, base, path, out, library)?;
     run_build_file(
@@ -207,7 +214,8 @@ fn run_imported<L: Library + Definer>(
     library: &mut L,
 ) -> Result<ImportValue, EvalEnd>
     requires shallow { IsShallow block.now }
-    ensures { EvaluatesSpent (λ v. v) (L.state library.old) (L.state library.new) result out.new (λ a. import_file_runs a block.now (import_begins base.now when toolchain.now path.now) out.old) }
+    ensures { EvaluatesSpent (λ v. v) (L.state library.old) (L.state library.new) result out.new (λ a. import_file_runs a block.now
+        (import_begins base.now when toolchain.now path.now) out.old) }
 {
     let execution = import_name(alloc, when, toolchain, path)?;
     let env = environment(alloc, base, path, FileKind::Import, execution, false)?;

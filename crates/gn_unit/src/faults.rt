@@ -5,10 +5,11 @@ ghost use Rattle.gn_value_model.specs.Limits.{max_bytes};
 ghost use Rattle.gn_grammar.specs.Position.{position_of};
 ghost use Rattle.gn_syntax.specs.Reading.{fault_of};
 ghost use Rattle.gn_faults.specs.declared.file_kind.FileKind.{FileKind as Kind};
-ghost use Rattle.gn_executions.specs.Faults.{whole_file_fault, syntax_fault};
+ghost use Rattle.gn_executions.specs.Faults.{whole_file_fault, syntax_code, syntax_offset, syntax_fault};
 ghost use Rattle.gn_executions.specs.Base.{setting_of};
 
 use crate::base::Base;
+use gn_env::Env;
 use gn_faults::{Code, Fault};
 use gn_paths::{Path, Place, Texts};
 use gn_syntax::{SyntaxError, place_of};
@@ -63,6 +64,16 @@ pub(crate) fn whole_file_fault(
     fault(alloc, base, path, code, beginning, detail)
 }
 
+/// The same of the file that is evaluated in an environment.
+pub(crate) fn whole_file_fault_in(alloc: Global, env: &Env, code: Code) -> Result<Fault, AllocError>
+    ensures { IfOk result (λ f. f ≡ whole_file_fault env.now.setting code) }
+{
+    let mut detail = Texts::new(alloc);
+    detail.push(env.file().copy(alloc)?)?;
+    let beginning = Position { line: 1, column: 1 };
+    env.fault(alloc, code, beginning, detail)
+}
+
 /// The fault of a syntax error of the bytes of the file at a path, or want of memory.
 pub(crate) fn syntax_fault(
     alloc: Global,
@@ -75,17 +86,38 @@ pub(crate) fn syntax_fault(
     ensures { IfOk result (λ f. MatchOption (fault_of error) ⊥ (λ found.
         (kind : Kind) → f ≡ syntax_fault (setting_of base.now kind path.now) bytes.now found)) }
 {
-    let (code, offset) = match error {
-        SyntaxError::Token(TokenError::BadByte(offset)) => (Code::BadByte, offset),
-        SyntaxError::Token(TokenError::BadNumber(offset)) => (Code::BadNumber, offset),
-        SyntaxError::Token(TokenError::OpenString(offset)) => (Code::OpenString, offset),
-        SyntaxError::Token(TokenError::BadDollar(offset)) => (Code::BadDollar, offset),
-        SyntaxError::Unexpected(offset) => (Code::Unexpected, offset),
-        SyntaxError::TooDeep(offset) => (Code::TooDeep, offset),
-        SyntaxError::Memory => return Err(AllocError),
-    };
+    let (code, offset) = code_and_offset(error)?;
     let position = position_of(bytes, offset);
     fault(alloc, base, path, code, position, Texts::new(alloc))
+}
+
+/// The same of the bytes of the file that is evaluated in an environment.
+pub(crate) fn syntax_fault_in(
+    alloc: Global,
+    env: &Env,
+    bytes: &[u8],
+    error: SyntaxError,
+) -> Result<Fault, AllocError>
+    requires { length bytes.now ≤ max_bytes }
+    ensures { IfOk result (λ f. MatchOption (fault_of error) ⊥ (λ found. f ≡ syntax_fault env.now.setting bytes.now found)) }
+{
+    let (code, offset) = code_and_offset(error)?;
+    env.fault(alloc, code, position_of(bytes, offset), Texts::new(alloc))
+}
+
+// The code of a syntax error, and the offset at which it stands; want of memory is none.
+fn code_and_offset(error: SyntaxError) -> Result<(Code, usize), AllocError>
+    ensures { IfOk result (λ r. MatchOption (fault_of error) ⊥ (λ found. (r.0 ≡ syntax_code found) × (r.1 ≡ syntax_offset found))) }
+{
+    match error {
+        SyntaxError::Token(TokenError::BadByte(offset)) => Ok((Code::BadByte, offset)),
+        SyntaxError::Token(TokenError::BadNumber(offset)) => Ok((Code::BadNumber, offset)),
+        SyntaxError::Token(TokenError::OpenString(offset)) => Ok((Code::OpenString, offset)),
+        SyntaxError::Token(TokenError::BadDollar(offset)) => Ok((Code::BadDollar, offset)),
+        SyntaxError::Unexpected(offset) => Ok((Code::Unexpected, offset)),
+        SyntaxError::TooDeep(offset) => Ok((Code::TooDeep, offset)),
+        SyntaxError::Memory => Err(AllocError),
+    }
 }
 
 // The line and column of an offset. One behind the end of the file counts as the end.

@@ -1,14 +1,23 @@
-//! Units: the execution of a whole file, by the name of what is asked for.
+//! Units: the execution of a whole file, by the name of what is asked for; the dotfile, and build arguments.
 #![tactic(auto)]
 
+mod alone;
 mod base;
+mod built_in;
+mod configuration;
 mod defining;
 mod evaluation;
 mod execution;
 mod faults;
+mod first_stage;
+mod names;
+mod said;
 mod unit;
 
+pub use alone::UnitEnd;
 pub use base::Base;
 pub use defining::define_item;
 pub use evaluation::evaluate;
+pub use first_stage::{arguments, dotfile};
+pub use said::Dotfile;
 pub use unit::{EvalStop, Unit};

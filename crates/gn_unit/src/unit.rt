@@ -1,13 +1,16 @@
 // What an evaluation of a whole file leaves.
 
+use gn_definitions::ImportValue;
 use gn_faults::Fault;
 use gn_items::{Outcome, Question};
 use gn_paths::{Path, Place};
-use gn_values::ImportValue;
 
 /// What the execution of a whole file leaves, or why it leaves nothing.
 #[derive(Drop)]
 pub enum Unit {
+    /// The build configuration has run: what it leaves for the files beneath which it stands, its lines, its files, the
+    /// arguments that it declares, the default toolchain that it names and the questions asked.
+    Setup(ImportValue, Outcome),
     /// A build file has run, and leaves items, lines, files and the questions asked.
     Load(Outcome),
     /// A file that is imported has run: what it leaves for those who import it, its lines, its files and the questions asked.

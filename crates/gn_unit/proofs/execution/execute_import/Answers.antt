@@ -4,7 +4,8 @@ use Rattle.gn_syntax.specs.declared.file.Parsed.{Parsed}
 use Rattle.gn_faults.specs.declared.file_kind.FileKind.TheVariants.{Import}
 use Rattle.gn_meaning.specs.Meaning.{import_file_runs}
 use Rattle.gn_executions.specs.Units.{tree_runs, import_begins, import_runs}
-use Rattle.gn_unit.proofs.Executions.{import_set, covered, told_before, goes_on_further, then_goes, then_fails}
+use Rattle.gn_eval.specs.Telling.{covered, told_before, goes_on_further}
+use Rattle.gn_unit.proofs.Executions.{import_set, then_goes, then_fails}
 use Rattle.gn_unit.proofs.execution.execute_import.Goals as goal
 
 pub returns-in_err-parsed : goal.returns-in_err-parsed

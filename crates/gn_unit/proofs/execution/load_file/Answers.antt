@@ -4,7 +4,8 @@ use Rattle.gn_syntax.specs.declared.file.Parsed.{Parsed}
 use Rattle.gn_faults.specs.declared.file_kind.FileKind.TheVariants.{BuildFile}
 use Rattle.gn_meaning.specs.Meaning.{file_runs}
 use Rattle.gn_executions.specs.Units.{tree_runs, load_begins}
-use Rattle.gn_unit.proofs.Executions.{load_set, covered, told_before, goes_on_further, then_goes, then_fails}
+use Rattle.gn_eval.specs.Telling.{covered, told_before, goes_on_further}
+use Rattle.gn_unit.proofs.Executions.{load_set, then_goes, then_fails}
 use Rattle.gn_unit.proofs.execution.load_file.Goals as goal
 
 pub returns-in_err-parsed : goal.returns-in_err-parsed

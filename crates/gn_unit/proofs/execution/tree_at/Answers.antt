@@ -1,4 +1,5 @@
-use Rattle.gn_unit.proofs.Executions.{told_run, covered}
+use Rattle.gn_eval.specs.Telling.{covered}
+use Rattle.gn_unit.proofs.Executions.{told_run}
 use Rattle.gn_unit.proofs.execution.tree_at.Goals as goal
 
 pub returns-in-Ok-clause-evaluates : goal.returns-in-Ok-clause-evaluates

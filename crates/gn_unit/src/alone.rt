@@ -1,0 +1,193 @@
+// Files that ask for nothing: the dotfile, and build arguments.
+
+ghost use Rattle.std.specs.Prelude.{◌≡◌, ◌≤◌, IfOk, length};
+ghost use Rattle.gn_value_model.specs.Limits.{max_bytes};
+ghost use Rattle.gn_runs.specs.Runs.{has_bytes};
+ghost use Rattle.gn_executions.specs.Alone.{first_context, alone_begins, nothing_there, alone_runs, EndsAlone};
+ghost use Rattle.gn_tree.specs.Depth.{IsShallow};
+ghost use Rattle.gn_items.specs.Effects.{Effects, no_effects};
+ghost use Rattle.gn_syntax.specs.Reading.{reading};
+ghost use Rattle.gn_executions.specs.Units.{reading_runs};
+ghost use Rattle.gn_meaning.specs.Meaning.{whole_block_runs};
+ghost use Rattle.gn_unit.specs.Alone.{IsParsed, IsAlone, HasRunAlone, bytes_alone};
+
+use crate::built_in::built_in_scope;
+use crate::faults::syntax_fault_in;
+use gn_definitions::MadeBy;
+use gn_env::Env;
+use gn_environment::Context;
+use gn_eval::{DefineError, Definer, EvalEnd, Found, Imported, LibStop, Library, run_block};
+use gn_executions::{HostNames, files_that_stand_alone_end};
+use gn_faults::{Fault, FileKind, Stage};
+use gn_items::{Item, ItemKind, Outcome};
+use gn_paths::{Path, Place, Text};
+use gn_syntax::{Parsed, parse};
+use gn_tree::{Block, Position};
+use gn_values::Bindings;
+use std::alloc::{AllocError, Global};
+use std::sync::Arc;
+
+/// Why a dotfile, or build arguments, say nothing.
+#[derive(Debug, Drop)]
+pub enum UnitEnd {
+    /// The first fault.
+    Wrong(Fault),
+    /// Want of memory.
+    Memory,
+}
+
+impl From<AllocError> for UnitEnd {
+    ghost use Rattle.std.specs.Prelude.{◌≡◌};
+    ghost use Rattle.gn_unit.specs.declared.alone.UnitEnd.TheVariants.{Memory};
+
+    ghost from_gives = { λ _ e. e ≡ Memory };
+
+    fn from(_: AllocError) -> UnitEnd {
+        UnitEnd::Memory
+    }
+}
+
+// A library that answers that there is no file, whatever is asked.
+#[derive(Clone, Copy, Drop)]
+struct NothingThere;
+
+impl Library for NothingThere {
+    ghost use Rattle.std.specs.Prelude.{[], Some};
+    ghost use Rattle.gn_runs.specs.Runs.{content_of};
+    ghost use Rattle.gn_executions.specs.Alone.{nothing_there};
+
+    ghost state = { λ _. record {
+      told = Some nothing_there;
+      need = record { question = content_of []; place = record { file = []; line = 1; column = 1 } };
+      stops = 0;
+    } };
+
+    fn import(&mut self, _: Global, _: &Path, _: &Place) -> Result<Imported, LibStop> {
+        Ok(Imported::Absent)
+    }
+
+    fn bytes(&mut self, _: Global, _: &Path, _: &Place) -> Result<Found, LibStop> {
+        Ok(Found::Absent)
+    }
+}
+
+// No item is defined in such a file.
+impl Definer for NothingThere {
+    fn define(
+        &mut self,
+        _: Global,
+        _: ItemKind,
+        _: &Text,
+        _: &mut Env,
+        _: Position,
+    ) -> Result<Item, DefineError> {
+        Err(DefineError::Memory)
+    }
+}
+
+/// The context of such files: as that of the build configuration of the default toolchain before any argument is given.
+pub(crate) fn first_context(alloc: Global, build: &Path, root: &Text) -> Result<Context, AllocError>
+    ensures { IfOk result (λ c. c ≡ first_context build.now root.now) }
+{
+    Ok(Context {
+        stage: Stage::Arguments,
+        toolchain: Text::new(alloc),
+        fault_toolchain: Text::new(alloc),
+        default_toolchain: Text::new(alloc),
+        build_directory: build.copy(alloc)?,
+        source_root: root.copy(alloc)?,
+        overrides: Bindings::new(alloc),
+    })
+}
+
+// Where such a file begins.
+fn begin_alone(
+    alloc: Global,
+    host: &HostNames,
+    context: Context,
+    kind: FileKind,
+    file: &Text,
+) -> Result<Env, AllocError>
+    ensures { IfOk result (λ env. env ≡ alone_begins host.now context kind file.now) }
+{
+    let root = Path::root(alloc)?;
+    let mut beneath = Vec::new(alloc);
+    beneath.push(built_in_scope(alloc, host, &context, &root)?)?;
+    let execution = file.copy(alloc)?;
+    Ok(Env::new(
+        alloc,
+        Arc::new(alloc, context)?,
+        kind,
+        file.copy(alloc)?,
+        root,
+        execution,
+        false,
+        beneath,
+        MadeBy::new(alloc),
+    ))
+}
+
+// What the bytes of the file that is evaluated are read as.
+fn parsed_in(alloc: Global, env: &Env, bytes: &[u8]) -> Result<Parsed, UnitEnd>
+    requires { length bytes.now ≤ max_bytes }
+    ensures reading { (out : Effects) → IsParsed result env.now out (reading_runs bytes.now (reading bytes.now) env.now out) }
+    ensures shallow { IfOk result (λ tree. IsShallow tree) }
+{
+    match parse(alloc, bytes) {
+        Ok(parsed) => Ok(parsed),
+        Err(error) => Err(UnitEnd::Wrong(syntax_fault_in(alloc, env, bytes, error)?)),
+    }
+}
+
+// Runs the block of such a file. It ends with what it leaves or with its first fault, as a law says.
+fn run_tree(alloc: Global, block: &Block, env: &mut Env, out: &mut Outcome) -> Result<(), UnitEnd>
+    requires shallow { IsShallow block.now }
+    requires alone { EndsAlone (whole_block_runs nothing_there block.now env.old out.old).end }
+    ensures { HasRunAlone result env.new out.new (whole_block_runs nothing_there block.now env.old out.old) }
+{
+    let mut library = NothingThere;
+    match run_block(alloc, block, env, out, &mut library) {
+        Ok(()) => Ok(()),
+        Err(EvalEnd::Wrong(fault)) => Err(UnitEnd::Wrong(fault)),
+        Err(EvalEnd::Memory) => Err(UnitEnd::Memory),
+        Err(EvalEnd::Spoiled(..)) | Err(EvalEnd::Stopped) => unreachable!(),
+    }
+}
+
+// Runs the bytes of such a file.
+fn run_bytes(alloc: Global, bytes: &[u8], env: &mut Env, out: &mut Outcome) -> Result<(), UnitEnd>
+    requires small { length bytes.now ≤ max_bytes }
+    requires alone { EndsAlone (bytes_alone bytes.now env.old out.old).end }
+    ensures { HasRunAlone result env.new out.new (bytes_alone bytes.now env.old out.old) }
+{
+    let parsed = parsed_in(alloc, env, bytes)?;
+    run_tree(alloc, parsed.block(), env, out)
+}
+
+/// Runs the bytes of a file that asks for nothing, in the source root, in one scope, which isn't checked, over the built-in
+/// variables. It has the environment behind it; what it prints is added to `out`. `Wrong` has the first fault, and comes exactly
+/// where there is one, but for want of memory.
+#[tactic(auto, unfolding(gn_executions::specs::Alone::alone_runs))]
+pub(crate) fn run_alone(
+    alloc: Global,
+    host: &HostNames,
+    context: Context,
+    kind: FileKind,
+    file: &Text,
+    bytes: &[u8],
+    out: &mut Outcome,
+) -> Result<Env, UnitEnd>
+    requires small { length bytes.now ≤ max_bytes }
+    requires nothing { out.old ≡ no_effects }
+    ensures { IsAlone result out.new (alone_runs host.now context kind file.now (has_bytes bytes.now)) }
+{
+    files_that_stand_alone_end();
+    let mut env = begin_alone(alloc, host, context, kind, file)?;
+    match run_bytes(alloc, bytes, &mut env, out) {
+        Ok(()) => Ok(env),
+        Err(end) => {
+            drop(env);
+            Err(end)
+        }
+    }
+}
