@@ -1,0 +1,14 @@
+pub mod Tables
+pub mod Layers
+pub mod Environments
+pub mod Callers
+pub mod Ends
+pub mod Steps
+pub mod Contents
+pub mod Selections
+pub mod Openings
+pub mod FunctionCalls
+pub mod Blocks
+pub mod Executions
+pub mod Rounds
+pub mod Consequences
