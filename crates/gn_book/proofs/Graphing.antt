@@ -226,7 +226,7 @@ list_in (y ∷ xs) x (inr i) = let rest = list_in xs x i in (suc rest.0, rest.1)
 
 module _ (seats remaining : ℕ) (stop : Option Reason) (es : List Logged) (used capacity : ℕ) (old : Log) (g : Answers) (whole : (f : Fact) → In g.found (Holding f) ↔ Holds home (units_in g.replies) f) where
   -- the keys after some facts were looked at
-  record Kept (n : ℕ) (t : Table) : Type 0 where
+  record KeysAfter (n : ℕ) (t : Table) : Type 0 where
     is_whole : IsWhole seats remaining stop t.keys t.standings es used capacity
     now : Log
     view_is : log_in seats t.keys t.standings es ≡ now
@@ -234,9 +234,9 @@ module _ (seats remaining : ℕ) (stop : Option Reason) (es : List Logged) (used
     only : OnlyUnitsAreNew old now
     numbered : AreNumbered t.keys g n
 
-  kept_other : (n m : ℕ) (t u : Table) (s : Step) → slice_get g.found n ≡ Some s → ((k : Unit_key) → s ≡ is_reached k → ⊥) → m ≡ n + 1 → u ≡ t → Kept n t → Kept m u
+  kept_other : (n m : ℕ) (t u : Table) (s : Step) → slice_get g.found n ≡ Some s → ((k : Unit_key) → s ≡ is_reached k → ⊥) → m ≡ n + 1 → u ≡ t → KeysAfter n t → KeysAfter m u
   kept_other n m t u s at apart next same kept =
-      subst (λ (z : ℕ). Kept z u) (sym next) (subst (λ (z : Table). Kept (n + 1) z) (sym same) (record {
+      subst (λ (z : ℕ). KeysAfter z u) (sym next) (subst (λ (z : Table). KeysAfter (n + 1) z) (sym same) (record {
         is_whole = kept.is_whole;
         now = kept.now;
         view_is = kept.view_is;
@@ -245,11 +245,11 @@ module _ (seats remaining : ℕ) (stop : Option Reason) (es : List Logged) (used
         numbered = numbered_other t.keys g n (got_within g.found n s at) (λ k e. let one : Some s ≡ Some (is_reached k) = sym at ∙ e in apart k (cc one)) kept.numbered;
       }))
 
-  kept_unit : (n m : ℕ) (t u : Table) (k : Unit_key) → slice_get g.found n ≡ Some (is_reached k) → m ≡ n + 1 → u ≡ with_number t (Unit_of k) → Kept n t → Kept m u
+  kept_unit : (n m : ℕ) (t u : Table) (k : Unit_key) → slice_get g.found n ≡ Some (is_reached k) → m ≡ n + 1 → u ≡ with_number t (Unit_of k) → KeysAfter n t → KeysAfter m u
   kept_unit n m t u k at next set kept =
       let done = number_step seats remaining stop t es used capacity kept.now kept.is_whole kept.view_is (Unit_of k) u set in
       let keys : u.keys ≡ (if list_any (same_key (Unit_of k)) t.keys then t.keys else t.keys ++ Unit_of k ∷ []) = ap (λ (z : Table). z.keys) set ∙ keys_of (list_any (same_key (Unit_of k)) t.keys) in
-      subst (λ (z : ℕ). Kept z u) (sym next) (record {
+      subst (λ (z : ℕ). KeysAfter z u) (sym next) (record {
         is_whole = done.0;
         now = with_key kept.now (Unit_of k);
         view_is = done.1;
@@ -275,7 +275,7 @@ module _ (seats remaining : ℕ) (stop : Option Reason) (es : List Logged) (used
       one_more true ks = more_none ks
       one_more false ks = (Unit_of k ∷ [], refl)
 
-  kept_fact : (n m : ℕ) (t u : Table) (s : Step) → slice_get g.found n ≡ Some s → m ≡ n + 1 → u ≡ with_fact t s → Kept n t → Kept m u
+  kept_fact : (n m : ℕ) (t u : Table) (s : Step) → slice_get g.found n ≡ Some s → m ≡ n + 1 → u ≡ with_fact t s → KeysAfter n t → KeysAfter m u
   kept_fact n m t u (Holding (Is_reached k)) at next set kept = kept_unit n m t u k at next set kept
   kept_fact n m t u (Holding (Is_wanted dir toolchain)) at next set kept = kept_other n m t u (Holding (Is_wanted dir toolchain)) at (λ k e. cc e) next set kept
   kept_fact n m t u (Holding (Is_generated label)) at next set kept = kept_other n m t u (Holding (Is_generated label)) at (λ k e. cc e) next set kept
@@ -284,8 +284,8 @@ module _ (seats remaining : ℕ) (stop : Option Reason) (es : List Logged) (used
   kept_fact n m t u (Defined toolchain) at next set kept = kept_other n m t u (Defined toolchain) at (λ k e. cc e) next set kept
   kept_fact n m t u (Set_up toolchain) at next set kept = kept_other n m t u (Set_up toolchain) at (λ k e. cc e) next set kept
 
-  kept_looked : (from : ℕ) (t0 : Table) → Kept from t0 → (n : ℕ) (t : Table) → Looked g.found from t0 n t → Kept n t
-  kept_looked from t0 kept n t (none e f) = subst (λ (z : ℕ). Kept z t) (sym e) (subst (λ (z : Table). Kept from z) (sym f) kept)
+  kept_looked : (from : ℕ) (t0 : Table) → KeysAfter from t0 → (n : ℕ) (t : Table) → Looked g.found from t0 n t → KeysAfter n t
+  kept_looked from t0 kept n t (none e f) = subst (λ (z : ℕ). KeysAfter z t) (sym e) (subst (λ (z : Table). KeysAfter from z) (sym f) kept)
   kept_looked from t0 kept m u (more n t s looked at next set) = kept_fact n m t u s at next set (kept_looked from t0 kept n t looked)
 
   -- a book whose facts were looked at

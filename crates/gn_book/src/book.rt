@@ -142,7 +142,7 @@ impl<A: Answer> Model for Book<A> {
     ghost use Rattle.gn_book.specs.Graphs.{IsGraphed};
     ghost use Rattle.std.specs.Coded.{codes};
     ghost use Rattle.gn_items.specs.Codes.{effects_code};
-    ghost use Rattle.gn_values.specs.ImportedCode.{import_code};
+    ghost use Rattle.gn_definitions.specs.ImportedCode.{import_code};
 
     ghost Value = { Log };
 

@@ -88,7 +88,7 @@ impl<A: Answer> Model for Roster<A> {
     ghost use Rattle.std.specs.Ordering.{nat_cmp};
     ghost use Rattle.std.specs.Coded.{codes};
     ghost use Rattle.gn_items.specs.Codes.{effects_code};
-    ghost use Rattle.gn_values.specs.ImportedCode.{import_code};
+    ghost use Rattle.gn_definitions.specs.ImportedCode.{import_code};
     ghost use Rattle.gn_book.specs.Keys.{key_of};
     ghost use Rattle.gn_book.specs.Standings.{standing_of};
     ghost use Rattle.gn_book.specs.Rosters.{Table, table_of, IsRoster};

@@ -7,12 +7,12 @@ use Rattle.std.proofs.lemmas.Bool.Decides.{Decides-ltb}
 use Rattle.std.proofs.lemmas.Map.Made.{length-le_from_is_member}
 use Rattle.std.proofs.lemmas.Map.Keys.{IsDistinct-from_sorted}
 use Rattle.std.proofs.lemmas.Bool.{or_cases, or_left, or_right, not-true, not_from_false}
-use Rattle.gn_values.specs.Imported.{ImportState}
+use Rattle.gn_definitions.specs.Imported.{ImportState}
 use Rattle.gn_runs.specs.Runs.{Question, content_of, import_of, End, ended, wrong, spoiled, needs, Run}
 use Rattle.gn_runs.specs.Laws.{IsAsked}
 use Rattle.gn_imports.specs.Rounds.{Project}
 use Rattle.gn_imports.specs.Asked.{asked_by, all_asked, imports_asked, in_path_order}
-use Rattle.gn_imports.specs.Loading.{IsOneOf, IsProject}
+use Rattle.gn_imports.specs.Projects.{IsOneOf, IsProject}
 use Rattle.gn_imports.proofs.Final.{final_run}
 use Rattle.gn_imports.proofs.Asked.{all_asked_given, all_asked_closed, all_asked_least}
 use Rattle.gn_imports.proofs.PathOrder.{path_cmp, path_eq, path_eq-Decides, order_sorted, order_has, content_one, one_content, import_one, one_import}

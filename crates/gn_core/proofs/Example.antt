@@ -6,21 +6,21 @@ use Rattle.gn_runs.specs.Runs.{is_absent, Answers, Run, leaves, fails, IsTree}
 use Rattle.gn_runs.proofs.Trees.{tree_leaves, tree_fails}
 use Rattle.gn_items.specs.Effects.{no_effects}
 use Rattle.gn_closure.specs.Reach.{Unit_key, Setup, Load, Done}
-use Rattle.gn_core.specs.Keys.{Layer, early, usual, Key, Read, Import, Unit_of, Resolve, Answer, Filed, layer_of, unit_in, units, Leaving}
+use Rattle.gn_core.specs.Keys.{Layer, early, usual, Key, Read, Import, Unit_of, Resolve, Answer, Filed, layer_of, unit_in, units, Leaving, UnitLeft}
 use Rattle.gn_core.specs.Worlds.{World}
 use Rattle.gn_core.specs.Layered.{IsPart, HasLayer, IsLayered}
 use Rattle.gn_core.proofs.Based.{units_part}
 
 -- a unit that has no items
-abbrev nothing_more : Done → Leaving Done
-nothing_more d = record { value = d; effects = no_effects }
+abbrev nothing_more : Done → Leaving UnitLeft
+nothing_more d = record { value = record { needs = d; beneath = None }; effects = no_effects }
 
-abbrev left : Fault → Option (Option Done) → Run (Leaving Done)
+abbrev left : Fault → Option (Option Done) → Run (Leaving UnitLeft)
 left fault None = fails fault
 left fault (Some None) = fails fault
 left fault (Some (Some d)) = leaves (nothing_more d)
 
-abbrev unit_run : Fault → Done → Unit_key → Filed → Answers → Run (Leaving Done)
+abbrev unit_run : Fault → Done → Unit_key → Filed → Answers → Run (Leaving UnitLeft)
 unit_run fault d (Setup t) b a = leaves (nothing_more d)
 unit_run fault d (Load dir t) b a = left fault (units b (Setup []))
 

@@ -2,13 +2,12 @@
 use Rattle.std.proofs.Common.{◌≡◌, ℕ, zero, suc, ◌≤◌, ◌<◌, List, [], ◌∷◌, Some, None, refl, sym, ◌∙◌, ap, subst, ◌⊎◌, inl, inr, Bool, true, false, cond, unwrap_or, arith}
 use mathlib.Core.Path.{fun_ext}
 use Rattle.gn_paths.specs.declared.place.Place.{Place}
-use Rattle.gn_values.specs.Imported.{ImportState}
+use Rattle.gn_definitions.specs.Imported.{ImportState}
 use Rattle.gn_runs.specs.Runs.{Answers, needs, Run}
 use Rattle.gn_runs.specs.Laws.{IsSettled}
 use Rattle.gn_imports.specs.Rounds.{Project, knowing, values, final}
 use Rattle.gn_labels.specs.declared.label.Label.{Label}
-use Rattle.gn_closure.specs.Reach.{Done}
-use Rattle.gn_core.specs.Keys.{Layer, Key, Read, Import, Unit_of, Resolve, Answer, found, unit_is, record_is, Filed, layer_of, shown, put, Leaving, seen}
+use Rattle.gn_core.specs.Keys.{Layer, Key, Read, Import, Unit_of, Resolve, Answer, found, unit_is, record_is, Filed, layer_of, shown, put, Leaving, UnitLeft, seen}
 use Rattle.gn_core.specs.Worlds.{World, project, last_run, import_answer, meaning, below, true_meaning, all_meanings}
 use Rattle.gn_core.specs.Machine.{State, Event, Claim, Block, File, Stop, happens, replay, NeedsAt, IsRightImport, IsRight, IsFiled, AllowedOver, Allowed, Runs, IsOver, IsOpening}
 use Rattle.gn_core.specs.Layered.{IsPart, IsBased, IsLayered}
@@ -32,7 +31,7 @@ module _ (w : World) (l : IsLayered w) (b c : Filed) (s : ℕ) (same : (q : Key)
       ap import_answer (λ i. l.imports_see m path b c (λ q h. same q (omega (arith, h, low))) i (knowing (same_project i) (values (same_project i))))
   meaning_same (Unit_of k) low =
       ap (λ (p : Project). unit_is (w.unit_run k b (final p))) (layer_same (layer_of k) (λ q. omega (arith, l.asks_low k q, low)))
-      ∙ ap (λ (f : Answers → Run (Leaving Done)). unit_is (f (final (project w c (layer_of k))))) (l.units_see k b c (λ q h. same q (omega (arith, h, low))))
+      ∙ ap (λ (f : Answers → Run (Leaving UnitLeft)). unit_is (f (final (project w c (layer_of k))))) (l.units_see k b c (λ q h. same q (omega (arith, h, low))))
   meaning_same (Resolve m) low = ap record_is (l.records_see m b c (λ q h. same q (omega (arith, h, low))))
 
 below_same : (w : World) → IsLayered w → (n m : ℕ) (q : Key) → w.stage q < n → w.stage q < m → below w n q ≡ below w m q
@@ -61,7 +60,7 @@ module _ (w : World) (l : IsLayered w) (s : State) (inv : Inv w (all_meanings w)
   needs_lowered (Import m path) on p seat claimed h =
       (h.0, h.1, subst (λ (f : Answers → Run (Leaving ImportState)). (f (shown s.filed m)).end ≡ needs h.0 p) (sym (l.imports_based m path s.filed (all_meanings w) (import_layer w s.filed m path (bases.claimed (Import m path) seat claimed)) under)) h.2)
   needs_lowered (Unit_of k) on p seat claimed h =
-      (h.0, h.1, subst (λ (f : Answers → Run (Leaving Done)). (f (shown s.filed (layer_of k))).end ≡ needs h.0 p) (sym (l.units_based k s.filed (all_meanings w) (unit_layer w s.filed k (bases.claimed (Unit_of k) seat claimed)) under)) h.2)
+      (h.0, h.1, subst (λ (f : Answers → Run (Leaving UnitLeft)). (f (shown s.filed (layer_of k))).end ≡ needs h.0 p) (sym (l.units_based k s.filed (all_meanings w) (unit_layer w s.filed k (bases.claimed (Unit_of k) seat claimed)) under)) h.2)
   needs_lowered (Resolve m) on p seat claimed h = h
 
   right_lowered : (k : Key) (seat : ℕ) (v : Answer) → s.claims k ≡ Some seat → IsRight w s.filed s k v → IsRight w (all_meanings w) s k v
@@ -69,7 +68,7 @@ module _ (w : World) (l : IsLayered w) (s : State) (inv : Inv w (all_meanings w)
   right_lowered (Import m path) seat v claimed r =
       subst (λ (f : Answers → Run (Leaving ImportState)). IsRightImport s m path (f (shown s.filed m)) (f (shown s.filed m)).end v) (sym (l.imports_based m path s.filed (all_meanings w) (import_layer w s.filed m path (bases.claimed (Import m path) seat claimed)) under)) r
   right_lowered (Unit_of k) seat v claimed r =
-      subst (λ (f : Answers → Run (Leaving Done)). IsSettled (f (shown s.filed (layer_of k))).end × (v ≡ unit_is (f (shown s.filed (layer_of k))))) (sym (l.units_based k s.filed (all_meanings w) (unit_layer w s.filed k (bases.claimed (Unit_of k) seat claimed)) under)) r
+      subst (λ (f : Answers → Run (Leaving UnitLeft)). IsSettled (f (shown s.filed (layer_of k))).end × (v ≡ unit_is (f (shown s.filed (layer_of k))))) (sym (l.units_based k s.filed (all_meanings w) (unit_layer w s.filed k (bases.claimed (Unit_of k) seat claimed)) under)) r
   right_lowered (Resolve m) seat v claimed r = r ∙ ap record_is (sym (l.records_based m s.filed (all_meanings w) (bases.claimed (Resolve m) seat claimed) under))
 
   pub lowered : (known : List ℕ → Bool) (e : Event) → Allowed w known s e → AllowedOver w (all_meanings w) known s e

@@ -1,14 +1,13 @@
 -- What is claimed is wanted, and a quiet state has filed what is wanted.
 use Rattle.std.proofs.Common.{◌≡◌, ℕ, List, [], ◌∷◌, Option, Some, None, refl, sym, ◌∙◌, ap, subst, ◌⊎◌, inl, inr, ◌↔◌, Bool, true, false, cond, unwrap_or}
 use Rattle.gn_paths.specs.declared.place.Place.{Place}
-use Rattle.gn_values.specs.Imported.{ImportState}
+use Rattle.gn_definitions.specs.Imported.{ImportState}
 use Rattle.gn_runs.specs.Runs.{Question, content_of, import_of, Answers, End, ended, wrong, spoiled, needs, Run, IsTree}
 use Rattle.gn_runs.specs.Laws.{IsSettled, IsAsked, IsUnknown}
 use Rattle.gn_runs.proofs.TreeLaws.{tree_asks_known, tree_asks_more}
 use Rattle.gn_imports.specs.Rounds.{final}
 use Rattle.gn_imports.specs.Laws.{spoiled_at_need}
-use Rattle.gn_imports.proofs.Final.{final_run}
-use Rattle.gn_imports.proofs.AskedFor.{same_need}
+use Rattle.gn_imports.proofs.Final.{final_run, same_need}
 use Rattle.gn_labels.specs.declared.label.Label.{Label}
 use Rattle.gn_closure.specs.Reach.{Unit_key, Setup, Load, Target, Done, Fact, Is_reached, Is_generated, Holds}
 use Rattle.gn_closure.proofs.GroundRules.{holds_grows, holds_back}

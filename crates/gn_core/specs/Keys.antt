@@ -2,7 +2,7 @@
 use Rattle.std.specs.Prelude.{ℕ, List, Option, Some, None, Bool, false, ◌&&◌, cond}
 use Rattle.std.specs.Str.{bytes_eq}
 use Rattle.gn_paths.specs.declared.place.Place.{Place}
-use Rattle.gn_values.specs.Imported.{ImportState}
+use Rattle.gn_definitions.specs.Imported.{ImportState}
 use Rattle.gn_runs.specs.Runs.{Question, content_of, import_of, Content, Imported, is_unusable, Answers, End, ended, wrong, spoiled, needs, Run}
 use Rattle.gn_imports.specs.Rounds.{imported_of}
 use Rattle.gn_items.specs.Effects.{Effects}
@@ -27,6 +27,11 @@ pub record Leaving (A : Type 0) : Type 0 where
   pub value : A
   pub effects : Effects
 
+-- what a unit leaves: what it needs of others, and, of a build configuration, what stands beneath the files that are run behind it
+pub record UnitLeft : Type 0 where
+  pub needs : Done
+  pub beneath : Option ImportState
+
 -- the value alone
 abbrev pub seen_end : {A : Type 0} → End (Leaving A) → End A
 seen_end (ended left) = ended left.value
@@ -43,7 +48,7 @@ pub data Answer : Type 0 where
   import_is : Run (Leaving ImportState) → Answer
   -- the first import without value that it asks for, the place of that call, and what it asked
   no_value : (path : List ℕ) (place : Place) (asked : List Question) → Answer
-  unit_is : Run (Leaving Done) → Answer
+  unit_is : Run (Leaving UnitLeft) → Answer
   record_is : List ℕ → Answer
 
 -- the answers that are known
@@ -74,8 +79,8 @@ imported_in _ = None
 abbrev pub shown : Filed → Layer → Answers
 shown filed l = record { contents = λ path. content_in (filed (Read path)); imports = λ path. imported_in (filed (Import l path)) }
 
-abbrev pub done_in : End (Leaving Done) → Option Done
-done_in (ended left) = Some left.value
+abbrev pub done_in : End (Leaving UnitLeft) → Option Done
+done_in (ended left) = Some left.value.needs
 done_in (wrong f) = None
 done_in (spoiled path place) = None
 done_in (needs q place) = None

@@ -2,7 +2,7 @@
 use Rattle.std.specs.Prelude.{◌≡◌, ℕ, ◌<◌, List, [], ◌∷◌, length, Option, Some, None, ◌⊎◌, ◌↔◌, Bool, true, false, cond, unwrap_or}
 use Rattle.std.specs.List.{IsDistinct}
 use Rattle.gn_paths.specs.declared.place.Place.{Place}
-use Rattle.gn_values.specs.Imported.{ImportState}
+use Rattle.gn_definitions.specs.Imported.{ImportState}
 use Rattle.gn_runs.specs.Runs.{Question, content_of, import_of, Content, End, ended, wrong, spoiled, needs, Run}
 use Rattle.gn_runs.specs.Laws.{IsSettled, IsAsked}
 use Rattle.gn_closure.specs.Closure.{In}

@@ -1,12 +1,12 @@
 -- What the keys mean over one tree: each layer is a project of imports.
 use Rattle.std.specs.Prelude.{ℕ, zero, suc, List, Some, None}
-use Rattle.gn_values.specs.Imported.{ImportState}
+use Rattle.gn_definitions.specs.Imported.{ImportState}
 use Rattle.gn_runs.specs.Runs.{Question, content_of, import_of, Content, Answers, End, ended, wrong, spoiled, needs, Run, IsTree}
 use Rattle.gn_imports.specs.Rounds.{Project, knowing, values, final}
-use Rattle.gn_imports.specs.Loading.{IsProject}
+use Rattle.gn_imports.specs.Projects.{IsProject}
 use Rattle.gn_labels.specs.declared.label.Label.{Label}
-use Rattle.gn_closure.specs.Reach.{Unit_key, Done}
-use Rattle.gn_core.specs.Keys.{Layer, Key, Read, Import, Unit_of, Resolve, Answer, found, import_is, no_value, unit_is, record_is, Filed, layer_of, Leaving, seen}
+use Rattle.gn_closure.specs.Reach.{Unit_key}
+use Rattle.gn_core.specs.Keys.{Layer, Key, Read, Import, Unit_of, Resolve, Answer, found, import_is, no_value, unit_is, record_is, Filed, layer_of, Leaving, UnitLeft, seen}
 
 -- A tree, and evaluations over it. The second argument of an evaluation is the base: of it the evaluation sees units and records that were finished
 -- before it
@@ -14,7 +14,7 @@ pub record World : Type 0 where
   pub content : List ℕ → Content
   pub paths : List (List ℕ)
   pub import_run : Layer → Filed → List ℕ → Answers → Run (Leaving ImportState)
-  pub unit_run : Unit_key → Filed → Answers → Run (Leaving Done)
+  pub unit_run : Unit_key → Filed → Answers → Run (Leaving UnitLeft)
   pub record_of : Label → Filed → List ℕ
   -- the directory of the file that defines a toolchain
   pub home : List ℕ → List ℕ

@@ -16,13 +16,13 @@ abbrev pub IsUsed : List (Horn ℕ) → (ℕ → List ℕ) → Type 0
 IsUsed rs u = (i : ℕ) (r : Horn ℕ) (p : ℕ) → slice_get rs i ≡ Some r → has r.needs p ≡ true → has (u p) i ≡ true
 
 -- each rule all of whose needs hold has given its fact
-abbrev pub IsKept : List (Horn ℕ) → (ℕ → Bool) → (ℕ → Bool) → Type 0
-IsKept rs before after = (i : ℕ) (r : Horn ℕ) → slice_get rs i ≡ Some r → AllIn before r.needs → after r.gives ≡ true
+abbrev pub HaveFired : List (Horn ℕ) → (ℕ → Bool) → (ℕ → Bool) → Type 0
+HaveFired rs before after = (i : ℕ) (r : Horn ℕ) → slice_get rs i ≡ Some r → AllIn before r.needs → after r.gives ≡ true
 
 -- h holds exactly what follows
 pub record IsClosed (rs : List (Horn ℕ)) (h : ℕ → Bool) : Type 0 where
   pub sound : (f : ℕ) → h f ≡ true → Derivable rs f
-  pub closed : IsKept rs h h
+  pub closed : HaveFired rs h h
 
 -- one rule looked at: nothing new, or what it gives
 pub data Fired (o : Option (Horn ℕ)) (h : ℕ → Bool) (old new : List ℕ) : Type 0 where
@@ -43,7 +43,7 @@ pub record FiredAll (rs : List (Horn ℕ)) (h : ℕ → Bool) (seen : ℕ → Ty
 -- the facts that the rules add to those that hold, looked at up to the place k
 pub record Plan (rs : List (Horn ℕ)) (h : ℕ → Bool) (new : List ℕ) (k : ℕ) : Type 0 where
   pub sound : (f : ℕ) → joined h new f ≡ true → Derivable rs f
-  pub closed : IsKept rs (joined h (take k new)) (joined h new)
+  pub closed : HaveFired rs (joined h (take k new)) (joined h new)
   pub within : k ≤ length new
   pub listed : (f : ℕ) → has new f ≡ true → (h f ≡ false) × (has (map (λ r. r.gives) rs) f ≡ true)
 
