@@ -6,12 +6,13 @@ use Rattle.gn_outside.specs.States.{SourceRead, SourceState}
 use Rattle.gn_outside.specs.Lists.{Extends, Each}
 use Rattle.gn_outside.specs.Sources.{plain_reads}
 use Rattle.gn_values.specs.Tables.{Table}
-use Rattle.gn_imports.specs.Loading.{IsOneOf}
+use Rattle.gn_imports.specs.Projects.{IsOneOf}
 use Rattle.gn_closure.specs.Closure.{In}
 use Rattle.gn_closure.specs.Reach.{Unit_key, Setup, Is_reached, Holds}
-use Rattle.gn_core.specs.Keys.{usual, Key, Read, Import, Unit_of, Resolve, Answer, Filed, units}
+use Rattle.gn_core.specs.Keys.{Layer, Key, Read, Import, Unit_of, Resolve, Answer, Filed, units}
 use Rattle.gn_core.specs.Machine.{State, Event, Claim as Claims, IsOver, IsFiled, Runs, replay}
 use Rattle.gn_graph.specs.Needs.{home}
+use Rattle.gn_executions.specs.Base.{BaseState}
 use Rattle.gn_book.specs.Graphs.{is_unit, UnitsHaveNumbers, HasMoreKeys, OnlyUnitsAreNew}
 use Rattle.gn_book.specs.Keys.{key_of}
 use Rattle.gn_book.specs.Logs.{Log, KeysDiffer, opening, state_of, key_at, with_event}
@@ -21,7 +22,7 @@ use Rattle.gn_book.specs.declared.book.Claim.{Claim}
 use Rattle.gn_builds.specs.Worlds.{files_of, world_of}
 use Rattle.gn_builds.specs.Builds.{root}
 use Rattle.gn_builds.specs.Stacks.{IsStacked}
-use Rattle.gn_builds.specs.Driving.{AreNamed, IsDriven, IsBegun, IsClaim, IsGoing, HasRead, ReadsNumbered, one_if, count_of, is_read, paths_read, units_left}
+use Rattle.gn_builds.specs.Driving.{AreNamed, IsDriven, IsBegun, IsClaim, IsGoing, HasRead, ReadsNumbered, one_if, paths_read, unknown_of, units_left}
 use Rattle.gn_builds.specs.Rest.{AreImports}
 use Rattle.gn_builds.proofs.Builds.{two_are_reached}
 use Rattle.gn_builds.proofs.ReadPaths.{over_more, reads_still}
@@ -43,12 +44,6 @@ new_units : (xs zs : List Key) → ((i : ℕ) (k : Key) → slice_get (xs ++ zs)
 new_units [] zs f = behind_units zs (λ i k e. elim (f i k e) [ inl a ↦ absurd (cc a) | inr a ↦ a ])
 new_units (x ∷ xs) zs f = new_units xs zs (λ i k e. f (suc i) k e)
 
-unit_not_read : (k : Key) → is_unit k ≡ true → is_read k ≡ false
-unit_not_read (Read path) e = absurd (true≢false (sym e))
-unit_not_read (Import layer path) e = refl
-unit_not_read (Unit_of unit) e = refl
-unit_not_read (Resolve label) e = refl
-
 none_read : (zs : List Key) → AllUnits zs → paths_read zs ≡ []
 none_read [] u = refl
 none_read (Read path ∷ zs) u = absurd (true≢false (sym u.0))
@@ -63,16 +58,8 @@ same_paths (Import layer path ∷ xs) zs u = same_paths xs zs u
 same_paths (Unit_of unit ∷ xs) zs u = same_paths xs zs u
 same_paths (Resolve label ∷ xs) zs u = same_paths xs zs u
 
-none_counted : (zs : List Key) → AllUnits zs → count_of is_read zs ≡ 0
-none_counted [] u = refl
-none_counted (z ∷ zs) u = let rest = none_counted zs u.1 in let here : one_if (is_read z) ≡ 0 = ap one_if (unit_not_read z u.0) in omega (arith, rest, here)
-
-same_count : (xs zs : List Key) → AllUnits zs → count_of is_read (xs ++ zs) ≡ count_of is_read xs
-same_count [] zs u = none_counted zs u
-same_count (x ∷ xs) zs u = let rest = same_count xs zs u in omega (arith, rest)
-
 -- units that are reached get numbers
-module _ (l m : Log) (d : IsDriven l []) (more : HasMoreKeys l m) (only : OnlyUnitsAreNew l m) (numbers : UnitsHaveNumbers m) (differ : KeysDiffer m) where
+module _ (start : BaseState) (l m : Log) (d : IsDriven start l []) (more : HasMoreKeys l m) (only : OnlyUnitsAreNew l m) (numbers : UnitsHaveNumbers m) (differ : KeysDiffer m) where
   same_state : state_of m ≡ state_of l
   same_state = ap (replay opening) more.events
 
@@ -99,11 +86,11 @@ module _ (l m : Log) (d : IsDriven l []) (more : HasMoreKeys l m) (only : OnlyUn
     kinds = d.named.kinds;
   }
 
-  numbered_driven : IsDriven m []
+  numbered_driven : IsDriven start m []
   numbered_driven = record {
     seats = more.seats ∙ d.seats;
     apart = differ;
-    runs = λ files. subst (λ (es : List Event). Runs (world_of files) (λ path. false) opening es) (sym more.events) (d.runs files);
+    runs = λ files same. subst (λ (es : List Event). Runs (world_of files) (λ path. false) opening es) (sym more.events) (d.runs files same);
     stacked = subst (λ (s : State). IsStacked s []) (sym same_state) d.stacked;
     ready = tt;
     named = subst (λ (s : State). AreNamed m.keys s []) (sym same_state) named_state;
@@ -112,42 +99,45 @@ module _ (l m : Log) (d : IsDriven l []) (more : HasMoreKeys l m) (only : OnlyUn
   all_units : AllUnits more.keys.0
   all_units = new_units l.keys more.keys.0 (λ i k e. only i k (subst (λ (z : List Key). slice_get z i ≡ Some k) (sym more.keys.1) e))
 
-  numbered_source : (before now : SourceState) → HasRead before now l → HasRead before now m
-  numbered_source before now has = record {
+  same_unknown : (known : List (List ℕ)) → unknown_of known (paths_read m.keys) ≡ unknown_of known (paths_read l.keys)
+  same_unknown known = ap (unknown_of known) (ap paths_read more.keys.1 ∙ same_paths l.keys more.keys.0 all_units)
+
+  numbered_source : (known : List (List ℕ)) (before now : SourceState) → HasRead start known before now l → HasRead start known before now m
+  numbered_source known before now has = record {
     tree = has.tree;
     faults = has.faults;
-    reads = subst (λ (ps : List (List ℕ)). Extends before.reads now.reads (plain_reads ps)) (sym (ap paths_read more.keys.1 ∙ same_paths l.keys more.keys.0 all_units)) has.reads;
-    over = λ tree told. subst (λ (es : List Event). IsOver (world_of (files_of tree)) es) (sym more.events) (has.over tree told);
+    reads = subst (λ (ps : List (List ℕ)). Extends before.reads now.reads (plain_reads ps)) (sym (same_unknown known)) has.reads;
+    over = λ tree told. subst (λ (es : List Event). IsOver (world_of (files_of start tree)) es) (sym more.events) (has.over tree told);
   }
 
-  pub numbered_going : (before now : SourceState) (reads : ℕ) → IsGoing before now l [] reads → IsGoing before now m [] reads
-  numbered_going before now reads going = record {
+  pub numbered_going : (known : List (List ℕ)) (before now : SourceState) (reads : ℕ) → IsGoing start known before now l [] reads → IsGoing start known before now m [] reads
+  numbered_going known before now reads going = record {
     driven = numbered_driven;
     claims = tt;
-    source = numbered_source before now going.source;
-    counted = going.counted ∙ sym (ap (count_of is_read) more.keys.1 ∙ same_count l.keys more.keys.0 all_units);
+    source = numbered_source known before now going.source;
+    counted = going.counted ∙ ap (λ (ps : List (List ℕ)). length ps) (sym (same_unknown known));
     few = going.few;
   }
 
 -- the keys of the imports have no other numbers
-pub numbered_imports : (l m : Log) → HasMoreKeys l m → OnlyUnitsAreNew l m → (es : Table ℕ) → AreImports l es → AreImports m es
-numbered_imports l m more only es are = record { numbers = each es are.numbers; all = all; sorted = are.sorted }
+pub numbered_imports : (layer : Layer) (l m : Log) → HasMoreKeys l m → OnlyUnitsAreNew l m → (es : Table ℕ) → AreImports layer l es → AreImports layer m es
+numbered_imports layer l m more only es are = record { numbers = each es are.numbers; all = all; sorted = are.sorted }
   where
-    each : (ds : Table ℕ) → Each (λ (e : List ℕ × ℕ). slice_get l.keys e.1 ≡ Some (Import (usual []) e.0)) ds → Each (λ (e : List ℕ × ℕ). slice_get m.keys e.1 ≡ Some (Import (usual []) e.0)) ds
+    each : (ds : Table ℕ) → Each (λ (e : List ℕ × ℕ). slice_get l.keys e.1 ≡ Some (Import layer e.0)) ds → Each (λ (e : List ℕ × ℕ). slice_get m.keys e.1 ≡ Some (Import layer e.0)) ds
     each [] has = tt
     each (e ∷ ds) has =
-        (subst (λ (ks : List Key). slice_get ks e.1 ≡ Some (Import (usual []) e.0)) (sym more.keys.1) (get_more l.keys more.keys.0 e.1 (Import (usual []) e.0) has.0), each ds has.1)
+        (subst (λ (ks : List Key). slice_get ks e.1 ≡ Some (Import layer e.0)) (sym more.keys.1) (get_more l.keys more.keys.0 e.1 (Import layer e.0) has.0), each ds has.1)
 
-    all : (path : List ℕ) → In m.keys (Import (usual []) path) → IsOneOf path (keys_of es)
+    all : (path : List ℕ) → In m.keys (Import layer path) → IsOneOf path (keys_of es)
     all path i =
-        let at = number_of m.keys (Import (usual []) path) i in
-        elim (only at.0 (Import (usual []) path) at.1) [ inl a ↦ are.all path (found_number l.keys at.0 (Import (usual []) path) a) | inr a ↦ absurd (true≢false (sym a)) ]
+        let at = number_of m.keys (Import layer path) i in
+        elim (only at.0 (Import layer path) at.1) [ inl a ↦ are.all path (found_number l.keys at.0 (Import layer path) a) | inr a ↦ absurd (true≢false (sym a)) ]
 
 -- A unit is taken up
 
 -- no label has a number, so what comes next is a unit
-pub ready_unit : (l : Log) (n : ℕ) → IsDriven l [] → IsReadyNumber l n → is_unit (key_at l n) ≡ true
-ready_unit l n d ready = by (key_at l n) ready.task (in_at l.keys n ready.number)
+pub ready_unit : (start : BaseState) (l : Log) (n : ℕ) → IsDriven start l [] → IsReadyNumber l n → is_unit (key_at l n) ≡ true
+ready_unit start l n d ready = by (key_at l n) ready.task (in_at l.keys n ready.number)
   where
     by : (k : Key) → is_task k ≡ true → In l.keys k → is_unit k ≡ true
     by (Read path) task i = task
@@ -155,12 +145,12 @@ ready_unit l n d ready = by (key_at l n) ready.task (in_at l.keys n ready.number
     by (Unit_of unit) task i = refl
     by (Resolve label) task i = absurd (d.named.labels label i)
 
-module _ (before now : SourceState) (l : Log) (n : ℕ) (c : Claim) (reads : ℕ) (going : IsGoing before now l [] reads) (numbers : UnitsHaveNumbers l) (ready : IsReadyNumber l n) (key : key_of c.key ≡ key_at l n) (seat : c.seat ≡ 0) (number : c.number ≡ n) where
+module _ (start : BaseState) (known : List (List ℕ)) (before now : SourceState) (l : Log) (n : ℕ) (c : Claim) (reads : ℕ) (going : IsGoing start known before now l [] reads) (numbers : UnitsHaveNumbers l) (ready : IsReadyNumber l n) (key : key_of c.key ≡ key_at l n) (seat : c.seat ≡ 0) (number : c.number ≡ n) where
   abbrev begun_log : Log
   begun_log = with_event l (Claims 0 (key_at l n))
 
-  begun_driven : IsDriven begun_log (key_at l n ∷ [])
-  begun_driven = (step_begun l n going.driven numbers ready (in_at l.keys n ready.number)).0
+  begun_driven : IsDriven start begun_log (key_at l n ∷ [])
+  begun_driven = (step_begun start l n going.driven numbers ready (in_at l.keys n ready.number)).0
 
   begun_claim : IsClaim begun_log c
   begun_claim = record {
@@ -172,15 +162,15 @@ module _ (before now : SourceState) (l : Log) (n : ℕ) (c : Claim) (reads : ℕ
     key = key ∙ ap (key_at l) (sym number);
   }
 
-  pub begun_going : IsGoing before now begun_log (c ∷ []) reads
+  pub begun_going : IsGoing start known before now begun_log (c ∷ []) reads
   begun_going = record {
-    driven = subst (λ (k : Key). IsDriven begun_log (k ∷ [])) (sym key) begun_driven;
+    driven = subst (λ (k : Key). IsDriven start begun_log (k ∷ [])) (sym key) begun_driven;
     claims = (begun_claim, tt);
     source = record {
       tree = going.source.tree;
       faults = going.source.faults;
       reads = going.source.reads;
-      over = λ tree told. over_more (world_of (files_of tree)) l.events (Claims 0 (key_at l n)) (going.source.over tree told) tt;
+      over = λ tree told. over_more (world_of (files_of start tree)) l.events (Claims 0 (key_at l n)) (going.source.over tree told) tt;
     };
     counted = going.counted;
     few = going.few;
@@ -211,11 +201,11 @@ fewer_left old new k (inr e) none filed stays =
     omega (arith, first, second)
 
 -- the unit that was claimed has its answer once the seat has no claim
-pub finished_fewer : (old new : Log) (k : Key) → IsDriven old (k ∷ []) → IsDriven new [] → is_unit k ≡ true → ((q : Key) → IsBegun (state_of old) q → IsBegun (state_of new) q) → units_left (state_of new).filed < units_left (state_of old).filed
-finished_fewer old new (Read path) d done unit stays = absurd (true≢false (sym unit))
-finished_fewer old new (Import layer path) d done unit stays = absurd (true≢false (sym unit))
-finished_fewer old new (Resolve label) d done unit stays = absurd (true≢false (sym unit))
-finished_fewer old new (Unit_of u) d done unit stays =
+pub finished_fewer : (start : BaseState) (old new : Log) (k : Key) → IsDriven start old (k ∷ []) → IsDriven start new [] → is_unit k ≡ true → ((q : Key) → IsBegun (state_of old) q → IsBegun (state_of new) q) → units_left (state_of new).filed < units_left (state_of old).filed
+finished_fewer start old new (Read path) d done unit stays = absurd (true≢false (sym unit))
+finished_fewer start old new (Import layer path) d done unit stays = absurd (true≢false (sym unit))
+finished_fewer start old new (Resolve label) d done unit stays = absurd (true≢false (sym unit))
+finished_fewer start old new (Unit_of u) d done unit stays =
     fewer_left (state_of old).filed (state_of new).filed u (d.named.units u (d.named.claimed (Unit_of u) (inl refl))) (d.stacked.unfiled (Unit_of u) (inl refl))
     (filed (Unit_of u) (stays (Unit_of u) (inr (0, d.stacked.held (Unit_of u) (inl refl))))) (λ q f. filed q (stays q (inl f)))
   where
@@ -251,15 +241,16 @@ nothing_stacked = record {
   waits = λ k b e. absurd (cc e);
 }
 
-nothing_driven : IsDriven no_log []
-nothing_driven = record { seats = refl; apart = λ i j q a b. absurd (cc a); runs = λ files. tt; stacked = nothing_stacked; ready = tt; named = nothing_named }
+nothing_driven : (start : BaseState) → IsDriven start no_log []
+nothing_driven start = record { seats = refl; apart = λ i j q a b. absurd (cc a); runs = λ files same. tt; stacked = nothing_stacked; ready = tt; named = nothing_named }
 
-pub starts_going : (now : SourceState) → IsGoing now now no_log [] 0
-starts_going now = record {
-  driven = nothing_driven;
+pub starts_going : (start : BaseState) (known : List (List ℕ)) (now : SourceState) → IsGoing start known now now no_log [] 0
+unfolding unknown_of
+starts_going start known now = record {
+  driven = nothing_driven start;
   claims = tt;
   source = record { tree = refl; faults = refl; reads = nothing_read; over = λ tree told. tt };
-  counted = refl;
+  counted = ap (λ (ps : List (List ℕ)). length ps) (sym none_unknown);
   few = omega arith;
 }
   where
@@ -267,9 +258,12 @@ starts_going now = record {
     no_more None = refl
     no_more (Some reads) = ap Some (sym (append-nil reads))
 
-    nothing_read : Extends now.reads now.reads (plain_reads [])
-    nothing_read = no_more now.reads
+    none_unknown : unknown_of known [] ≡ []
+    none_unknown = refl
+
+    nothing_read : Extends now.reads now.reads (plain_reads (unknown_of known []))
+    nothing_read = subst (λ (ps : List (List ℕ)). Extends now.reads now.reads (plain_reads ps)) (sym none_unknown) (no_more now.reads)
 
 -- and nothing was read
-pub nothing_numbered : (now : SourceState) → ReadsNumbered now now
-nothing_numbered now = reads_still now now no_log [] nothing_driven (starts_going now).source
+pub nothing_numbered : (start : BaseState) (known : List (List ℕ)) (now : SourceState) → ReadsNumbered start known now now
+nothing_numbered start known now = reads_still start known now now no_log [] (nothing_driven start) (starts_going start known now).source

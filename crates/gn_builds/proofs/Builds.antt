@@ -2,11 +2,10 @@
 use Rattle.std.proofs.Common.{◌≡◌, ◌⊎◌, inl, inr, ◌↔◌, ℕ, List, [], ◌∷◌, Some, false, refl, sym, ◌∙◌, ap, subst}
 use Rattle.std.proofs.lemmas.Option.{same_Some}
 use Rattle.gn_paths.specs.declared.place.Place.{Place}
-use Rattle.gn_values.specs.Imported.{ImportState}
-use Rattle.gn_runs.specs.Runs.{Question, content_of, import_of, End, ended, wrong, spoiled, needs}
+use Rattle.gn_definitions.specs.Imported.{ImportState}
+use Rattle.gn_runs.specs.Runs.{Question, content_of, import_of, Answers, End, ended, wrong, spoiled, needs, Run}
 use Rattle.gn_runs.specs.Laws.{IsAsked}
 use Rattle.gn_imports.specs.Rounds.{knowing, values, final}
-use Rattle.gn_imports.proofs.Asked.{all_asked_least}
 use Rattle.gn_imports.proofs.Final.{needs_no_content}
 use Rattle.gn_imports.specs.Causes.{link, link_of, outcome}
 use Rattle.gn_closure.specs.Closure.{In}
@@ -15,8 +14,8 @@ use Rattle.gn_closure.specs.Reach.{first, root as root_rule, own, target, depend
 use Rattle.gn_closure.proofs.GroundRules.{one}
 use Rattle.gn_labels.specs.Toolchains.{toolchain_named}
 use Rattle.gn_meaning.specs.Steps.{Left}
-use Rattle.gn_core.specs.Keys.{Layer, early, usual, Key, Import, Unit_of, Answer, unit_is, Leaving, layer_of, key_of, units, done_in, seen_end}
-use Rattle.gn_core.specs.Worlds.{project, last_run, import_as, true_meaning, all_meanings}
+use Rattle.gn_core.specs.Keys.{Layer, early, usual, Key, Read, Import, Unit_of, Answer, unit_is, Leaving, UnitLeft, Filed, layer_of, key_of, units, unit_in, done_in, seen_end}
+use Rattle.gn_core.specs.Worlds.{project, last_run, import_as, below, true_meaning, all_meanings}
 use Rattle.gn_core.specs.Machine.{Event, replay, IsFiled, IsNeeded, IsQuiet}
 use Rattle.gn_core.specs.Statements.{Wanted, IsLoadingRun}
 use Rattle.gn_core.proofs.Lowered.{filed_are_meanings}
@@ -27,9 +26,10 @@ use Rattle.gn_book.specs.Logs.{opening}
 use Rattle.gn_builds.proofs.Logs.{opens}
 use Rattle.gn_graph.specs.Needs.{home}
 use Rattle.gn_executions.specs.Units.{load_execution}
-use Rattle.gn_executions.specs.Base.{plain_base}
-use Rattle.gn_builds.specs.Worlds.{Files, world_of, left_end, import_of_layer, nothing_needed}
-use Rattle.gn_builds.specs.Builds.{root, no_answers, project_of, build_run, questions, IsLoading, filed_by, NeedNothing, TwoAreReached, EndedHasBuild, EndedHasAsked, link_in, LinksAreFiled}
+use Rattle.gn_executions.specs.Setups.{setup_execution}
+use Rattle.gn_executions.specs.Base.{BaseState}
+use Rattle.gn_builds.specs.Worlds.{Files, world_of, left_end, base_of_layer, configuration_leaves, file_leaves, import_of_layer, unit_over, unit_of_key, nothing_needed, stage_of}
+use Rattle.gn_builds.specs.Builds.{root, early_project_of, setup_run, early_questions, setup_filed, project_of, build_run, questions, behind_setup, file_questions, IsSetUp, IsLoading, filed_by, NeedNothing, TwoAreReached, EndedHasSetup, EndedHasBuild, EndedHasAsked, link_in, LinksAreFiled}
 use Rattle.gn_builds.proofs.Layered.{import_tree, today_is_layered}
 
 -- the default toolchain's file is that of the source root
@@ -38,9 +38,13 @@ unfolding home toolchain_named
 home_root = refl
 
 module _ (a : Units) (nothing : NeedNothing a) where
+  -- the build configuration is done
+  abbrev IsConfigured : Type 0
+  IsConfigured = (d : Done) × (a (Setup []) ≡ Some (Some d))
+
   -- what may hold
   abbrev IsToday : Fact → Type 0
-  IsToday (Is_reached k) = (k ≡ Setup []) ⊎ (k ≡ root)
+  IsToday (Is_reached k) = (k ≡ Setup []) ⊎ ((k ≡ root) × IsConfigured)
   IsToday (Is_wanted dir toolchain) = (dir ≡ source_root) × (toolchain ≡ [])
   IsToday (Is_generated label) = ⊥
 
@@ -67,7 +71,7 @@ module _ (a : Units) (nothing : NeedNothing a) where
   by_rules _ _ _ (load d dir) facts tolds =
       let is = default_is (Setup []) d (tolds (told (Setup []) d) (inl refl)) in
       let there = facts (Is_wanted dir d.default) (inl refl) in
-      inr (λ i. Load (there.0 i) (is i))
+      inr (λ i. Load (there.0 i) (is i), (d, tolds (told (Setup []) d) (inl refl)))
   by_rules _ _ _ (want_home d dir toolchain apart) facts tolds =
       absurd (apart ((facts (Is_wanted dir toolchain) (inl refl)).1 ∙ sym (default_is (Setup []) d (tolds (told (Setup []) d) (inl refl)))))
   by_rules _ _ _ (setup d u dir c apart i) facts tolds = absurd (no_toolchain (Load (home c.name) d.default) u c (tolds (told (Load (home c.name) d.default) u) (inr (inl refl))) i)
@@ -77,15 +81,57 @@ module _ (a : Units) (nothing : NeedNothing a) where
   holds_today : (f : Fact) → Holds home a f → IsToday f
   holds_today f (by_rule fs ts f' rule facts reached tolds) = by_rules fs ts f' rule (λ g i. holds_today g (facts g i)) tolds
 
+-- the build file is reached where the build configuration is done
+pub reached_configured : (a : Units) → NeedNothing a → (k : Unit_key) → Holds home a (Is_reached k) → (k ≡ Setup []) ⊎ ((k ≡ root) × ((d : Done) × (a (Setup []) ≡ Some (Some d))))
+reached_configured a nothing k h = holds_today a nothing (Is_reached k) h
+
 pub two_are_reached : TwoAreReached
-two_are_reached a nothing = ((λ k h. holds_today a nothing (Is_reached k) h), (λ label h. holds_today a nothing (Is_generated label) h))
+two_are_reached a nothing = (
+  (λ k h. elim (reached_configured a nothing k h) [ inl e ↦ inl e | inr e ↦ inr e.0 ]),
+  (λ label h. holds_today a nothing (Is_generated label) h),
+)
 
 -- the meanings of units need nothing
-pub left_nothing : {A : Type 0} (end : End (Left A)) (d : Done) → done_in (left_end (λ (value : A). nothing_needed) end) ≡ Some d → d ≡ nothing_needed
-left_nothing (ended left) d e = sym (same_Some nothing_needed d e)
-left_nothing (wrong fault) d e = absurd (cc e)
-left_nothing (spoiled path place) d e = absurd (cc e)
-left_nothing (needs question place) d e = absurd (cc e)
+left_nothing : {A : Type 0} (f : A → UnitLeft) → ((x : A) → (f x).needs ≡ nothing_needed) → (end : End (Left A)) (d : Done) → done_in (left_end f end) ≡ Some d → d ≡ nothing_needed
+left_nothing f none (ended left) d e = sym (same_Some (f left.value).needs d e) ∙ none left.value
+left_nothing f none (wrong fault) d e = absurd (cc e)
+left_nothing f none (spoiled path place) d e = absurd (cc e)
+left_nothing f none (needs question place) d e = absurd (cc e)
+
+pub unit_nothing : (base : BaseState) (k : Unit_key) (a : Answers) (d : Done) → done_in (unit_over base k a).end ≡ Some d → d ≡ nothing_needed
+unit_nothing base (Setup toolchain) a d e = left_nothing configuration_leaves (λ value. refl) (setup_execution base toolchain a).end d e
+unit_nothing base (Load dir toolchain) a d e = left_nothing file_leaves (λ value. refl) (load_execution base dir toolchain a).end d e
+
+-- a unit that has left something is done
+done_left : (end : End (Leaving UnitLeft)) (left : Leaving UnitLeft) → end ≡ ended left → done_in end ≡ Some left.value.needs
+done_left end left e = ap done_in e
+
+left_done : (end : End (Leaving UnitLeft)) (d : Done) → done_in end ≡ Some d → (left : Leaving UnitLeft) × (end ≡ ended left)
+left_done (ended left) d e = (left, refl)
+left_done (wrong fault) d e = absurd (cc e)
+left_done (spoiled path place) d e = absurd (cc e)
+left_done (needs question place) d e = absurd (cc e)
+
+set_up_left : (end : End (Leaving UnitLeft)) → IsSetUp end → (left : Leaving UnitLeft) × (end ≡ ended left)
+set_up_left (ended left) h = (left, refl)
+set_up_left (wrong fault) h = absurd h
+set_up_left (spoiled path place) h = absurd h
+set_up_left (needs question place) h = absurd h
+
+left_set_up : (end : End (Leaving UnitLeft)) (left : Leaving UnitLeft) → end ≡ ended left → IsSetUp end
+left_set_up end left e = subst IsSetUp (sym e) tt
+
+asked_behind : (end : End (Leaving UnitLeft)) (asked : List Question) (q : Question) → IsSetUp end → IsAsked asked q → IsAsked (behind_setup end asked) q
+asked_behind (ended left) asked q h i = i
+asked_behind (wrong fault) asked q h i = absurd h
+asked_behind (spoiled path place) asked q h i = absurd h
+asked_behind (needs question place) asked q h i = absurd h
+
+behind_asked : (end : End (Leaving UnitLeft)) (asked : List Question) (q : Question) → IsAsked (behind_setup end asked) q → IsSetUp end × IsAsked asked q
+behind_asked (ended left) asked q i = (tt, i)
+behind_asked (wrong fault) asked q i = absurd i
+behind_asked (spoiled path place) asked q i = absurd i
+behind_asked (needs question place) asked q i = absurd i
 
 -- the link of a filed import
 link_as : (end : End (Leaving ImportState)) (asked : List Question) → ((q : List ℕ) (p : Place) → end ≡ needs (content_of q) p → ⊥) → link_in (import_as end asked) ≡ link_of (seen_end end)
@@ -95,77 +141,131 @@ link_as (spoiled path place) asked h = refl
 link_as (needs (content_of path) place) asked h = absurd (h path place refl)
 link_as (needs (import_of path) place) asked h = refl
 
-same_question : (l : Layer) (q r : Question) → key_of l q ≡ key_of l r → q ≡ r
-same_question l (content_of path) (content_of other) e = let same : path ≡ other = cc e in ap content_of same
-same_question l (content_of path) (import_of other) e = absurd (cc e)
-same_question l (import_of path) (content_of other) e = absurd (cc e)
-same_question l (import_of path) (import_of other) e = let same : path ≡ other = cc e in ap import_of same
+-- a question of one layer is none of another but for a content
+other_import : (l m : Layer) (path : List ℕ) (q : Question) → (l ≡ m → ⊥) → Import l path ≡ key_of m q → ⊥
+other_import l m path (content_of other) apart e = cc e
+other_import l m path (import_of other) apart e = let same : l ≡ m = cc e in apart same
+
+import_asked : (l : Layer) (path : List ℕ) (q : Question) → Import l path ≡ key_of l q → q ≡ import_of path
+import_asked l path (content_of other) e = absurd (cc e)
+import_asked l path (import_of other) e = let same : path ≡ other = cc e in ap import_of (sym same)
+
+content_asked : (m : Layer) (path : List ℕ) (q : Question) → Read path ≡ key_of m q → q ≡ content_of path
+content_asked m path (content_of other) e = let same : path ≡ other = cc e in ap content_of (sym same)
+content_asked m path (import_of other) e = absurd (cc e)
 
 module _ (files : Files) where
-  nothing_needed_at : (k : Unit_key) (d : Done) → units (all_meanings (world_of files)) k ≡ Some (Some d) → d ≡ nothing_needed
-  nothing_needed_at (Setup toolchain) d e = sym (same_Some nothing_needed d (same_Some (Some nothing_needed) (Some d) e))
-  nothing_needed_at (Load dir toolchain) d e =
-      let end : End (Left (Unit {0})) = (load_execution plain_base dir toolchain (final (project (world_of files) no_answers (usual toolchain)))).end in
-      left_nothing end d (same_Some (done_in (left_end (λ (value : Unit {0}). nothing_needed) end)) (Some d) e)
+  abbrev meant : Units
+  meant = units (all_meanings (world_of files))
 
-  setup_reached : Holds home (units (all_meanings (world_of files))) (Is_reached (Setup []))
+  nothing_needed_at : (k : Unit_key) (d : Done) → meant k ≡ Some (Some d) → d ≡ nothing_needed
+  nothing_needed_at k d e =
+      let base : Filed = below (world_of files) (stage_of (Unit_of k)) in
+      let run : Run (Leaving UnitLeft) = unit_of_key files.start base k (final (project (world_of files) base (layer_of k))) in
+      let done : done_in run.end ≡ Some d = same_Some (done_in run.end) (Some d) e in
+      unit_nothing (base_of_layer files.start base (layer_of k)) k (final (project (world_of files) base (layer_of k))) d done
+
+  setup_meant : true_meaning (world_of files) (Unit_of (Setup [])) ≡ unit_is (setup_run files)
+  unfolding setup_run
+  setup_meant = refl
+
+  setup_done : meant (Setup []) ≡ Some (done_in (setup_run files).end)
+  setup_done = ap (λ (v : Answer). unit_in (Some v)) setup_meant
+
+  setup_reached : Holds home meant (Is_reached (Setup []))
   setup_reached = by_rule [] [] (Is_reached (Setup [])) first (λ g i. absurd i) (λ t i. absurd i) (λ t i. absurd i)
 
-  setup_told : (t : Told) → In (told (Setup []) nothing_needed ∷ []) t → units (all_meanings (world_of files)) t.unit ≡ Some (Some t.done)
-  setup_told t i = one (λ (z : Told). units (all_meanings (world_of files)) z.unit ≡ Some (Some z.done)) (told (Setup []) nothing_needed) refl t i
+  -- where the build configuration has left something the build file is reached
+  module _ (left : Leaving UnitLeft) (is : (setup_run files).end ≡ ended left) where
+    done : meant (Setup []) ≡ Some (Some left.value.needs)
+    done = setup_done ∙ ap Some (done_left (setup_run files).end left is)
 
-  setup_reaches : (t : Told) → In (told (Setup []) nothing_needed ∷ []) t → Holds home (units (all_meanings (world_of files))) (Is_reached t.unit)
-  setup_reaches t i = one (λ (z : Told). Holds home (units (all_meanings (world_of files))) (Is_reached z.unit)) (told (Setup []) nothing_needed) setup_reached t i
+    nothing_left : left.value.needs ≡ nothing_needed
+    nothing_left = nothing_needed_at (Setup []) left.value.needs done
 
-  root_wanted : Holds home (units (all_meanings (world_of files))) (Is_wanted source_root [])
-  root_wanted = by_rule [] (told (Setup []) nothing_needed ∷ []) (Is_wanted source_root []) (root_rule nothing_needed) (λ g i. absurd i) setup_reaches setup_told
+    setup_told : (t : Told) → In (told (Setup []) nothing_needed ∷ []) t → meant t.unit ≡ Some (Some t.done)
+    setup_told t i = one (λ (z : Told). meant z.unit ≡ Some (Some z.done)) (told (Setup []) nothing_needed) (done ∙ ap (λ (d : Done). Some (Some d)) nothing_left) t i
 
-  root_reached : Holds home (units (all_meanings (world_of files))) (Is_reached root)
-  root_reached =
-      by_rule (Is_wanted source_root [] ∷ []) (told (Setup []) nothing_needed ∷ []) (Is_reached root) (load nothing_needed source_root)
-      (λ g i. one (λ (z : Fact). Holds home (units (all_meanings (world_of files))) z) (Is_wanted source_root []) root_wanted g i) setup_reaches setup_told
+    setup_reaches : (t : Told) → In (told (Setup []) nothing_needed ∷ []) t → Holds home meant (Is_reached t.unit)
+    setup_reaches t i = one (λ (z : Told). Holds home meant (Is_reached z.unit)) (told (Setup []) nothing_needed) setup_reached t i
 
-  -- what the build file asks
+    root_wanted : Holds home meant (Is_wanted source_root [])
+    root_wanted = by_rule [] (told (Setup []) nothing_needed ∷ []) (Is_wanted source_root []) (root_rule nothing_needed) (λ g i. absurd i) setup_reaches setup_told
+
+    root_reached : Holds home meant (Is_reached root)
+    root_reached =
+        by_rule (Is_wanted source_root [] ∷ []) (told (Setup []) nothing_needed ∷ []) (Is_reached root) (load nothing_needed source_root)
+        (λ g i. one (λ (z : Fact). Holds home meant z) (Is_wanted source_root []) root_wanted g i) setup_reaches setup_told
+
+  -- what the units ask
   asks_root : (q : Question) → IsAsked (unit_asks (world_of files) root) q → IsAsked (questions files) q
-  unfolding unit_asks questions build_run
+  unfolding unit_asks questions build_run setup_run
   asks_root q i = i
 
   root_asks : (q : Question) → IsAsked (questions files) q → IsAsked (unit_asks (world_of files) root) q
-  unfolding unit_asks questions build_run
+  unfolding unit_asks questions build_run setup_run
   root_asks q i = i
 
-  asks_none : (q : Question) → IsAsked (unit_asks (world_of files) (Setup [])) q → ⊥
-  unfolding unit_asks
-  asks_none q i = all_asked_least (project (world_of files) (all_meanings (world_of files)) (early [])) (λ r. ⊥) (λ path n r j. n) [] (λ r j. j) q i
+  asks_setup : (q : Question) → IsAsked (unit_asks (world_of files) (Setup [])) q → IsAsked (early_questions files) q
+  unfolding unit_asks early_questions setup_run
+  asks_setup q i = i
 
-  pub needed_asked : (q : Question) → IsNeeded (world_of files) (all_meanings (world_of files)) (key_of (usual []) q) → IsAsked (questions files) q
-  needed_asked q n =
-      let r = unit_needed (world_of files) (today_is_layered files) (key_of (usual []) q) n in
-      elim ((two_are_reached (units (all_meanings (world_of files))) nothing_needed_at).0 r.0 r.1) [
-        | inl s ↦ absurd (asks_none r.2 (subst (λ (u : Unit_key). IsAsked (unit_asks (world_of files) u) r.2) s r.4))
-        | inr s ↦ by_root r.2 (subst (λ (u : Unit_key). key_of (usual []) q ≡ key_of (layer_of u) r.2) s r.3) (subst (λ (u : Unit_key). IsAsked (unit_asks (world_of files) u) r.2) s r.4)
+  setup_asks : (q : Question) → IsAsked (early_questions files) q → IsAsked (unit_asks (world_of files) (Setup [])) q
+  unfolding unit_asks early_questions setup_run
+  setup_asks q i = i
+
+  -- a needed key is asked by the build configuration, or by the build file behind it
+  abbrev IsAskedBy : Key → Type 0
+  IsAskedBy k =
+      ((q : Question) × (k ≡ key_of (early []) q) × IsAsked (early_questions files) q)
+      ⊎ ((q : Question) × (k ≡ key_of (usual []) q) × IsAsked (file_questions files) q)
+
+  needed_asked : (k : Key) → IsNeeded (world_of files) (all_meanings (world_of files)) k → IsAskedBy k
+  needed_asked k n =
+      let r = unit_needed (world_of files) (today_is_layered files) k n in
+      elim (reached_configured meant nothing_needed_at r.0 r.1) [
+        | inl s ↦ inl (r.2, subst (λ (u : Unit_key). k ≡ key_of (layer_of u) r.2) s r.3, asks_setup r.2 (subst (λ (u : Unit_key). IsAsked (unit_asks (world_of files) u) r.2) s r.4))
+        | inr s ↦ inr (r.2, subst (λ (u : Unit_key). k ≡ key_of (layer_of u) r.2) s.0 r.3, by_root s.1 r.2 (subst (λ (u : Unit_key). IsAsked (unit_asks (world_of files) u) r.2) s.0 r.4))
       ]
     where
-      by_root : (o : Question) → key_of (usual []) q ≡ key_of (usual []) o → IsAsked (unit_asks (world_of files) root) o → IsAsked (questions files) q
-      by_root o e i = subst (λ (z : Question). IsAsked (questions files) z) (sym (same_question (usual []) q o e)) (asks_root o i)
+      by_root : (d : Done) × (meant (Setup []) ≡ Some (Some d)) → (o : Question) → IsAsked (unit_asks (world_of files) root) o → IsAsked (file_questions files) o
+      by_root configured o i =
+          let done : done_in (setup_run files).end ≡ Some configured.0 = cc (sym setup_done ∙ configured.1) in
+          let left = left_done (setup_run files).end configured.0 done in
+          asked_behind (setup_run files).end (questions files) o (left_set_up (setup_run files).end left.0 left.1) (asks_root o i)
 
-  pub wanted_needed : (q : Question) → Wanted (world_of files) (key_of (usual []) q) → IsNeeded (world_of files) (all_meanings (world_of files)) (key_of (usual []) q)
-  wanted_needed (content_of path) h = h
-  wanted_needed (import_of path) h = h
+  pub needed_read : (path : List ℕ) → IsNeeded (world_of files) (all_meanings (world_of files)) (Read path) → IsAsked (early_questions files) (content_of path) ⊎ IsAsked (file_questions files) (content_of path)
+  needed_read path n = elim (needed_asked (Read path) n) [
+    | inl a ↦ inl (subst (IsAsked (early_questions files)) (content_asked (early []) path a.0 a.1) a.2)
+    | inr a ↦ inr (subst (IsAsked (file_questions files)) (content_asked (usual []) path a.0 a.1) a.2)
+  ]
 
-  needed_wanted : (q : Question) → IsNeeded (world_of files) (all_meanings (world_of files)) (key_of (usual []) q) → Wanted (world_of files) (key_of (usual []) q)
-  needed_wanted (content_of path) h = h
-  needed_wanted (import_of path) h = h
+  setup_needed : (q : Question) → IsAsked (early_questions files) q → IsNeeded (world_of files) (all_meanings (world_of files)) (key_of (early []) q)
+  setup_needed q i = needed_unit (world_of files) (today_is_layered files) (Setup []) setup_reached q (setup_asks q i)
+
+  file_needed : (q : Question) → IsAsked (file_questions files) q → IsNeeded (world_of files) (all_meanings (world_of files)) (key_of (usual []) q)
+  file_needed q i =
+      let behind = behind_asked (setup_run files).end (questions files) q i in
+      let left = set_up_left (setup_run files).end behind.0 in
+      needed_unit (world_of files) (today_is_layered files) root (root_reached left.0 left.1) q (root_asks q behind.1)
 
   build_meant : true_meaning (world_of files) (Unit_of root) ≡ unit_is (build_run files)
-  unfolding build_run
+  unfolding build_run setup_run
   build_meant = refl
 
   link_meant : (path : List ℕ) → link_in (true_meaning (world_of files) (Import (usual []) path)) ≡ link (project_of files) path
-  unfolding last_run outcome
+  unfolding last_run outcome setup_run
   link_meant path =
-      link_as (import_of_layer (usual []) path (knowing (project_of files) (values (project_of files)))).end (import_of_layer (usual []) path (knowing (project_of files) (values (project_of files)))).asked
-      (λ q p h. needs_no_content (project_of files) (λ answers. import_of_layer (usual []) path answers) (import_tree (usual []) path) (values (project_of files)) q p h)
+      let base : BaseState = base_of_layer files.start (setup_filed files) (usual []) in
+      let run : Run (Leaving ImportState) = import_of_layer base (usual []) path (knowing (project_of files) (values (project_of files))) in
+      link_as run.end run.asked (λ q p h. needs_no_content (project_of files) (λ answers. import_of_layer base (usual []) path answers) (import_tree base (usual []) path) (values (project_of files)) q p h)
+
+  early_link_meant : (path : List ℕ) → link_in (true_meaning (world_of files) (Import (early []) path)) ≡ link (early_project_of files) path
+  unfolding last_run outcome
+  early_link_meant path =
+      let run : Run (Leaving ImportState) = import_of_layer files.start (early []) path (knowing (early_project_of files) (values (early_project_of files))) in
+      link_as run.end run.asked
+      (λ q p h. needs_no_content (early_project_of files) (λ answers. import_of_layer files.start (early []) path answers) (import_tree files.start (early []) path) (values (early_project_of files)) q p h)
 
 -- a run
 module _ (files : Files) (es : List Event) (loading : IsLoading files es) where
@@ -183,23 +283,52 @@ module _ (files : Files) (es : List Event) (loading : IsLoading files es) where
     wanted_filed : (k : Key) → Wanted (world_of files) k → IsFiled (filed_by es) k
     wanted_filed k h = (quiet_is_whole (world_of files) (λ path. false) opening es run quiet k).1 (inl h)
 
-    has_build : filed_by es (Unit_of root) ≡ Some (unit_is (build_run files))
-    has_build =
-        let filed = wanted_filed (Unit_of root) (root_reached files) in
+    has_setup : filed_by es (Unit_of (Setup [])) ≡ Some (unit_is (setup_run files))
+    has_setup =
+        let filed = wanted_filed (Unit_of (Setup [])) (setup_reached files) in
+        filed.1 ∙ ap Some (is_meaning (Unit_of (Setup [])) filed.0 filed.1 ∙ setup_meant files)
+
+    has_build : IsSetUp (setup_run files).end → filed_by es (Unit_of root) ≡ Some (unit_is (build_run files))
+    has_build h =
+        let left = set_up_left (setup_run files).end h in
+        let filed = wanted_filed (Unit_of root) (root_reached files left.0 left.1) in
         filed.1 ∙ ap Some (is_meaning (Unit_of root) filed.0 filed.1 ∙ build_meant files)
 
-    has_asked : (q : Question) → IsFiled (filed_by es) (key_of (usual []) q) ↔ IsAsked (questions files) q
-    has_asked q = (
-      λ h. needed_asked files q (wanted_needed files q (filed_wanted (key_of (usual []) q) h)),
-      λ h. wanted_filed (key_of (usual []) q) (needed_wanted files q (needed_unit (world_of files) (today_is_layered files) root (root_reached files) q (root_asks files q h))),
+    has_read : (path : List ℕ) → IsFiled (filed_by es) (Read path) ↔ IsAsked (early_questions files) (content_of path) ⊎ IsAsked (file_questions files) (content_of path)
+    has_read path = (
+      λ h. needed_read files path (filed_wanted (Read path) h),
+      λ h. wanted_filed (Read path) (elim h [ inl i ↦ setup_needed files (content_of path) i | inr i ↦ file_needed files (content_of path) i ]),
     )
 
+    has_early : (path : List ℕ) → IsFiled (filed_by es) (Import (early []) path) ↔ IsAsked (early_questions files) (import_of path)
+    has_early path = (
+      λ h. elim (needed_asked files (Import (early []) path) (filed_wanted (Import (early []) path) h)) [
+        | inl a ↦ subst (IsAsked (early_questions files)) (import_asked (early []) path a.0 a.1) a.2
+        | inr a ↦ absurd (other_import (early []) (usual []) path a.0 (λ e. cc e) a.1)
+      ],
+      λ i. wanted_filed (Import (early []) path) (setup_needed files (import_of path) i),
+    )
+
+    has_usual : (path : List ℕ) → IsFiled (filed_by es) (Import (usual []) path) ↔ IsAsked (file_questions files) (import_of path)
+    has_usual path = (
+      λ h. elim (needed_asked files (Import (usual []) path) (filed_wanted (Import (usual []) path) h)) [
+        | inl a ↦ absurd (other_import (usual []) (early []) path a.0 (λ e. cc e) a.1)
+        | inr a ↦ subst (IsAsked (file_questions files)) (import_asked (usual []) path a.0 a.1) a.2
+      ],
+      λ i. wanted_filed (Import (usual []) path) (file_needed files (import_of path) i),
+    )
+
+pub ended_has_setup : EndedHasSetup
+ended_has_setup files es has_ended = has_setup files es has_ended.0 has_ended.1
+
 pub ended_has_build : EndedHasBuild
-ended_has_build files es has_ended = has_build files es has_ended.0 has_ended.1
+ended_has_build files es has_ended h = has_build files es has_ended.0 has_ended.1 h
 
 pub ended_has_asked : EndedHasAsked
-ended_has_asked files es has_ended =
-    ((λ path. has_asked files es has_ended.0 has_ended.1 (content_of path)), (λ path. has_asked files es has_ended.0 has_ended.1 (import_of path)))
+ended_has_asked files es has_ended = (has_read files es has_ended.0 has_ended.1, has_early files es has_ended.0 has_ended.1, has_usual files es has_ended.0 has_ended.1)
 
 pub links_are_filed : LinksAreFiled
-links_are_filed files es loading path v e = ap link_in (is_meaning files es loading (Import (usual []) path) v e) ∙ link_meant files path
+links_are_filed files es loading = (
+  λ path v e. ap link_in (is_meaning files es loading (Import (early []) path) v e) ∙ early_link_meant files path,
+  λ path v e. ap link_in (is_meaning files es loading (Import (usual []) path) v e) ∙ link_meant files path,
+)

@@ -4,10 +4,9 @@ use Rattle.std.specs.List.{list_any}
 use Rattle.std.proofs.lemmas.Bool.{or_left, or_right}
 use Rattle.std.specs.Prelude.{is_some}
 use Rattle.gn_closure.specs.Closure.{In}
-use Rattle.gn_core.specs.Keys.{Key, Read, Import, Unit_of, Resolve, Answer, Filed, usual, same_key, put}
-use Rattle.gn_core.specs.Machine.{read_limit}
+use Rattle.gn_core.specs.Keys.{Layer, early, usual, Key, Read, Import, Unit_of, Resolve, Answer, Filed, same_key, put}
 use Rattle.gn_core.proofs.Puts.{same_key_is, key_own, put_own}
-use Rattle.gn_builds.specs.Driving.{one_if, count_of, is_read, is_awaited, is_open, room, remaining}
+use Rattle.gn_builds.specs.Driving.{one_if, count_of, is_awaited, is_open, remaining}
 
 pub in_more : (ks : List Key) (k q : Key) → In (ks ++ k ∷ []) q → In ks q ⊎ (k ≡ q)
 in_more [] k q (inl e) = inr e
@@ -80,9 +79,9 @@ open_less filed k v ks none once i =
         by true e = absurd (apart (same_key_is k q e))
         by false e = refl
 
-pub settled_less : (names : List Key) (filed : Filed) (k : Key) (v : Answer) → filed k ≡ None → IsOnce names → In names k → remaining names (put filed k (Some v)) < remaining names filed
+pub settled_less : (room : ℕ) (names : List Key) (filed : Filed) (k : Key) (v : Answer) → filed k ≡ None → IsOnce names → In names k → remaining room names (put filed k (Some v)) < remaining room names filed
 unfolding remaining
-settled_less names filed k v none once i = let less = open_less filed k v names none once i in omega (arith, less)
+settled_less room names filed k v none once i = let less = open_less filed k v names none once i in omega (arith, less)
 
 any_more : (names : List Key) (k q : Key) → list_any (same_key q) (names ++ k ∷ []) ≡ (list_any (same_key q) names || same_key q k)
 any_more [] k q = last (same_key q k)
@@ -100,63 +99,86 @@ at_most_one : (b : Bool) → one_if b ≤ 1
 at_most_one true = omega arith
 at_most_one false = omega arith
 
--- an import is claimed whose file was read
-module _ (names : List Key) (path : List ℕ) (new : list_any (same_key (Import (usual []) path)) names ≡ false) (once : IsOnce names) (read : In names (Read path)) (filed : Filed) where
+or_none : (c : Bool) → (c || false) ≡ c
+or_none true = refl
+or_none false = refl
+
+-- an import of a layer is claimed whose file was read
+module _ (layer : Layer) (names : List Key) (path : List ℕ) where
   abbrev more : List Key
-  more = names ++ Import (usual []) path ∷ []
+  more = names ++ Import layer path ∷ []
 
-  awaited_other : (q : Key) → (Read path ≡ q → ⊥) → is_awaited names q ≡ is_awaited more q
-  awaited_other (Read other) apart =
-      sym (ap not (any_more names (Import (usual []) path) (Import (usual []) other) ∙ by (same_key (Import (usual []) other) (Import (usual []) path)) refl))
+  -- of another layer no more and no fewer are awaited
+  other_layer : (m : Layer) → (m ≡ layer → ⊥) → (q : Key) → is_awaited m more q ≡ is_awaited m names q
+  other_layer m apart (Read other) =
+      ap not (any_more names (Import layer path) (Import m other) ∙ by (same_key (Import m other) (Import layer path)) refl)
     where
-      by : (b : Bool) → same_key (Import (usual []) other) (Import (usual []) path) ≡ b → (list_any (same_key (Import (usual []) other)) names || b) ≡ list_any (same_key (Import (usual []) other)) names
-      by true e = let same : other ≡ path = cc (same_key_is (Import (usual []) other) (Import (usual []) path) e) in absurd (apart (ap Read (sym same)))
-      by false e = or_none (list_any (same_key (Import (usual []) other)) names)
-        where
-          or_none : (c : Bool) → (c || false) ≡ c
-          or_none true = refl
-          or_none false = refl
-  awaited_other (Import layer other) apart = refl
-  awaited_other (Unit_of unit) apart = refl
-  awaited_other (Resolve label) apart = refl
+      by : (b : Bool) → same_key (Import m other) (Import layer path) ≡ b → (list_any (same_key (Import m other)) names || b) ≡ list_any (same_key (Import m other)) names
+      by true e = let same : m ≡ layer = cc (same_key_is (Import m other) (Import layer path) e) in absurd (apart same)
+      by false e = or_none (list_any (same_key (Import m other)) names)
+  other_layer m apart (Import l other) = refl
+  other_layer m apart (Unit_of unit) = refl
+  other_layer m apart (Resolve label) = refl
 
-  awaited_less : count_of (is_awaited names) names ≡ suc (count_of (is_awaited more) names)
-  awaited_less =
-      count_less (is_awaited names) (is_awaited more) (Read path) (ap not new)
-      (ap not (any_in more (Import (usual []) path) (in_new names (Import (usual []) path)))) awaited_other names once read
+  module _ (new : list_any (same_key (Import layer path)) names ≡ false) (once : IsOnce names) (read : In names (Read path)) where
+    awaited_other : (q : Key) → (Read path ≡ q → ⊥) → is_awaited layer names q ≡ is_awaited layer more q
+    awaited_other (Read other) apart =
+        sym (ap not (any_more names (Import layer path) (Import layer other) ∙ by (same_key (Import layer other) (Import layer path)) refl))
+      where
+        by : (b : Bool) → same_key (Import layer other) (Import layer path) ≡ b → (list_any (same_key (Import layer other)) names || b) ≡ list_any (same_key (Import layer other)) names
+        by true e = let same : other ≡ path = cc (same_key_is (Import layer other) (Import layer path) e) in absurd (apart (ap Read (sym same)))
+        by false e = or_none (list_any (same_key (Import layer other)) names)
+    awaited_other (Import l other) apart = refl
+    awaited_other (Unit_of unit) apart = refl
+    awaited_other (Resolve label) apart = refl
 
-  pub waiting_less : remaining more filed < remaining names filed
-  unfolding remaining room
-  waiting_less =
-      let reads = count_more is_read names (Import (usual []) path) in
-      let awaits = count_more (is_awaited more) names (Import (usual []) path) in
-      let opens = count_more (is_open filed) names (Import (usual []) path) in
-      let one = at_most_one (is_open filed (Import (usual []) path)) in
-      let fewer = awaited_less in
-      omega (arith, reads, awaits, opens, one, fewer)
+    awaited_less : count_of (is_awaited layer names) names ≡ suc (count_of (is_awaited layer more) names)
+    awaited_less =
+        count_less (is_awaited layer names) (is_awaited layer more) (Read path) (ap not new)
+        (ap not (any_in more (Import layer path) (in_new names (Import layer path)))) awaited_other names once read
 
--- a file is to be read
+pub early_less : (room : ℕ) (names : List Key) (path : List ℕ) → list_any (same_key (Import (early []) path)) names ≡ false → IsOnce names → In names (Read path) → (filed : Filed) → remaining room (names ++ Import (early []) path ∷ []) filed < remaining room names filed
+unfolding remaining
+early_less room names path new once read filed =
+    let awaits = count_more (is_awaited (early []) (more (early []) names path)) names (Import (early []) path) in
+    let others = count_more (is_awaited (usual []) (more (early []) names path)) names (Import (early []) path) in
+    let same = count_same (is_awaited (usual []) (more (early []) names path)) (is_awaited (usual []) names) names (λ q i. other_layer (early []) names path (usual []) (λ e. cc e) q) in
+    let opens = count_more (is_open filed) names (Import (early []) path) in
+    let one = at_most_one (is_open filed (Import (early []) path)) in
+    let fewer = awaited_less (early []) names path new once read in
+    omega (arith, awaits, others, same, opens, one, fewer)
+
+pub usual_less : (room : ℕ) (names : List Key) (path : List ℕ) → list_any (same_key (Import (usual []) path)) names ≡ false → IsOnce names → In names (Read path) → (filed : Filed) → remaining room (names ++ Import (usual []) path ∷ []) filed < remaining room names filed
+unfolding remaining
+usual_less room names path new once read filed =
+    let awaits = count_more (is_awaited (usual []) (more (usual []) names path)) names (Import (usual []) path) in
+    let others = count_more (is_awaited (early []) (more (usual []) names path)) names (Import (usual []) path) in
+    let same = count_same (is_awaited (early []) (more (usual []) names path)) (is_awaited (early []) names) names (λ q i. other_layer (usual []) names path (early []) (λ e. cc e) q) in
+    let opens = count_more (is_open filed) names (Import (usual []) path) in
+    let one = at_most_one (is_open filed (Import (usual []) path)) in
+    let fewer = awaited_less (usual []) names path new once read in
+    omega (arith, awaits, others, same, opens, one, fewer)
+
+-- a file is to be read, or to be taken of those that were read before
 module _ (names : List Key) (path : List ℕ) where
   abbrev longer : List Key
   longer = names ++ Read path ∷ []
 
-  same_awaited : (q : Key) → is_awaited longer q ≡ is_awaited names q
-  same_awaited (Read other) = ap not (any_more names (Read path) (Import (usual []) other) ∙ or_no (list_any (same_key (Import (usual []) other)) names))
-    where
-      or_no : (c : Bool) → (c || false) ≡ c
-      or_no true = refl
-      or_no false = refl
-  same_awaited (Import layer other) = refl
-  same_awaited (Unit_of unit) = refl
-  same_awaited (Resolve label) = refl
+  same_awaited : (layer : Layer) (q : Key) → is_awaited layer longer q ≡ is_awaited layer names q
+  same_awaited layer (Read other) = ap not (any_more names (Read path) (Import layer other) ∙ or_none (list_any (same_key (Import layer other)) names))
+  same_awaited layer (Import l other) = refl
+  same_awaited layer (Unit_of unit) = refl
+  same_awaited layer (Resolve label) = refl
 
-  pub reading_less : (filed : Filed) → count_of is_read names ≤ read_limit → remaining longer filed < remaining names filed
-  unfolding remaining room
-  reading_less filed few =
-      let reads = count_more is_read names (Read path) in
-      let awaits = count_more (is_awaited longer) names (Read path) in
-      let same = count_same (is_awaited longer) (is_awaited names) names (λ q i. same_awaited q) in
-      let small = at_most_one (is_awaited longer (Read path)) in
+  pub reading_less : (room : ℕ) (filed : Filed) → remaining room longer filed < remaining (suc room) names filed
+  unfolding remaining
+  reading_less room filed =
+      let early_awaits = count_more (is_awaited (early []) longer) names (Read path) in
+      let early_same = count_same (is_awaited (early []) longer) (is_awaited (early []) names) names (λ q i. same_awaited (early []) q) in
+      let early_small = at_most_one (is_awaited (early []) longer (Read path)) in
+      let awaits = count_more (is_awaited (usual []) longer) names (Read path) in
+      let same = count_same (is_awaited (usual []) longer) (is_awaited (usual []) names) names (λ q i. same_awaited (usual []) q) in
+      let small = at_most_one (is_awaited (usual []) longer (Read path)) in
       let opens = count_more (is_open filed) names (Read path) in
       let kept = at_most_one (is_open filed (Read path)) in
-      omega (arith, reads, awaits, same, small, opens, kept, few)
+      omega (arith, early_awaits, early_same, early_small, awaits, same, small, opens, kept)

@@ -1,6 +1,7 @@
 -- The steps of loading by one seat, with its claims and its reads.
-use Rattle.std.proofs.Common.{◌≡◌, ◌⊎◌, inl, inr, ℕ, ◌+◌, ◌<◌, ◌≤◌, List, [], ◌∷◌, ◌++◌, Some, None, Bool, true, false, if◌then◌else◌, refl, sym, ◌∙◌, ap, subst, arith}
+use Rattle.std.proofs.Common.{◌≡◌, ◌⊎◌, inl, inr, ℕ, suc, ◌+◌, ◌<◌, ◌≤◌, List, [], ◌∷◌, ◌++◌, length, Some, None, Bool, true, false, if◌then◌else◌, refl, sym, ◌∙◌, ap, subst, arith}
 use Rattle.std.specs.List.{list_any}
+use Rattle.std.proofs.lemmas.List.{length-append}
 use Rattle.gn_paths.specs.declared.place.Place.{Place}
 use Rattle.gn_outside.specs.Tree.{Tree, read_of}
 use Rattle.gn_outside.specs.States.{SourceState}
@@ -8,6 +9,8 @@ use Rattle.gn_outside.specs.Lists.{Extends}
 use Rattle.gn_outside.specs.Sources.{plain_reads}
 use Rattle.gn_runs.specs.Runs.{Question, Content}
 use Rattle.gn_closure.specs.Closure.{In}
+use Rattle.gn_environment.specs.Chains.{is_one_of}
+use Rattle.gn_executions.specs.Base.{BaseState}
 use Rattle.gn_core.specs.Keys.{Layer, Key, Read, Import, Unit_of, Resolve, Answer, found, no_value, same_key}
 use Rattle.gn_core.specs.Machine.{State, Block, File, Leads, IsOver, IsOverEvent, read_limit}
 use Rattle.gn_core.proofs.Puts.{put_other}
@@ -16,9 +19,10 @@ use Rattle.gn_book.specs.Logs.{Log, state_of, key_at, with_key, with_event, IsFr
 use Rattle.gn_book.specs.declared.book.Claim.{Claim}
 use Rattle.gn_builds.specs.Worlds.{files_of, world_of, content_in}
 use Rattle.gn_builds.specs.Working.{IsRightOver, IsInNeed, AsksContent}
-use Rattle.gn_builds.specs.Driving.{IsDriven, keys_of, IsClaim, AreClaims, IsLacked, IsGoing, HasRead, one_if, count_of, is_read, paths_read, left_to_do, ReadsNumbered, FailsAt, HasTooMany}
+use Rattle.gn_builds.specs.Driving.{IsDriven, keys_of, IsClaim, AreClaims, IsLacked, IsGoing, HasRead, is_read, paths_read, unknown_of, left_to_do, ReadsNumbered, FailsAt, HasTooMany}
 use Rattle.gn_builds.proofs.Layered.{tree_content}
-use Rattle.gn_builds.proofs.Counts.{any_in, count_more}
+use Rattle.gn_builds.proofs.Counts.{any_in}
+use Rattle.gn_builds.proofs.Unknown.{unknown_more, unknown_same}
 use Rattle.gn_builds.proofs.PlainReads.{one_read}
 use Rattle.gn_builds.proofs.ReadPaths.{over_more, paths_more, paths_same, read_numbered, read_fails, read_lost, read_known}
 use Rattle.gn_builds.proofs.Named.{is_new}
@@ -65,15 +69,15 @@ blocked_claim l k on place closes c is = record {
 }
 
 -- what the first claim needs is lacked
-pub going_lacks : (before now : SourceState) (l : Log) (c : Claim) (cs : List Claim) (reads : ℕ) → IsGoing before now l (c ∷ cs) reads
-    → (on : Key) (place : Place) (asked : List Question) → IsInNeed (state_of l).filed (key_of c.key) on place asked → IsLacked l c on
-going_lacks before now l c cs reads going on place asked need = record {
-  unfiled = needed_lacks l.keys (state_of l) (keys_of (c ∷ cs)) going.driven.named (key_of c.key) on place asked need;
+pub going_lacks : (start : BaseState) (known : List (List ℕ)) (before now : SourceState) (l : Log) (c : Claim) (cs : List Claim) (reads : ℕ) → IsGoing start known before now l (c ∷ cs) reads
+    → (on : Key) (place : Place) (asked : List Question) → IsInNeed start (state_of l).filed (key_of c.key) on place asked → IsLacked l c on
+going_lacks start known before now l c cs reads going on place asked need = record {
+  unfiled = needed_lacks start l.keys (state_of l) (keys_of (c ∷ cs)) going.driven.named (key_of c.key) on place asked need;
   leads = λ seat e. leads_first (state_of l) (key_of c.key) (keys_of cs) going.driven.stacked.chained on (going.driven.stacked.alone on seat e).1;
 }
 
 -- The answer of the first claim is filed
-module _ (before now : SourceState) (l : Log) (c : Claim) (cs : List Claim) (reads : ℕ) (v : Answer) (going : IsGoing before now l (c ∷ cs) reads) where
+module _ (start : BaseState) (known : List (List ℕ)) (before now : SourceState) (l : Log) (c : Claim) (cs : List Claim) (reads : ℕ) (v : Answer) (going : IsGoing start known before now l (c ∷ cs) reads) where
   abbrev settled_log : Log
   settled_log = with_event l (File 0 (key_of c.key) v)
 
@@ -82,10 +86,10 @@ module _ (before now : SourceState) (l : Log) (c : Claim) (cs : List Claim) (rea
       (λ x i is. filed_claim l (key_of c.key) v x (λ e. first_apart (state_of l) (key_of c.key) (keys_of cs) going.driven.stacked.chained (subst (λ (z : Key). In (keys_of cs) z) e (in_keys cs x i))) is)
       going.claims.1
 
-  pub going_settled : IsRightOver (state_of l).filed (key_of c.key) v → ((tree : Tree) → before.tree ≡ Some tree → IsOverEvent (world_of (files_of tree)) (File 0 (key_of c.key) v))
-      → IsGoing before now settled_log cs reads × (left_to_do settled_log < left_to_do l)
-  going_settled right over =
-      let step = step_settled l (key_of c.key) (keys_of cs) v going.driven right in (
+  pub going_settled : (room : ℕ) → IsRightOver start (state_of l).filed (key_of c.key) v → ((tree : Tree) → before.tree ≡ Some tree → IsOverEvent (world_of (files_of start tree)) (File 0 (key_of c.key) v))
+      → IsGoing start known before now settled_log cs reads × (left_to_do room settled_log < left_to_do room l)
+  going_settled room right over =
+      let step = step_settled start l (key_of c.key) (keys_of cs) v going.driven room right in (
         record {
           driven = step.0;
           claims = others;
@@ -93,7 +97,7 @@ module _ (before now : SourceState) (l : Log) (c : Claim) (cs : List Claim) (rea
             tree = going.source.tree;
             faults = going.source.faults;
             reads = going.source.reads;
-            over = λ tree told. over_more (world_of (files_of tree)) l.events (File 0 (key_of c.key) v) (going.source.over tree told) (over tree told);
+            over = λ tree told. over_more (world_of (files_of start tree)) l.events (File 0 (key_of c.key) v) (going.source.over tree told) (over tree told);
           };
           counted = going.counted;
           few = going.few;
@@ -102,50 +106,47 @@ module _ (before now : SourceState) (l : Log) (c : Claim) (cs : List Claim) (rea
       )
 
 -- one more key that is no read
-not_read_more : (l : Log) (k : Key) → is_read k ≡ false → (count_of is_read (with_key l k).keys ≡ count_of is_read l.keys) × (paths_read (with_key l k).keys ≡ paths_read l.keys)
+not_read_more : (l : Log) (k : Key) → is_read k ≡ false → paths_read (with_key l k).keys ≡ paths_read l.keys
 not_read_more l k no_read = by (list_any (same_key k) l.keys)
   where
-    by : (b : Bool) → (count_of is_read (if b then l.keys else l.keys ++ k ∷ []) ≡ count_of is_read l.keys) × (paths_read (if b then l.keys else l.keys ++ k ∷ []) ≡ paths_read l.keys)
-    by true = (refl, refl)
-    by false =
-        let more = count_more is_read l.keys k in
-        let none : one_if (is_read k) ≡ 0 = ap one_if no_read in
-        (omega (arith, more, none), paths_same l.keys k no_read)
+    by : (b : Bool) → paths_read (if b then l.keys else l.keys ++ k ∷ []) ≡ paths_read l.keys
+    by true = refl
+    by false = paths_same l.keys k no_read
 
 -- The first claim waits for an import
-module _ (before now : SourceState) (l : Log) (c other : Claim) (cs : List Claim) (reads : ℕ) (m : Layer) (path : List ℕ) (place : Place) (asked : List Question) (going : IsGoing before now l (c ∷ cs) reads) (need : IsInNeed (state_of l).filed (key_of c.key) (Import m path) place asked) (content : AsksContent (Import m path) asked) where
+module _ (start : BaseState) (known : List (List ℕ)) (before now : SourceState) (l : Log) (c other : Claim) (cs : List Claim) (reads : ℕ) (m : Layer) (path : List ℕ) (place : Place) (asked : List Question) (going : IsGoing start known before now l (c ∷ cs) reads) (need : IsInNeed start (state_of l).filed (key_of c.key) (Import m path) place asked) (content : AsksContent (Import m path) asked) where
   abbrev taken : Log
   taken = with_event (with_key l (Import m path)) (Block 0 (key_of c.key) (Import m path) place false)
 
-  pub going_waits : IsFree (state_of l) (Import m path) → IsClaim taken other → key_of other.key ≡ Import m path
-      → IsGoing before now taken (other ∷ c ∷ cs) reads × (left_to_do taken < left_to_do l)
-  going_waits free claim is =
-      let step = step_waits l (key_of c.key) (Import m path) (keys_of cs) place asked going.driven need content free.unfiled free (omega (arith, going.counted, going.few)) in
+  pub going_waits : (room : ℕ) → IsFree (state_of l) (Import m path) → IsClaim taken other → key_of other.key ≡ Import m path
+      → IsGoing start known before now taken (other ∷ c ∷ cs) reads × (left_to_do room taken < left_to_do room l)
+  going_waits room free claim is =
+      let step = step_waits start l (key_of c.key) (Import m path) (keys_of cs) place asked going.driven need content free.unfiled room free in
       let more = not_read_more l (Import m path) refl in (
         record {
-          driven = subst (λ (z : Key). IsDriven taken (z ∷ key_of c.key ∷ keys_of cs)) (sym is) step.0;
+          driven = subst (λ (z : Key). IsDriven start taken (z ∷ key_of c.key ∷ keys_of cs)) (sym is) step.0;
           claims = (claim, each_claim l taken (c ∷ cs) (λ x i has. blocked_claim (with_key l (Import m path)) (key_of c.key) (Import m path) place false x (named_claim l (Import m path) x has)) going.claims);
           source = record {
             tree = going.source.tree;
             faults = going.source.faults;
-            reads = subst (λ (ps : List (List ℕ)). Extends before.reads now.reads (plain_reads ps)) (sym more.1) going.source.reads;
-            over = λ tree told. over_more (world_of (files_of tree)) l.events (Block 0 (key_of c.key) (Import m path) place false) (going.source.over tree told) tt;
+            reads = subst (λ (ps : List (List ℕ)). Extends before.reads now.reads (plain_reads (unknown_of known ps))) (sym more) going.source.reads;
+            over = λ tree told. over_more (world_of (files_of start tree)) l.events (Block 0 (key_of c.key) (Import m path) place false) (going.source.over tree told) tt;
           };
-          counted = going.counted ∙ sym more.0;
+          counted = going.counted ∙ ap (λ (ps : List (List ℕ)). length (unknown_of known ps)) (sym more);
           few = going.few;
         },
         step.1,
       )
 
 -- or its wait closes a cycle
-module _ (before now : SourceState) (l : Log) (c : Claim) (cs : List Claim) (reads : ℕ) (m : Layer) (path : List ℕ) (place : Place) (asked : List Question) (going : IsGoing before now l (c ∷ cs) reads) (need : IsInNeed (state_of l).filed (key_of c.key) (Import m path) place asked) (content : AsksContent (Import m path) asked) (none : (state_of l).filed (Import m path) ≡ None) where
+module _ (start : BaseState) (known : List (List ℕ)) (before now : SourceState) (l : Log) (c : Claim) (cs : List Claim) (reads : ℕ) (m : Layer) (path : List ℕ) (place : Place) (asked : List Question) (going : IsGoing start known before now l (c ∷ cs) reads) (need : IsInNeed start (state_of l).filed (key_of c.key) (Import m path) place asked) (content : AsksContent (Import m path) asked) (none : (state_of l).filed (Import m path) ≡ None) where
   abbrev shut : Log
   shut = with_event (with_key l (Import m path)) (Block 0 (key_of c.key) (Import m path) place true)
 
   abbrev closed_log : Log
   closed_log = with_event shut (File 0 (key_of c.key) (no_value path place asked))
 
-  not_read : (z : Key) → IsInNeed (state_of l).filed z (Import m path) place asked → (tree : Tree) → IsOverEvent (world_of (files_of tree)) (File 0 z (no_value path place asked))
+  not_read : (z : Key) → IsInNeed start (state_of l).filed z (Import m path) place asked → (tree : Tree) → IsOverEvent (world_of (files_of start tree)) (File 0 z (no_value path place asked))
   not_read (Read p) n tree = absurd n
   not_read (Import layer p) n tree = tt
   not_read (Unit_of u) n tree = tt
@@ -157,10 +158,10 @@ module _ (before now : SourceState) (l : Log) (c : Claim) (cs : List Claim) (rea
       ap (λ b. if b then l.keys else l.keys ++ Import m path ∷ [])
       (any_in l.keys (Import m path) (going.driven.named.claimed (Import m path) (leads_from (state_of l) (key_of c.key) (keys_of cs) going.driven.stacked (Import m path) leads)))
 
-  pub going_closes : Leads (state_of l).blocks (Import m path) (key_of c.key)
-      → IsGoing before now closed_log cs reads × (left_to_do closed_log < left_to_do l)
-  going_closes leads =
-      let step = step_closes l (key_of c.key) (Import m path) (keys_of cs) place asked going.driven need content none leads m path refl in
+  pub going_closes : (room : ℕ) → Leads (state_of l).blocks (Import m path) (key_of c.key)
+      → IsGoing start known before now closed_log cs reads × (left_to_do room closed_log < left_to_do room l)
+  going_closes room leads =
+      let step = step_closes start l (key_of c.key) (Import m path) (keys_of cs) place asked going.driven need content none room leads m path refl in
       let more = not_read_more l (Import m path) refl in (
         record {
           driven = step.0;
@@ -171,18 +172,18 @@ module _ (before now : SourceState) (l : Log) (c : Claim) (cs : List Claim) (rea
           source = record {
             tree = going.source.tree;
             faults = going.source.faults;
-            reads = subst (λ (ps : List (List ℕ)). Extends before.reads now.reads (plain_reads ps)) (sym more.1) going.source.reads;
-            over = λ tree told. over_more (world_of (files_of tree)) shut.events (File 0 (key_of c.key) (no_value path place asked))
-                (over_more (world_of (files_of tree)) l.events (Block 0 (key_of c.key) (Import m path) place true) (going.source.over tree told) tt) (not_read (key_of c.key) need tree);
+            reads = subst (λ (ps : List (List ℕ)). Extends before.reads now.reads (plain_reads (unknown_of known ps))) (sym more) going.source.reads;
+            over = λ tree told. over_more (world_of (files_of start tree)) shut.events (File 0 (key_of c.key) (no_value path place asked))
+                (over_more (world_of (files_of start tree)) l.events (Block 0 (key_of c.key) (Import m path) place true) (going.source.over tree told) tt) (not_read (key_of c.key) need tree);
           };
-          counted = going.counted ∙ sym more.0;
+          counted = going.counted ∙ ap (λ (ps : List (List ℕ)). length (unknown_of known ps)) (sym more);
           few = going.few;
         },
         step.1,
       )
 
 -- The first claim needs what there is at a path: its file is read
-module _ (before was now : SourceState) (l : Log) (c : Claim) (cs : List Claim) (reads : ℕ) (path : List ℕ) (place : Place) (asked : List Question) (going : IsGoing before was l (c ∷ cs) reads) (need : IsInNeed (state_of l).filed (key_of c.key) (Read path) place asked) (free : IsFree (state_of l) (Read path)) where
+module _ (start : BaseState) (known : List (List ℕ)) (before was now : SourceState) (l : Log) (c : Claim) (cs : List Claim) (reads : ℕ) (path : List ℕ) (place : Place) (asked : List Question) (going : IsGoing start known before was l (c ∷ cs) reads) (need : IsInNeed start (state_of l).filed (key_of c.key) (Read path) place asked) (free : IsFree (state_of l) (Read path)) where
   abbrev named_log : Log
   named_log = with_key l (Read path)
 
@@ -203,50 +204,85 @@ module _ (before was now : SourceState) (l : Log) (c : Claim) (cs : List Claim) 
   grown_paths : paths_read named_log.keys ≡ paths_read l.keys ++ path ∷ []
   grown_paths = ap paths_read grown_keys ∙ paths_more l.keys path
 
-  driven_reading : IsDriven reading (Read path ∷ key_of c.key ∷ keys_of cs) × (left_to_do reading < left_to_do l)
-  driven_reading = step_waits l (key_of c.key) (Read path) (keys_of cs) place asked going.driven need tt free.unfiled free (omega (arith, going.counted, going.few))
+  pub driven_reading : (room : ℕ) → IsDriven start reading (Read path ∷ key_of c.key ∷ keys_of cs) × (left_to_do room reading < left_to_do (suc room) l)
+  driven_reading room = step_waits start l (key_of c.key) (Read path) (keys_of cs) place asked going.driven need tt free.unfiled room free
 
-  over_reading : (tree : Tree) → before.tree ≡ Some tree → IsOver (world_of (files_of tree)) reading.events
-  over_reading tree told = over_more (world_of (files_of tree)) l.events (Block 0 (key_of c.key) (Read path) place false) (going.source.over tree told) tt
+  over_reading : (tree : Tree) → before.tree ≡ Some tree → IsOver (world_of (files_of start tree)) reading.events
+  over_reading tree told = over_more (world_of (files_of start tree)) l.events (Block 0 (key_of c.key) (Read path) place false) (going.source.over tree told) tt
 
-  -- what it has read
-  module _ (tree_same : now.tree ≡ was.tree) where
-    pub read_fails_at : Extends was.reads now.reads (one_read path true ∷ []) → was.faults < now.faults → ReadsNumbered before now × FailsAt path before now
-    read_fails_at recorded rose = (
-      read_numbered before was now l reading (Read path ∷ key_of c.key ∷ keys_of cs) path going.source driven_reading.0 over_reading grown_paths tree_same true recorded rose,
-      read_fails before was now l reading (Read path ∷ key_of c.key ∷ keys_of cs) path going.source driven_reading.0 over_reading grown_paths tree_same recorded rose,
+  claims_read : (content : Content) → AreClaims (read_log content) (c ∷ cs)
+  claims_read content = each_claim l (read_log content) (c ∷ cs) (λ x i has.
+      filed_claim reading (Read path) (found content) x
+      (λ e. first_apart (state_of reading) (Read path) (key_of c.key ∷ keys_of cs) (driven_reading 0).0.stacked.chained (subst (λ (z : Key). In (key_of c.key ∷ keys_of cs) z) e (in_keys (c ∷ cs) x i)))
+      (blocked_claim named_log (key_of c.key) (Read path) place false x (named_claim l (Read path) x has))) going.claims
+
+  settled_read : (content : Content) (room : ℕ) → IsDriven start (read_log content) (key_of c.key ∷ keys_of cs) × (left_to_do room (read_log content) < left_to_do room reading)
+  settled_read content room = step_settled start reading (Read path) (key_of c.key ∷ keys_of cs) (found content) (driven_reading room).0 room (content, refl)
+
+  read_less : (content : Content) (room : ℕ) → left_to_do room (read_log content) < left_to_do (suc room) l
+  read_less content room =
+      let settled = (settled_read content room).1 in
+      let read = (driven_reading room).1 in
+      omega (arith, settled, read)
+
+  over_read : (content : Content) → ((tree : Tree) → before.tree ≡ Some tree → content ≡ content_in (read_of tree path)) → (tree : Tree) → before.tree ≡ Some tree → IsOver (world_of (files_of start tree)) (read_log content).events
+  over_read content is tree told =
+      over_more (world_of (files_of start tree)) reading.events (File 0 (Read path) (found content)) (over_reading tree told) (ap found (is tree told ∙ sym (tree_content start tree path)))
+
+  -- it was read before: nothing is read
+  module _ (old : is_one_of path known ≡ true) (same_source : now ≡ was) (content : Content) (is : (tree : Tree) → before.tree ≡ Some tree → content ≡ content_in (read_of tree path)) where
+    same_paths : unknown_of known (paths_read (read_log content).keys) ≡ unknown_of known (paths_read l.keys)
+    same_paths = ap (unknown_of known) grown_paths ∙ unknown_same known (paths_read l.keys) path old
+
+    pub going_takes : (room : ℕ) → IsGoing start known before now (read_log content) (c ∷ cs) reads × (left_to_do room (read_log content) < left_to_do (suc room) l)
+    going_takes room = (
+      record {
+        driven = (settled_read content room).0;
+        claims = claims_read content;
+        source = record {
+          tree = ap (λ (s : SourceState). s.tree) same_source ∙ going.source.tree;
+          faults = ap (λ (s : SourceState). s.faults) same_source ∙ going.source.faults;
+          reads = subst (λ (s : SourceState). Extends before.reads s.reads (plain_reads (unknown_of known (paths_read (read_log content).keys)))) (sym same_source)
+              (subst (λ (ps : List (List ℕ)). Extends before.reads was.reads (plain_reads ps)) (sym same_paths) going.source.reads);
+          over = over_read content is;
+        };
+        counted = going.counted ∙ ap (λ (ps : List (List ℕ)). length ps) (sym same_paths);
+        few = going.few;
+      },
+      read_less content room,
     )
 
-    pub read_is_lost : Extends was.reads now.reads (plain_reads (path ∷ [])) ⊎ (now.reads ≡ was.reads) → now.faults ≡ was.faults → ReadsNumbered before now × (now.faults ≡ before.faults)
+  -- it wasn't known: what the source has read
+  module _ (new : is_one_of path known ≡ false) (tree_same : now.tree ≡ was.tree) where
+    grown_unknown : unknown_of known (paths_read reading.keys) ≡ unknown_of known (paths_read l.keys) ++ path ∷ []
+    grown_unknown = ap (unknown_of known) grown_paths ∙ unknown_more known (paths_read l.keys) path new
+
+    pub read_fails_at : Extends was.reads now.reads (one_read path true ∷ []) → was.faults < now.faults → ReadsNumbered start known before now × FailsAt path before now
+    read_fails_at recorded rose = (
+      read_numbered start known before was now l reading (Read path ∷ key_of c.key ∷ keys_of cs) path going.source (driven_reading 0).0 over_reading grown_unknown tree_same true recorded rose,
+      read_fails start known before was now l reading (Read path ∷ key_of c.key ∷ keys_of cs) path going.source (driven_reading 0).0 over_reading grown_unknown tree_same recorded rose,
+    )
+
+    pub read_is_lost : Extends was.reads now.reads (plain_reads (path ∷ [])) ⊎ (now.reads ≡ was.reads) → now.faults ≡ was.faults → ReadsNumbered start known before now × (now.faults ≡ before.faults)
     read_is_lost recorded same =
-        (read_lost before was now l reading (Read path ∷ key_of c.key ∷ keys_of cs) path going.source driven_reading.0 over_reading grown_paths tree_same recorded same, same ∙ going.source.faults)
+        (read_lost start known before was now l reading (Read path ∷ key_of c.key ∷ keys_of cs) path going.source (driven_reading 0).0 over_reading grown_unknown tree_same recorded same, same ∙ going.source.faults)
 
     module _ (content : Content) (is : (tree : Tree) → before.tree ≡ Some tree → content ≡ content_in (read_of tree path)) (recorded : Extends was.reads now.reads (plain_reads (path ∷ []))) (same : now.faults ≡ was.faults) where
-      settled_read : IsDriven (read_log content) (key_of c.key ∷ keys_of cs) × (left_to_do (read_log content) < left_to_do reading)
-      settled_read = step_settled reading (Read path) (key_of c.key ∷ keys_of cs) (found content) driven_reading.0 (content, refl)
-
-      source_read : HasRead before now (read_log content)
+      source_read : HasRead start known before now (read_log content)
       source_read =
-          read_known before was now l reading (Read path ∷ key_of c.key ∷ keys_of cs) path going.source driven_reading.0 over_reading grown_paths tree_same recorded same (read_log content) refl
-          (λ tree told. over_more (world_of (files_of tree)) reading.events (File 0 (Read path) (found content)) (over_reading tree told) (ap found (is tree told ∙ sym (tree_content tree path))))
+          read_known start known before was now l reading (Read path ∷ key_of c.key ∷ keys_of cs) path going.source (driven_reading 0).0 over_reading grown_unknown tree_same recorded same (read_log content) refl (over_read content is)
 
-      counted_read : reads + 1 ≡ count_of is_read (read_log content).keys
+      counted_read : reads + 1 ≡ length (unknown_of known (paths_read (read_log content).keys))
       counted_read =
-          let more = count_more is_read l.keys (Read path) in
-          let keys = ap (count_of is_read) grown_keys in
-          omega (arith, more, keys, going.counted)
+          let more = ap (λ (ps : List (List ℕ)). length ps) grown_unknown in
+          let long : length (unknown_of known (paths_read l.keys) ++ path ∷ []) ≡ length (unknown_of known (paths_read l.keys)) + 1 = length-append (unknown_of known (paths_read l.keys)) (path ∷ []) in
+          omega (arith, more, long, going.counted)
 
-      claims_read : AreClaims (read_log content) (c ∷ cs)
-      claims_read = each_claim l (read_log content) (c ∷ cs) (λ x i has.
-          filed_claim reading (Read path) (found content) x
-          (λ e. first_apart (state_of reading) (Read path) (key_of c.key ∷ keys_of cs) driven_reading.0.stacked.chained (subst (λ (z : Key). In (key_of c.key ∷ keys_of cs) z) e (in_keys (c ∷ cs) x i)))
-          (blocked_claim named_log (key_of c.key) (Read path) place false x (named_claim l (Read path) x has))) going.claims
-
-      pub going_reads : reads + 1 ≤ read_limit → IsGoing before now (read_log content) (c ∷ cs) (reads + 1) × (left_to_do (read_log content) < left_to_do l)
-      going_reads few = (
-        record { driven = settled_read.0; claims = claims_read; source = source_read; counted = counted_read; few = few },
-        omega (arith, settled_read.1, driven_reading.1),
+      pub going_reads : (room : ℕ) → reads + 1 ≤ read_limit → IsGoing start known before now (read_log content) (c ∷ cs) (reads + 1) × (left_to_do room (read_log content) < left_to_do (suc room) l)
+      going_reads room few = (
+        record { driven = (settled_read content room).0; claims = claims_read content; source = source_read; counted = counted_read; few = few },
+        read_less content room,
       )
 
-      pub reads_too_many : read_limit < reads + 1 → HasTooMany before now
-      reads_too_many many = (read_log content, key_of c.key ∷ keys_of cs, settled_read.0, source_read, omega (arith, many, counted_read))
+      pub reads_too_many : read_limit < reads + 1 → HasTooMany start known before now
+      reads_too_many many = (read_log content, key_of c.key ∷ keys_of cs, (settled_read content 0).0, source_read, omega (arith, many, counted_read))

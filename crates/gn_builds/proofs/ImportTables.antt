@@ -11,8 +11,8 @@ use Rattle.std.specs.Cmp.Lexicographic.{slice_cmp}
 use Rattle.std.proofs.lemmas.Map.Lookups.{exact_bytes}
 use Rattle.gn_outside.specs.Lists.{Each}
 use Rattle.gn_values.specs.Tables.{Table, with_name}
-use Rattle.gn_imports.specs.Loading.{IsOneOf}
-use Rattle.gn_core.specs.Keys.{Key, Import, usual, same_key}
+use Rattle.gn_imports.specs.Projects.{IsOneOf}
+use Rattle.gn_core.specs.Keys.{Layer, Key, Import, same_key}
 use Rattle.gn_book.specs.Logs.{Log, with_key}
 use Rattle.gn_builds.specs.Rest.{AreImports}
 use Rattle.gn_builds.proofs.Named.{get_more, in_with}
@@ -24,15 +24,15 @@ still_at l k q n e = by (list_any (same_key k) l.keys)
     by true = e
     by false = get_more l.keys (k ∷ []) n q e
 
-each_still : (l : Log) (k : Key) (es : Table ℕ) → Each (λ (e : List ℕ × ℕ). slice_get l.keys e.1 ≡ Some (Import (usual []) e.0)) es → Each (λ (e : List ℕ × ℕ). slice_get (with_key l k).keys e.1 ≡ Some (Import (usual []) e.0)) es
-each_still l k [] each = tt
-each_still l k (e ∷ es) each = (still_at l k (Import (usual []) e.0) e.1 each.0, each_still l k es each.1)
+each_still : (layer : Layer) (l : Log) (k : Key) (es : Table ℕ) → Each (λ (e : List ℕ × ℕ). slice_get l.keys e.1 ≡ Some (Import layer e.0)) es → Each (λ (e : List ℕ × ℕ). slice_get (with_key l k).keys e.1 ≡ Some (Import layer e.0)) es
+each_still layer l k [] each = tt
+each_still layer l k (e ∷ es) each = (still_at l k (Import layer e.0) e.1 each.0, each_still layer l k es each.1)
 
 -- one more key that is no import
-pub imports_still : (l : Log) (k : Key) (es : Table ℕ) → AreImports l es → ((path : List ℕ) → k ≡ Import (usual []) path → ⊥) → AreImports (with_key l k) es
-imports_still l k es are apart = record {
-  numbers = each_still l k es are.numbers;
-  all = λ path i. elim (in_with l k (Import (usual []) path) i) [ inl a ↦ are.all path a | inr a ↦ absurd (apart path a) ];
+pub imports_still : (layer : Layer) (l : Log) (k : Key) (es : Table ℕ) → AreImports layer l es → ((path : List ℕ) → k ≡ Import layer path → ⊥) → AreImports layer (with_key l k) es
+imports_still layer l k es are apart = record {
+  numbers = each_still layer l k es are.numbers;
+  all = λ path i. elim (in_with l k (Import layer path) i) [ inl a ↦ are.all path a | inr a ↦ absurd (apart path a) ];
   sorted = are.sorted;
 }
 
@@ -68,11 +68,11 @@ keys_put (e ∷ es) path x q i = by (slice_cmp nat_cmp path e.0) (λ j. keys_put
     by Greater rest (inr j) = inr (rest j)
 
 -- an import gets a number
-pub imports_put : (l : Log) (path : List ℕ) (n : ℕ) (es : Table ℕ) → AreImports l es → slice_get (with_key l (Import (usual []) path)).keys n ≡ Some (Import (usual []) path) → IsStrictlySortedBy (slice_cmp nat_cmp) (keys_of (with_name path n es))
-    → AreImports (with_key l (Import (usual []) path)) (with_name path n es)
-imports_put l path n es are at sorted = record {
-  numbers = each_put (λ p m. slice_get (with_key l (Import (usual []) path)).keys m ≡ Some (Import (usual []) p)) es path n (each_still l (Import (usual []) path) es are.numbers) at;
-  all = λ q i. elim (in_with l (Import (usual []) path) (Import (usual []) q) i) [
+pub imports_put : (layer : Layer) (l : Log) (path : List ℕ) (n : ℕ) (es : Table ℕ) → AreImports layer l es → slice_get (with_key l (Import layer path)).keys n ≡ Some (Import layer path) → IsStrictlySortedBy (slice_cmp nat_cmp) (keys_of (with_name path n es))
+    → AreImports layer (with_key l (Import layer path)) (with_name path n es)
+imports_put layer l path n es are at sorted = record {
+  numbers = each_put (λ p m. slice_get (with_key l (Import layer path)).keys m ≡ Some (Import layer p)) es path n (each_still layer l (Import layer path) es are.numbers) at;
+  all = λ q i. elim (in_with l (Import layer path) (Import layer q) i) [
     | inl a ↦ keys_put es path n q (are.all q a)
     | inr a ↦ (let same : path ≡ q = cc a in subst (λ (p : List ℕ). IsOneOf p (keys_of (with_name path n es))) same (key_put es path n))
   ];

@@ -1,5 +1,5 @@
 -- The laws of loading in any order hold of today's builds.
-use Rattle.std.proofs.Common.{◌≡◌, ℕ, List, [], ◌∷◌, Option, Some, None, Bool, true, false, ◌||◌, if◌then◌else◌, refl, sym, ◌∙◌, ap, subst, ◌⊎◌, inl, inr, true≢false, arith}
+use Rattle.std.proofs.Common.{◌≡◌, ℕ, ◌<◌, List, [], ◌∷◌, Option, Some, None, Bool, true, false, ◌||◌, if◌then◌else◌, refl, sym, ◌∙◌, ap, subst, ◌⊎◌, inl, inr, true≢false, arith}
 use Rattle.std.specs.Prelude.{is_some}
 use Rattle.std.specs.List.{list_any}
 use Rattle.std.proofs.lemmas.Bool.{or_left, or_right}
@@ -8,18 +8,20 @@ use Rattle.std.proofs.lemmas.Slice.Eq.{bytes_eq-Decides}
 use Rattle.std.specs.FinMap.{get, keys, contains_key-keys}
 use Rattle.std.proofs.lemmas.List.{append-nil}
 use Rattle.gn_outside.specs.Tree.{FileContent, Tree, answer_of, read_of}
-use Rattle.gn_values.specs.Imported.{ImportState}
+use Rattle.gn_definitions.specs.Imported.{ImportState}
 use Rattle.gn_runs.specs.Runs.{Question, is_absent, Answers, End, ended, wrong, spoiled, needs, Run, IsTree, after, followed, leaves}
 use Rattle.gn_runs.proofs.Trees.{tree_then, tree_leaves, tree_same}
-use Rattle.gn_imports.specs.Loading.{IsOneOf, IsWrong}
+use Rattle.gn_imports.specs.Projects.{IsOneOf, IsWrong}
 use Rattle.gn_imports.proofs.PathOrder.{any_one}
-use Rattle.gn_closure.specs.Reach.{Unit_key, Setup, Load}
+use Rattle.gn_closure.specs.Reach.{Unit_key, Setup, Load, Done}
 use Rattle.gn_meaning.specs.Steps.{Left}
 use Rattle.gn_executions.specs.Units.{import_execution, import_meaning, load_execution}
-use Rattle.gn_executions.specs.Base.{plain_base}
-use Rattle.gn_executions.proofs.ExecutionTrees.{import_execution_tree, import_meaning_tree, load_execution_tree, absent_import}
-use Rattle.gn_core.specs.Keys.{Layer, Leaving, seen}
-use Rattle.gn_builds.specs.Worlds.{Files, files_of, content_at, content_in, when_of, toolchain_of, left_end, left_run, nothing_needed, import_of_layer, unit_of_key}
+use Rattle.gn_executions.specs.Setups.{setup_execution}
+use Rattle.gn_executions.specs.Base.{BaseState}
+use Rattle.gn_executions.proofs.ExecutionTrees.{import_execution_tree, import_meaning_tree, load_execution_tree, setup_execution_tree, absent_import}
+use Rattle.gn_core.specs.Keys.{Layer, early, usual, Key, Unit_of, Answer, unit_in, Filed, Leaving, UnitLeft, layer_of, seen}
+use Rattle.gn_core.specs.Layered.{IsPart, HasLayer}
+use Rattle.gn_builds.specs.Worlds.{Files, files_of, content_at, content_in, when_of, toolchain_of, left_end, left_run, base_filed, base_of_layer, configuration_leaves, file_leaves, import_of_layer, unit_over, stage_of_layer, stage_of, world_of}
 use Rattle.gn_builds.specs.Laws.{TodayIsLayered}
 
 abbrev as_run : {A : Type 0} → End A → List Question → Run A
@@ -53,22 +55,39 @@ left_tree {A} {B} f m t =
     (tree_then m (λ (a : Answers) (left : Left A). leaves (leaving f left)) t (λ left. tree_leaves (leaving f left)))
 
 -- the executions of units and of imports are trees of questions
-pub import_tree : (l : Layer) (path : List ℕ) → IsTree (λ answers. import_of_layer l path answers)
-import_tree l path = left_tree (λ (value : ImportState). value) (import_execution plain_base (when_of l) (toolchain_of l) path) (import_execution_tree plain_base (when_of l) (toolchain_of l) path)
+pub import_tree : (base : BaseState) (l : Layer) (path : List ℕ) → IsTree (λ answers. import_of_layer base l path answers)
+import_tree base l path = left_tree (λ (value : ImportState). value) (import_execution base (when_of l) (toolchain_of l) path) (import_execution_tree base (when_of l) (toolchain_of l) path)
 
-pub unit_tree : (k : Unit_key) → IsTree (λ answers. unit_of_key k answers)
-unit_tree (Setup toolchain) = tree_leaves _
-unit_tree (Load dir toolchain) = left_tree (λ value. nothing_needed) (load_execution plain_base dir toolchain) (load_execution_tree plain_base dir toolchain)
+pub unit_tree : (base : BaseState) (k : Unit_key) → IsTree (λ answers. unit_over base k answers)
+unit_tree base (Setup toolchain) = left_tree configuration_leaves (setup_execution base toolchain) (setup_execution_tree base toolchain)
+unit_tree base (Load dir toolchain) = left_tree file_leaves (load_execution base dir toolchain) (load_execution_tree base dir toolchain)
 
-seen_tree : (l : Layer) (path : List ℕ) → IsTree (λ answers. seen (import_of_layer l path answers))
-seen_tree l path =
-    tree_same (λ answers. seen (import_of_layer l path answers)) (import_meaning plain_base (when_of l) (toolchain_of l) path) (λ a. seen_followed (import_execution plain_base (when_of l) (toolchain_of l) path a))
-    (import_meaning_tree plain_base (when_of l) (toolchain_of l) path)
+seen_tree : (base : BaseState) (l : Layer) (path : List ℕ) → IsTree (λ answers. seen (import_of_layer base l path answers))
+seen_tree base l path =
+    tree_same (λ answers. seen (import_of_layer base l path answers)) (import_meaning base (when_of l) (toolchain_of l) path) (λ a. seen_followed (import_execution base (when_of l) (toolchain_of l) path a))
+    (import_meaning_tree base (when_of l) (toolchain_of l) path)
 
-seen_absent : (l : Layer) (path : List ℕ) (a : Answers) → a.contents path ≡ Some is_absent → IsWrong (seen (import_of_layer l path a)).end
-seen_absent l path a h =
-    subst (λ (r : Run ImportState). IsWrong r.end) (sym (seen_followed (import_execution plain_base (when_of l) (toolchain_of l) path a)))
-    (subst IsWrong (sym (absent_import plain_base (when_of l) (toolchain_of l) path a h)) tt)
+seen_absent : (base : BaseState) (l : Layer) (path : List ℕ) (a : Answers) → a.contents path ≡ Some is_absent → IsWrong (seen (import_of_layer base l path a)).end
+seen_absent base l path a h =
+    subst (λ (r : Run ImportState). IsWrong r.end) (sym (seen_followed (import_execution base (when_of l) (toolchain_of l) path a)))
+    (subst IsWrong (sym (absent_import base (when_of l) (toolchain_of l) path a h)) tt)
+
+-- the base of a layer is what stands in an earlier stage
+base_sees : (start : BaseState) (l : Layer) (b c : Filed) → ((q : Key) → stage_of q < stage_of_layer l → b q ≡ c q) → base_of_layer start b l ≡ base_of_layer start c l
+base_sees start (early toolchain) b c h = refl
+base_sees start (usual toolchain) b c h = ap (base_filed start) (h (Unit_of (Setup [])) (omega arith))
+
+-- a unit that is done has an answer
+has_unit : (x : Option Answer) (y : Option Done) → unit_in x ≡ Some y → (v : Answer) × (x ≡ Some v)
+has_unit None y h = absurd (cc h)
+has_unit (Some v) y h = (v, refl)
+
+-- and it stays where that is
+base_based : (files : Files) (l : Layer) (b c : Filed) → HasLayer (world_of files) b l → IsPart b c → base_of_layer files.start c l ≡ base_of_layer files.start b l
+base_based files (early toolchain) b c h le = refl
+base_based files (usual toolchain) b c h le =
+    let has = has_unit (b (Unit_of (Setup []))) (Some h.0) h.1 in
+    ap (base_filed files.start) (le (Unit_of (Setup [])) has.0 has.1 ∙ sym has.1)
 
 any_path : (ps : List (List ℕ)) (q : List ℕ) → list_any (bytes_eq q) ps ≡ true → IsOneOf q ps
 any_path [] q e = absurd (true≢false (sym e))
@@ -92,8 +111,8 @@ listed files path = by (list_any (bytes_eq path) files.paths) refl
     by false e = inl refl
 
 -- what there is at a path among the files of a tree
-pub tree_content : (tree : Tree) (path : List ℕ) → content_at (files_of tree) path ≡ content_in (read_of tree path)
-tree_content tree path = by (list_any (bytes_eq path) (keys tree)) refl (get tree path) refl
+pub tree_content : (start : BaseState) (tree : Tree) (path : List ℕ) → content_at (files_of start tree) path ≡ content_in (read_of tree path)
+tree_content start tree path = by (list_any (bytes_eq path) (keys tree)) refl (get tree path) refl
   where
     by : (b : Bool) → list_any (bytes_eq path) (keys tree) ≡ b → (x : Option FileContent) → get tree path ≡ x → (if b then content_in (read_of tree path) else is_absent) ≡ content_in (read_of tree path)
     by true e x h = refl
@@ -103,16 +122,20 @@ tree_content tree path = by (list_any (bytes_eq path) (keys tree)) refl (get tre
 pub today_is_layered : TodayIsLayered
 today_is_layered files = record {
   is = record {
-    projects = λ base l. record { trees = seen_tree l; listed = listed files; absent = λ path a h. seen_absent l path a h };
-    imports = λ base l path. import_tree l path;
-    trees = λ base k. unit_tree k;
+    projects = λ base l. record {
+      trees = seen_tree (base_of_layer files.start base l) l;
+      listed = listed files;
+      absent = λ path a h. seen_absent (base_of_layer files.start base l) l path a h;
+    };
+    imports = λ base l path. import_tree (base_of_layer files.start base l) l path;
+    trees = λ base k. unit_tree (base_of_layer files.start base (layer_of k)) k;
   };
-  imports_see = λ l path b c h. refl;
-  units_see = λ k b c h. refl;
+  imports_see = λ l path b c h. ap {B = Answers → Run (Leaving ImportState)} (λ (base : BaseState) (a : Answers). import_of_layer base l path a) (base_sees files.start l b c h);
+  units_see = λ k b c h. ap {B = Answers → Run (Leaving UnitLeft)} (λ (base : BaseState) (a : Answers). unit_over base k a) (base_sees files.start (layer_of k) b c h);
   records_see = λ l b c h. refl;
   one_stage = λ l p q. refl;
   asks_low = λ k path. omega arith;
-  imports_based = λ l path b c h le. refl;
-  units_based = λ k b c h le. refl;
+  imports_based = λ l path b c h le. ap {B = Answers → Run (Leaving ImportState)} (λ (base : BaseState) (a : Answers). import_of_layer base l path a) (base_based files l b c h le);
+  units_based = λ k b c h le. ap {B = Answers → Run (Leaving UnitLeft)} (λ (base : BaseState) (a : Answers). unit_over base k a) (base_based files (layer_of k) b c h le);
   records_based = λ l b c h le. refl;
 }

@@ -8,6 +8,7 @@ pub mod Named
 pub mod Steps
 pub mod PlainReads
 pub mod ReadPaths
+pub mod Unknown
 pub mod Rest
 pub mod Going
 pub mod Begins

@@ -4,7 +4,7 @@ use Rattle.std.specs.List.{list_any}
 use Rattle.gn_closure.specs.Closure.{In}
 use Rattle.gn_closure.specs.Reach.{Unit_key, Done}
 use Rattle.gn_labels.specs.declared.label.Label.{Label}
-use Rattle.gn_core.specs.Keys.{Layer, usual, Key, Read, Import, Unit_of, Resolve, Answer, Filed, unit_in, same_key}
+use Rattle.gn_core.specs.Keys.{Layer, early, usual, Key, Read, Import, Unit_of, Resolve, Answer, Filed, unit_in, same_key}
 use Rattle.gn_core.specs.Machine.{State, Claim, File, happens, IsFiled}
 use Rattle.gn_core.proofs.Puts.{same_key_is, put_some, put_has, put_own}
 use Rattle.gn_book.specs.Graphs.{is_unit}
@@ -77,13 +77,13 @@ is_new l s ks on named unit apart none = by (list_any (same_key on) l.keys) refl
 -- what an import must be that gets a number
 abbrev pub MayBeNamed : List Key → Key → Type 0
 MayBeNamed names (Read path) = Unit {0}
-MayBeNamed names (Import layer path) = (layer ≡ usual []) × In names (Read path)
+MayBeNamed names (Import layer path) = ((layer ≡ early []) ⊎ (layer ≡ usual [])) × In names (Read path)
 MayBeNamed names (Unit_of unit) = ⊥
 MayBeNamed names (Resolve label) = ⊥
 
 -- a key is claimed behind the others
 module _ (l : Log) (s t : State) (ks : List Key) (on : Key) (named : AreNamed l.keys s ks) (may : MayBeNamed l.keys on) (filed : t.filed ≡ s.filed) where
-  new_import : (layer : Layer) (path : List ℕ) → on ≡ Import layer path → (layer ≡ usual []) × In (with_key l on).keys (Read path)
+  new_import : (layer : Layer) (path : List ℕ) → on ≡ Import layer path → ((layer ≡ early []) ⊎ (layer ≡ usual [])) × In (with_key l on).keys (Read path)
   new_import layer path e =
       let is : MayBeNamed l.keys (Import layer path) = subst (MayBeNamed l.keys) e may in
       (is.0, in_with_old l on (Read path) is.1)

@@ -1,5 +1,5 @@
 -- A log is over the files that it has read: no path is read twice.
-use Rattle.std.proofs.Common.{◌≡◌, ℕ, List, [], ◌∷◌, Some, None, Bool, false, cond, unwrap_or, if◌then◌else◌, sym, ◌∙◌, ap, subst}
+use Rattle.std.proofs.Common.{◌≡◌, ℕ, List, [], ◌∷◌, Some, None, Bool, false, cond, unwrap_or, if◌then◌else◌, refl, sym, ◌∙◌, ap, subst}
 use Rattle.gn_paths.specs.declared.place.Place.{Place}
 use Rattle.gn_runs.specs.Runs.{Question, content_of, import_of, Content, is_absent, needs}
 use Rattle.gn_runs.proofs.TreeLaws.{tree_needs_unknown}
@@ -7,7 +7,7 @@ use Rattle.gn_core.specs.Keys.{Key, Read, Import, Unit_of, Resolve, found, Filed
 use Rattle.gn_core.specs.Machine.{State, Event, Claim, Block, File, Stop, happens, replay, NeedsAt, Allowed, Runs, IsOver, IsOverEvent}
 use Rattle.gn_core.proofs.Puts.{key_own, put_own}
 use Rattle.gn_book.specs.Logs.{opening, state_of}
-use Rattle.gn_builds.specs.Worlds.{Files, content_at, world_of, import_of_layer, unit_of_key}
+use Rattle.gn_builds.specs.Worlds.{Files, content_at, world_of, base_of_layer, import_of_layer, unit_of_key}
 use Rattle.gn_builds.specs.Driving.{paths_read}
 use Rattle.gn_builds.specs.Own.{content_found, read_by, FilesWereRead}
 use Rattle.gn_builds.proofs.Stacks.{put_else}
@@ -24,13 +24,13 @@ needs_unread : (files : Files) (filed : Filed) (k : Key) (path : List ℕ) (c : 
 needs_unread files filed (Read other) path c place need h = need
 needs_unread files filed (Import l other) path c place need h = by need.0 need.1 need.2
   where
-    by : (q : Question) → Read path ≡ key_of l q → (import_of_layer l other (shown filed l)).end ≡ needs q place → ⊥
-    by (content_of r) e n = unread filed path r c e (tree_needs_unknown (λ answers. import_of_layer l other answers) (import_tree l other) (shown filed l) (content_of r) place n).0 h
+    by : (q : Question) → Read path ≡ key_of l q → (import_of_layer (base_of_layer files.start filed l) l other (shown filed l)).end ≡ needs q place → ⊥
+    by (content_of r) e n = unread filed path r c e (tree_needs_unknown (λ answers. import_of_layer (base_of_layer files.start filed l) l other answers) (import_tree (base_of_layer files.start filed l) l other) (shown filed l) (content_of r) place n).0 h
     by (import_of r) e n = absurd (cc e)
 needs_unread files filed (Unit_of u) path c place need h = by need.0 need.1 need.2
   where
-    by : (q : Question) → Read path ≡ key_of (layer_of u) q → (unit_of_key u (shown filed (layer_of u))).end ≡ needs q place → ⊥
-    by (content_of r) e n = unread filed path r c e (tree_needs_unknown (λ answers. unit_of_key u answers) (unit_tree u) (shown filed (layer_of u)) (content_of r) place n).0 h
+    by : (q : Question) → Read path ≡ key_of (layer_of u) q → (unit_of_key files.start filed u (shown filed (layer_of u))).end ≡ needs q place → ⊥
+    by (content_of r) e n = unread filed path r c e (tree_needs_unknown (λ answers. unit_of_key files.start filed u answers) (unit_tree (base_of_layer files.start filed (layer_of u)) u) (shown filed (layer_of u)) (content_of r) place n).0 h
     by (import_of r) e n = absurd (cc e)
 needs_unread files filed (Resolve label) path c place need h = need
 
@@ -76,9 +76,9 @@ module _ (files own : Files) where
   own_events s (e ∷ es) runs agrees = (own_event s e es runs.0 runs.1 agrees, own_events (happens s e) es runs.1 agrees)
 
 pub files_were_read : FilesWereRead
-files_were_read l ks d = own_events (read_by l) (read_by l) opening l.events (d.runs (read_by l)) agrees
+files_were_read start l ks d = own_events (read_by start l) (read_by start l) opening l.events (d.runs (read_by start l) refl) agrees
   where
-    agrees : (path : List ℕ) (c : Content) → (state_of l).filed (Read path) ≡ Some (found c) → content_at (read_by l) path ≡ c
+    agrees : (path : List ℕ) (c : Content) → (state_of l).filed (Read path) ≡ Some (found c) → content_at (read_by start l) path ≡ c
     agrees path c h =
         ap (λ (b : Bool). if b then content_found ((state_of l).filed (Read path)) else is_absent) (path_any (paths_read l.keys) path (in_read l.keys path (d.named.filed (Read path) (found c, h))))
         ∙ ap content_found h

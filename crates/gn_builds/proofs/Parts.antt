@@ -1,17 +1,18 @@
 -- Work over a part of what is filed is right over all of it.
-use Rattle.std.proofs.Common.{◌≡◌, ℕ, List, Option, Some, None, refl, sym, ◌∙◌, ap, subst}
+use Rattle.std.proofs.Common.{◌≡◌, ℕ, List, [], Option, Some, None, refl, sym, ◌∙◌, ap, subst}
 use Rattle.gn_paths.specs.declared.place.Place.{Place}
-use Rattle.gn_values.specs.Imported.{ImportState}
+use Rattle.gn_definitions.specs.Imported.{ImportState}
 use Rattle.gn_runs.specs.Runs.{Question, content_of, import_of, is_unusable, Answers, End, ended, wrong, spoiled, needs, Run, IsTree}
 use Rattle.gn_runs.specs.Laws.{Below, IsSettled, IsUnknown, IsAsked}
 use Rattle.gn_runs.proofs.TreeLaws.{tree_stays_settled, tree_stays_in_need, tree_spoiled_by_unusable, tree_asks_known}
-use Rattle.gn_closure.specs.Reach.{Done}
-use Rattle.gn_core.specs.Keys.{Layer, Key, Read, Import, Unit_of, Resolve, Answer, no_value, unit_is, Filed, Leaving, layer_of, key_of, content_in, imported_in, shown}
-use Rattle.gn_core.specs.Machine.{State, IsRight, IsRightImport, ClosesCycle, IsFiled, spoiled_as}
+use Rattle.gn_closure.specs.Reach.{Unit_key, Setup}
+use Rattle.gn_executions.specs.Base.{BaseState}
+use Rattle.gn_core.specs.Keys.{Layer, early, usual, Key, Read, Import, Unit_of, Resolve, Answer, no_value, unit_is, Filed, Leaving, UnitLeft, layer_of, key_of, content_in, imported_in, shown}
+use Rattle.gn_core.specs.Machine.{State, NeedsAt, IsRight, IsRightImport, ClosesCycle, IsFiled, spoiled_as}
 use Rattle.gn_core.specs.Layered.{IsPart}
 use Rattle.gn_core.proofs.Kept.{shown_grows}
-use Rattle.gn_builds.specs.Worlds.{import_of_layer, unit_of_key, evaluator}
-use Rattle.gn_builds.specs.Working.{over, IsRightOver, IsInNeed}
+use Rattle.gn_builds.specs.Worlds.{base_filed, base_of_layer, import_of_layer, unit_over, evaluator}
+use Rattle.gn_builds.specs.Working.{over, IsRightOver, IsInNeed, HasBase}
 use Rattle.gn_builds.specs.Laws.{PartsGiveAnswers, PartsGiveNeeds, NeededImportsAreRead, CyclesHaveNoValue, TreesDontMatter}
 use Rattle.gn_builds.proofs.Layered.{import_tree, unit_tree}
 
@@ -27,17 +28,24 @@ same_import part filed l q le h = by (part (Import l q)) refl h
     by None e i = absurd (cc i)
     by (Some v) e i = le (Import l q) v e
 
-import_parts : (part : Filed) (s : State) (l : Layer) (path : List ℕ) (v : Answer) → IsPart part s.filed → IsRightOver part (Import l path) v → IsRight evaluator s.filed s (Import l path) v
-import_parts part s l path v le right = by (m (shown part l)).end refl right
+-- what stands beneath the files behind the build configuration is the same over all that is filed
+pub same_base : (start : BaseState) (part filed : Filed) (l : Layer) → IsPart part filed → HasBase part l → base_of_layer start filed l ≡ base_of_layer start part l
+same_base start part filed (early toolchain) le has = refl
+same_base start part filed (usual toolchain) le has = ap (base_filed start) (le (Unit_of (Setup [])) (unit_is has.1) has.2 ∙ sym has.2)
+
+import_parts : (base : BaseState) (part : Filed) (s : State) (l : Layer) (path : List ℕ) (v : Answer) → IsPart part s.filed
+    → IsRightImport (over part) l path (import_of_layer base l path (shown part l)) (import_of_layer base l path (shown part l)).end v
+    → IsRightImport s l path (import_of_layer base l path (shown s.filed l)) (import_of_layer base l path (shown s.filed l)).end v
+import_parts base part s l path v le right = by (m (shown part l)).end refl right
   where
     m : Answers → Run (Leaving ImportState)
-    m a = import_of_layer l path a
+    m a = import_of_layer base l path a
 
     below : Below (shown part l) (shown s.filed l)
     below = shown_grows part s.filed le l
 
     same : IsSettled (m (shown part l)).end → m (shown s.filed l) ≡ m (shown part l)
-    same h = tree_stays_settled m (import_tree l path) (shown part l) (shown s.filed l) below h
+    same h = tree_stays_settled m (import_tree base l path) (shown part l) (shown s.filed l) below h
 
     moved : (end : End (Leaving ImportState)) → (m (shown part l)).end ≡ end → IsSettled end → IsRightImport s l path (m (shown part l)) end v
         → IsRightImport s l path (m (shown s.filed l)) (m (shown s.filed l)).end v
@@ -50,37 +58,55 @@ import_parts part s l path v le right = by (m (shown part l)).end refl right
     by (ended x) e h = moved (ended x) e tt h
     by (wrong f) e h = moved (wrong f) e tt h
     by (spoiled q p) e h =
-        let unusable = (tree_spoiled_by_unusable m (import_tree l path) (shown part l) q p e).0 in
+        let unusable = (tree_spoiled_by_unusable m (import_tree base l path) (shown part l) q p e).0 in
         moved (spoiled q p) e tt (h ∙ ap (λ (x : Option Answer). spoiled_as x q p (m (shown part l))) (sym (same_import part s.filed l q le unusable)))
     by (needs (content_of q) p) e h = absurd h
     by (needs (import_of q) p) e h = absurd (cc h.1.1)
 
-unit_parts : (part : Filed) (s : State) (k : Key) (v : Answer) → IsPart part s.filed → IsRightOver part k v → IsRight evaluator s.filed s k v
-unit_parts part s (Read path) v le right = right
-unit_parts part s (Import l path) v le right = import_parts part s l path v le right
-unit_parts part s (Unit_of k) v le right =
-    let same = tree_stays_settled (λ a. unit_of_key k a) (unit_tree k) (shown part (layer_of k)) (shown s.filed (layer_of k)) (shown_grows part s.filed le (layer_of k)) right.0 in
-    subst (λ (r : Run (Leaving Done)). IsSettled r.end × (v ≡ unit_is r)) (sym same) right
-unit_parts part s (Resolve label) v le right = right
+unit_parts : (base : BaseState) (part : Filed) (s : State) (k : Unit_key) (v : Answer) → IsPart part s.filed
+    → IsSettled (unit_over base k (shown part (layer_of k))).end × (v ≡ unit_is (unit_over base k (shown part (layer_of k))))
+    → IsSettled (unit_over base k (shown s.filed (layer_of k))).end × (v ≡ unit_is (unit_over base k (shown s.filed (layer_of k))))
+unit_parts base part s k v le right =
+    let same = tree_stays_settled (λ a. unit_over base k a) (unit_tree base k) (shown part (layer_of k)) (shown s.filed (layer_of k)) (shown_grows part s.filed le (layer_of k)) right.0 in
+    subst (λ (r : Run (Leaving UnitLeft)). IsSettled r.end × (v ≡ unit_is r)) (sym same) right
 
 pub parts_give_answers : PartsGiveAnswers
-parts_give_answers part s k v le right = unit_parts part s k v le right
+parts_give_answers start part s (Read path) v le seen right = right
+parts_give_answers start part s (Import l path) v le seen right =
+    subst (λ (base : BaseState). IsRightImport s l path (import_of_layer base l path (shown s.filed l)) (import_of_layer base l path (shown s.filed l)).end v)
+    (sym (same_base start part s.filed l le seen)) (import_parts (base_of_layer start part l) part s l path v le right)
+parts_give_answers start part s (Unit_of k) v le seen right =
+    subst (λ (base : BaseState). IsSettled (unit_over base k (shown s.filed (layer_of k))).end × (v ≡ unit_is (unit_over base k (shown s.filed (layer_of k)))))
+    (sym (same_base start part s.filed (layer_of k) le seen)) (unit_parts (base_of_layer start part (layer_of k)) part s k v le right)
+parts_give_answers start part s (Resolve label) v le seen right = right
+
+-- what a run needs over a part and isn't filed it needs over all that is filed
+needs_still : {A : Type 0} (m : Answers → Run (Leaving A)) (part filed : Filed) (l : Layer) (on : Key) (place : Place) (asked : List Question) → IsTree m → IsPart part filed
+    → filed on ≡ None
+    → (need : (q : Question) × (on ≡ key_of l q) × ((m (shown part l)).end ≡ needs q place) × ((m (shown part l)).asked ≡ asked))
+    → ((m (shown filed l)).end ≡ needs need.0 place) × ((m (shown filed l)).asked ≡ asked)
+needs_still {A} m part filed l on place asked tree le lacks need =
+    let q : Question = need.0 in
+    let same = tree_stays_in_need m tree (shown part l) (shown filed l) q place (shown_grows part filed le l) need.2
+    (unknown_at filed l q (subst (λ (z : Key). filed z ≡ None) need.1 lacks)) in
+    (ap (λ (r : Run (Leaving A)). r.end) same ∙ need.2, ap (λ (r : Run (Leaving A)). r.asked) same ∙ need.3)
 
 pub parts_give_needs : PartsGiveNeeds
-parts_give_needs part filed (Read path) on place asked le lacks need = absurd need
-parts_give_needs part filed (Import l path) on place asked le lacks need =
+parts_give_needs start part filed (Read path) on place asked le seen lacks need = absurd need
+parts_give_needs start part filed (Import l path) on place asked le seen lacks need =
     let q : Question = need.0 in
-    let same = tree_stays_in_need (λ a. import_of_layer l path a) (import_tree l path) (shown part l) (shown filed l) q place (shown_grows part filed le l) need.2
-    (unknown_at filed l q (subst (λ (z : Key). filed z ≡ None) need.1 lacks)) in
-    let ends = ap (λ (r : Run (Leaving ImportState)). r.end) same ∙ need.2 in
-    ((q, need.1, ends), (q, need.1, ends, ap (λ (r : Run (Leaving ImportState)). r.asked) same ∙ need.3))
-parts_give_needs part filed (Unit_of k) on place asked le lacks need =
+    let still = needs_still (λ a. import_of_layer (base_of_layer start part l) l path a) part filed l on place asked (import_tree (base_of_layer start part l) l path) le lacks need in
+    let moved = subst (λ (base : BaseState). ((import_of_layer base l path (shown filed l)).end ≡ needs q place) × ((import_of_layer base l path (shown filed l)).asked ≡ asked))
+    (sym (same_base start part filed l le seen)) still in
+    ((q, need.1, moved.0), (q, need.1, moved.0, moved.1))
+parts_give_needs start part filed (Unit_of k) on place asked le seen lacks need =
     let q : Question = need.0 in
-    let same = tree_stays_in_need (λ a. unit_of_key k a) (unit_tree k) (shown part (layer_of k)) (shown filed (layer_of k)) q place (shown_grows part filed le (layer_of k)) need.2
-    (unknown_at filed (layer_of k) q (subst (λ (z : Key). filed z ≡ None) need.1 lacks)) in
-    let ends = ap (λ (r : Run (Leaving Done)). r.end) same ∙ need.2 in
-    ((q, need.1, ends), (q, need.1, ends, ap (λ (r : Run (Leaving Done)). r.asked) same ∙ need.3))
-parts_give_needs part filed (Resolve label) on place asked le lacks need = absurd need
+    let l : Layer = layer_of k in
+    let still = needs_still (λ a. unit_over (base_of_layer start part l) k a) part filed l on place asked (unit_tree (base_of_layer start part l) k) le lacks need in
+    let moved = subst (λ (base : BaseState). ((unit_over base k (shown filed l)).end ≡ needs q place) × ((unit_over base k (shown filed l)).asked ≡ asked))
+    (sym (same_base start part filed l le seen)) still in
+    ((q, need.1, moved.0), (q, need.1, moved.0, moved.1))
+parts_give_needs start part filed (Resolve label) on place asked le seen lacks need = absurd need
 
 no_value_right : (s : State) (l : Layer) (path q : List ℕ) (place : Place) (asked : List Question) (run : Run (Leaving ImportState)) → run.end ≡ needs (import_of q) place → run.asked ≡ asked
     → ClosesCycle s (Import l path) → IsRightImport s l path run run.end (no_value q place asked)
@@ -109,21 +135,21 @@ module _ {A : Type 0} (run : Answers → Run A) (tree : IsTree run) where
       needs_one (run (shown part m)).end q path known.0 place (question_of_import l m path q is) need known.1)
 
 pub needed_imports_are_read : NeededImportsAreRead
-needed_imports_are_read part (Read other) l path place asked need asks = absurd need
-needed_imports_are_read part (Import m other) l path place asked need asks =
-    needed_is_read (λ a. import_of_layer m other a) (import_tree m other) part l m path need.0 place need.1 need.2 (subst (λ (qs : List Question). IsAsked qs (content_of path)) (sym need.3) asks)
-needed_imports_are_read part (Unit_of k) l path place asked need asks =
-    needed_is_read (λ a. unit_of_key k a) (unit_tree k) part l (layer_of k) path need.0 place need.1 need.2 (subst (λ (qs : List Question). IsAsked qs (content_of path)) (sym need.3) asks)
-needed_imports_are_read part (Resolve label) l path place asked need asks = absurd need
+needed_imports_are_read start part (Read other) l path place asked need asks = absurd need
+needed_imports_are_read start part (Import m other) l path place asked need asks =
+    needed_is_read (λ a. import_of_layer (base_of_layer start part m) m other a) (import_tree (base_of_layer start part m) m other) part l m path need.0 place need.1 need.2 (subst (λ (qs : List Question). IsAsked qs (content_of path)) (sym need.3) asks)
+needed_imports_are_read start part (Unit_of k) l path place asked need asks =
+    needed_is_read (λ a. unit_over (base_of_layer start part (layer_of k)) k a) (unit_tree (base_of_layer start part (layer_of k)) k) part l (layer_of k) path need.0 place need.1 need.2 (subst (λ (qs : List Question). IsAsked qs (content_of path)) (sym need.3) asks)
+needed_imports_are_read start part (Resolve label) l path place asked need asks = absurd need
 
 pub cycles_have_no_value : CyclesHaveNoValue
-cycles_have_no_value s k path q place asked l is need closes =
-    subst (λ (z : Key). IsRight evaluator s.filed s z (no_value q place asked)) (sym is)
-    (on_import (subst (λ (z : Key). IsInNeed s.filed z (Import l q) place asked) is need) (subst (λ (z : Key). ClosesCycle s z) is closes))
+cycles_have_no_value start s k path q place asked l is need closes =
+    subst (λ (z : Key). IsRight (evaluator start) s.filed s z (no_value q place asked)) (sym is)
+    (on_import (subst (λ (z : Key). IsInNeed start s.filed z (Import l q) place asked) is need) (subst (λ (z : Key). ClosesCycle s z) is closes))
   where
-    on_import : IsInNeed s.filed (Import l path) (Import l q) place asked → ClosesCycle s (Import l path) → IsRight evaluator s.filed s (Import l path) (no_value q place asked)
+    on_import : IsInNeed start s.filed (Import l path) (Import l q) place asked → ClosesCycle s (Import l path) → IsRight (evaluator start) s.filed s (Import l path) (no_value q place asked)
     on_import n c =
-        no_value_right s l path q place asked (import_of_layer l path (shown s.filed l))
+        no_value_right s l path q place asked (import_of_layer (base_of_layer start s.filed l) l path (shown s.filed l))
         (n.2 ∙ ap (λ (z : Question). needs z place) (question_of_import l l q n.0 n.1)) n.3 c
 
 pub trees_dont_matter : TreesDontMatter
@@ -131,3 +157,17 @@ trees_dont_matter tree s (Read path) v right = right
 trees_dont_matter tree s (Import l path) v right = right
 trees_dont_matter tree s (Unit_of k) v right = right
 trees_dont_matter tree s (Resolve label) v right = right
+
+-- Over all that is filed: the base is that of what is filed
+
+pub own_answers : (start : BaseState) (s : State) (k : Key) (v : Answer) → IsRightOver start s.filed k v → IsRight (evaluator start) s.filed s k v
+own_answers start s (Read path) v right = right
+own_answers start s (Import l path) v right = import_parts (base_of_layer start s.filed l) s.filed s l path v (λ q x e. e) right
+own_answers start s (Unit_of k) v right = right
+own_answers start s (Resolve label) v right = right
+
+pub own_needs : (start : BaseState) (filed : Filed) (k on : Key) (place : Place) (asked : List Question) → IsInNeed start filed k on place asked → NeedsAt (evaluator start) filed filed k on place
+own_needs start filed (Read path) on place asked need = absurd need
+own_needs start filed (Import l path) on place asked need = (need.0, need.1, need.2)
+own_needs start filed (Unit_of k) on place asked need = (need.0, need.1, need.2)
+own_needs start filed (Resolve label) on place asked need = absurd need

@@ -5,12 +5,13 @@ use Rattle.gn_outside.specs.Tree.{Tree}
 use Rattle.gn_outside.specs.States.{SourceRead, SourceState}
 use Rattle.gn_outside.specs.Lists.{Extends}
 use Rattle.gn_outside.specs.Sources.{CountsFailures, plain_reads}
+use Rattle.gn_executions.specs.Base.{BaseState}
 use Rattle.gn_core.specs.Keys.{Key, Read, Import, Unit_of, Resolve}
 use Rattle.gn_core.specs.Worlds.{World}
 use Rattle.gn_core.specs.Machine.{Event, IsOver, IsOverEvent}
 use Rattle.gn_book.specs.Logs.{Log}
 use Rattle.gn_builds.specs.Worlds.{files_of, world_of}
-use Rattle.gn_builds.specs.Driving.{IsDriven, count_of, is_read, paths_read, HasRead, ReadsNumbered, FailsAt}
+use Rattle.gn_builds.specs.Driving.{IsDriven, count_of, is_read, paths_read, unknown_of, HasRead, ReadsNumbered, FailsAt}
 use Rattle.gn_builds.proofs.PlainReads.{one_read, ended_by, paths-plain, stops-plain, none-plain, paths-ended, stops-ended, some-ended, plain-ended}
 
 -- what was told goes on
@@ -53,61 +54,62 @@ over_more w [] e over here = (here, tt)
 over_more w (x ∷ es) e over here = (over.0, over_more w es e over.1 here)
 
 -- nothing more was read
-pub reads_still : (before now : SourceState) (l : Log) (ks : List Key) → IsDriven l ks → HasRead before now l → ReadsNumbered before now
-reads_still before now l ks driven has = record {
+pub reads_still : (start : BaseState) (known : List (List ℕ)) (before now : SourceState) (l : Log) (ks : List Key) → IsDriven start l ks → HasRead start known before now l → ReadsNumbered start known before now
+reads_still start known before now l ks driven has = record {
   log = l;
   keys = ks;
   driven = driven;
   over = has.over;
-  reads = plain_reads (paths_read l.keys);
+  reads = plain_reads (unknown_of known (paths_read l.keys));
   goes = record {
     tree = has.tree;
     joined = has.reads;
-    stops = stops-plain (paths_read l.keys);
-    faults = subst (CountsFailures before.faults now.faults) (sym (none-plain (paths_read l.keys))) has.faults;
+    stops = stops-plain (unknown_of known (paths_read l.keys));
+    faults = subst (CountsFailures before.faults now.faults) (sym (none-plain (unknown_of known (paths_read l.keys)))) has.faults;
   };
-  numbered = ([], sym (append-nil _ ∙ paths-plain (paths_read l.keys)));
+  numbered = ([], sym (append-nil _ ∙ paths-plain (unknown_of known (paths_read l.keys))));
 }
 
 -- a path is read that has got a number
-module _ (before was now : SourceState) (l m : Log) (ks : List Key) (path : List ℕ) (has : HasRead before was l) (driven : IsDriven m ks) (over : (tree : Tree) → before.tree ≡ Some tree → IsOver (world_of (files_of tree)) m.events) (paths : paths_read m.keys ≡ paths_read l.keys ++ path ∷ []) (tree_same : now.tree ≡ was.tree) where
-  more : (failed : Bool) → Extends was.reads now.reads (one_read path failed ∷ []) → Extends before.reads now.reads (ended_by (paths_read l.keys) path failed)
-  more failed recorded = extends_behind before.reads was.reads now.reads (plain_reads (paths_read l.keys)) (one_read path failed ∷ []) has.reads recorded
+module _ (start : BaseState) (known : List (List ℕ)) (before was now : SourceState) (l m : Log) (ks : List Key) (path : List ℕ) (has : HasRead start known before was l) (driven : IsDriven start m ks) (over : (tree : Tree) → before.tree ≡ Some tree → IsOver (world_of (files_of start tree)) m.events)
+    (paths : unknown_of known (paths_read m.keys) ≡ unknown_of known (paths_read l.keys) ++ path ∷ []) (tree_same : now.tree ≡ was.tree) where
+  more : (failed : Bool) → Extends was.reads now.reads (one_read path failed ∷ []) → Extends before.reads now.reads (ended_by (unknown_of known (paths_read l.keys)) path failed)
+  more failed recorded = extends_behind before.reads was.reads now.reads (plain_reads (unknown_of known (paths_read l.keys))) (one_read path failed ∷ []) has.reads recorded
 
-  pub read_numbered : (failed : Bool) → Extends was.reads now.reads (one_read path failed ∷ []) → CountsFailures was.faults now.faults failed → ReadsNumbered before now
+  pub read_numbered : (failed : Bool) → Extends was.reads now.reads (one_read path failed ∷ []) → CountsFailures was.faults now.faults failed → ReadsNumbered start known before now
   read_numbered failed recorded counted = record {
     log = m;
     keys = ks;
     driven = driven;
     over = over;
-    reads = ended_by (paths_read l.keys) path failed;
+    reads = ended_by (unknown_of known (paths_read l.keys)) path failed;
     goes = record {
       tree = tree_same ∙ has.tree;
       joined = more failed recorded;
-      stops = stops-ended (paths_read l.keys) path failed;
-      faults = subst (CountsFailures before.faults now.faults) (sym (some-ended (paths_read l.keys) path failed)) (subst (λ n. CountsFailures n now.faults failed) has.faults counted);
+      stops = stops-ended (unknown_of known (paths_read l.keys)) path failed;
+      faults = subst (CountsFailures before.faults now.faults) (sym (some-ended (unknown_of known (paths_read l.keys)) path failed)) (subst (λ n. CountsFailures n now.faults failed) has.faults counted);
     };
-    numbered = ([], paths ∙ sym (append-nil _ ∙ paths-ended (paths_read l.keys) path failed));
+    numbered = ([], paths ∙ sym (append-nil _ ∙ paths-ended (unknown_of known (paths_read l.keys)) path failed));
   }
 
   -- nothing was recorded, for want of memory
-  read_unrecorded : now.reads ≡ was.reads → now.faults ≡ was.faults → ReadsNumbered before now
+  read_unrecorded : now.reads ≡ was.reads → now.faults ≡ was.faults → ReadsNumbered start known before now
   read_unrecorded same faults_same = record {
     log = m;
     keys = ks;
     driven = driven;
     over = over;
-    reads = plain_reads (paths_read l.keys);
+    reads = plain_reads (unknown_of known (paths_read l.keys));
     goes = record {
       tree = tree_same ∙ has.tree;
       joined = same ∙ has.reads;
-      stops = stops-plain (paths_read l.keys);
-      faults = subst (CountsFailures before.faults now.faults) (sym (none-plain (paths_read l.keys))) (faults_same ∙ has.faults);
+      stops = stops-plain (unknown_of known (paths_read l.keys));
+      faults = subst (CountsFailures before.faults now.faults) (sym (none-plain (unknown_of known (paths_read l.keys)))) (faults_same ∙ has.faults);
     };
-    numbered = (path ∷ [], paths ∙ ap (λ (ps : List (List ℕ)). ps ++ path ∷ []) (sym (paths-plain (paths_read l.keys))));
+    numbered = (path ∷ [], paths ∙ ap (λ (ps : List (List ℕ)). ps ++ path ∷ []) (sym (paths-plain (unknown_of known (paths_read l.keys)))));
   }
 
-  pub read_lost : Extends was.reads now.reads (plain_reads (path ∷ [])) ⊎ (now.reads ≡ was.reads) → now.faults ≡ was.faults → ReadsNumbered before now
+  pub read_lost : Extends was.reads now.reads (plain_reads (path ∷ [])) ⊎ (now.reads ≡ was.reads) → now.faults ≡ was.faults → ReadsNumbered start known before now
   read_lost (inl recorded) same = read_numbered false recorded same
   read_lost (inr still) same = read_unrecorded still same
 
@@ -116,15 +118,15 @@ module _ (before was now : SourceState) (l m : Log) (ks : List Key) (path : List
     failed = subst (λ n. n < now.faults) has.faults rose;
     last = λ some. record {
       failed = subst (λ n. n < now.faults) has.faults rose;
-      last = last_read before.reads now.reads (plain_reads (paths_read l.keys)) (one_read path true) (more true recorded) some;
+      last = last_read before.reads now.reads (plain_reads (unknown_of known (paths_read l.keys))) (one_read path true) (more true recorded) some;
     };
   }
 
   -- and it is filed
-  pub read_known : Extends was.reads now.reads (plain_reads (path ∷ [])) → now.faults ≡ was.faults → (n : Log) → paths_read n.keys ≡ paths_read m.keys → ((tree : Tree) → before.tree ≡ Some tree → IsOver (world_of (files_of tree)) n.events) → HasRead before now n
+  pub read_known : Extends was.reads now.reads (plain_reads (path ∷ [])) → now.faults ≡ was.faults → (n : Log) → unknown_of known (paths_read n.keys) ≡ unknown_of known (paths_read m.keys) → ((tree : Tree) → before.tree ≡ Some tree → IsOver (world_of (files_of start tree)) n.events) → HasRead start known before now n
   read_known recorded same n keys filed = record {
     tree = tree_same ∙ has.tree;
     faults = same ∙ has.faults;
-    reads = subst (λ (ps : List (List ℕ)). Extends before.reads now.reads (plain_reads ps)) (sym (keys ∙ paths)) (subst (Extends before.reads now.reads) (plain-ended (paths_read l.keys) path) (more false recorded));
+    reads = subst (λ (ps : List (List ℕ)). Extends before.reads now.reads (plain_reads ps)) (sym (keys ∙ paths)) (subst (Extends before.reads now.reads) (plain-ended (unknown_of known (paths_read l.keys)) path) (more false recorded));
     over = filed;
   }

@@ -1,55 +1,50 @@
 -- The steps of loading by one seat: each is allowed, and leaves less to do.
-use Rattle.std.proofs.Common.{◌≡◌, inl, inr, ◌↔◌, ℕ, ◌<◌, ◌≤◌, List, [], ◌∷◌, ◌++◌, slice_get, Option, Some, None, Bool, true, false, if◌then◌else◌, refl, sym, ◌∙◌, ap, subst, true≢false}
+use Rattle.std.proofs.Common.{◌≡◌, ◌⊎◌, inl, inr, ◌↔◌, ℕ, suc, ◌<◌, List, [], ◌∷◌, ◌++◌, slice_get, Option, Some, None, Bool, true, false, if◌then◌else◌, refl, sym, ◌∙◌, ap, subst, true≢false}
 use Rattle.std.specs.List.{list_any}
 use Rattle.std.proofs.lemmas.Option.{same_Some}
 use Rattle.gn_paths.specs.declared.place.Place.{Place}
-use Rattle.gn_values.specs.Imported.{ImportState}
+use Rattle.gn_definitions.specs.Imported.{ImportState}
 use Rattle.gn_runs.specs.Runs.{Question, content_of, import_of, Content, Imported, has_value, is_unusable, End, ended, wrong, spoiled, needs, Run}
 use Rattle.gn_runs.specs.Laws.{IsUnknown}
 use Rattle.gn_runs.proofs.TreeLaws.{tree_needs_unknown}
 use Rattle.gn_imports.specs.Rounds.{imported_of}
 use Rattle.gn_closure.specs.Closure.{In}
 use Rattle.gn_closure.specs.Reach.{Unit_key, Setup, Load, Done}
-use Rattle.gn_core.specs.Keys.{Layer, usual, Key, Read, Import, Unit_of, Resolve, Answer, found, import_is, no_value, unit_is, record_is, Leaving, Filed, content_in, imported_in, unit_in, done_in, seen_end, key_of, layer_of, shown, put, same_key}
-use Rattle.gn_core.specs.Machine.{State, Event, Claim, Block, File, happens, Leads, NeedsAt, Allowed, Runs, IsRight, IsRightImport, spoiled_as, ClosesCycle, read_limit}
+use Rattle.gn_core.specs.Keys.{Layer, early, usual, Key, Read, Import, Unit_of, Resolve, Answer, found, import_is, no_value, unit_is, record_is, Leaving, UnitLeft, Filed, content_in, imported_in, unit_in, done_in, seen_end, key_of, layer_of, shown, put, same_key}
+use Rattle.gn_core.specs.Machine.{State, Event, Claim, Block, File, happens, Leads, NeedsAt, Allowed, Runs, IsRight, IsRightImport, spoiled_as, ClosesCycle}
 use Rattle.gn_core.proofs.Puts.{put_own}
 use Rattle.gn_book.specs.Graphs.{is_unit, UnitsHaveNumbers}
 use Rattle.gn_book.specs.Logs.{Log, opening, state_of, with_key, with_event, key_at, IsFree}
 use Rattle.gn_book.specs.Next.{IsReadyNumber}
 use Rattle.gn_book.specs.Tasks.{is_task}
-use Rattle.gn_meaning.specs.Steps.{Left}
-use Rattle.gn_executions.specs.Units.{load_execution}
-use Rattle.gn_executions.specs.Base.{plain_base}
-use Rattle.gn_builds.specs.Worlds.{Files, evaluator, world_of, left_end, import_of_layer, unit_of_key, nothing_needed}
+use Rattle.gn_executions.specs.Base.{BaseState}
+use Rattle.gn_builds.specs.Worlds.{Files, evaluator, world_of, base_of_layer, import_of_layer, unit_over, unit_of_key, nothing_needed}
 use Rattle.gn_builds.specs.Working.{over, IsRightOver, IsInNeed, AsksContent}
 use Rattle.gn_builds.specs.Stacks.{IsAskable, MayWait, IsStacked, TopIsReady}
-use Rattle.gn_builds.specs.Driving.{IsOfKind, AreNamed, IsDriven, count_of, is_read, remaining, left_to_do}
-use Rattle.gn_builds.proofs.Builds.{left_nothing}
+use Rattle.gn_builds.specs.Driving.{IsOfKind, AreNamed, IsDriven, remaining, left_to_do}
+use Rattle.gn_builds.proofs.Builds.{unit_nothing}
 use Rattle.gn_builds.proofs.Layered.{import_tree, unit_tree}
 use Rattle.gn_builds.proofs.Logs.{after_event, event_runs, still_differ}
-use Rattle.gn_builds.proofs.Parts.{parts_give_answers, parts_give_needs, needed_imports_are_read, cycles_have_no_value, trees_dont_matter}
+use Rattle.gn_builds.proofs.Parts.{own_answers, own_needs, needed_imports_are_read, cycles_have_no_value, trees_dont_matter}
 use Rattle.gn_builds.proofs.Stacks.{none_some, not_unit, begun, waiting_on, closing, settled, leads_from, unit_closes_none}
 use Rattle.gn_builds.proofs.Named.{number_of, once, MayBeNamed, is_new, named_more, named_still, named_settled, named_begun}
-use Rattle.gn_builds.proofs.Counts.{any_in, settled_less, waiting_less, reading_less}
+use Rattle.gn_builds.proofs.Counts.{any_in, settled_less, early_less, usual_less, reading_less}
 
 abbrev DifferIn : List Key → Type 0
 DifferIn ks = (i j : ℕ) (q : Key) → slice_get ks i ≡ Some q → slice_get ks j ≡ Some q → i ≡ j
 
 -- a unit that has an answer needs nothing
-unit_plain : (part : Filed) (u : Unit_key) (v : Answer) (d : Done) → v ≡ unit_is (unit_of_key u (shown part (layer_of u))) → unit_in (Some v) ≡ Some (Some d) → d ≡ nothing_needed
-unit_plain part (Setup toolchain) v d is h =
-    let same : Some (Some nothing_needed) ≡ Some (Some d) = ap (λ (x : Answer). unit_in (Some x)) (sym is) ∙ h in
-    sym (same_Some nothing_needed d (same_Some (Some nothing_needed) (Some d) same))
-unit_plain part (Load dir toolchain) v d is h =
-    let end : End (Left (Unit {0})) = (load_execution plain_base dir toolchain (shown part (usual toolchain))).end in
-    let same : Some (done_in (left_end (λ (value : Unit {0}). nothing_needed) end)) ≡ Some (Some d) = ap (λ (x : Answer). unit_in (Some x)) (sym is) ∙ h in
-    left_nothing end d (same_Some (done_in (left_end (λ (value : Unit {0}). nothing_needed) end)) (Some d) same)
+unit_plain : (start : BaseState) (part : Filed) (u : Unit_key) (v : Answer) (d : Done) → v ≡ unit_is (unit_of_key start part u (shown part (layer_of u))) → unit_in (Some v) ≡ Some (Some d) → d ≡ nothing_needed
+unit_plain start part u v d is h =
+    let run : Run (Leaving UnitLeft) = unit_of_key start part u (shown part (layer_of u)) in
+    let same : Some (done_in run.end) ≡ Some (Some d) = ap (λ (x : Answer). unit_in (Some x)) (sym is) ∙ h in
+    unit_nothing (base_of_layer start part (layer_of u)) u (shown part (layer_of u)) d (same_Some (done_in run.end) (Some d) same)
 
-plain : (part : Filed) (k : Key) (v : Answer) → IsRightOver part k v → (d : Done) → is_unit k ≡ true → unit_in (Some v) ≡ Some (Some d) → d ≡ nothing_needed
-plain part (Read path) v right d unit h = absurd (true≢false (sym unit))
-plain part (Import layer path) v right d unit h = absurd (true≢false (sym unit))
-plain part (Unit_of u) v right d unit h = unit_plain part u v d right.1 h
-plain part (Resolve label) v right d unit h = absurd (true≢false (sym unit))
+plain : (start : BaseState) (part : Filed) (k : Key) (v : Answer) → IsRightOver start part k v → (d : Done) → is_unit k ≡ true → unit_in (Some v) ≡ Some (Some d) → d ≡ nothing_needed
+plain start part (Read path) v right d unit h = absurd (true≢false (sym unit))
+plain start part (Import layer path) v right d unit h = absurd (true≢false (sym unit))
+plain start part (Unit_of u) v right d unit h = unit_plain start part u v d right.1 h
+plain start part (Resolve label) v right d unit h = absurd (true≢false (sym unit))
 
 -- a right answer is of the kind of its key
 spoiled_kind : (x : Option Answer) (q : List ℕ) (p : Place) (run : Run (Leaving ImportState)) → run.end ≡ spoiled q p → imported_in (Some (spoiled_as x q p run)) ≡ Some is_unusable
@@ -67,14 +62,16 @@ import_kind part l path run (spoiled q p) v e right = (is_unusable, ap (λ (w : 
 import_kind part l path run (needs (content_of q) p) v e right = absurd right
 import_kind part l path run (needs (import_of q) p) v e right = (is_unusable, ap (λ (w : Answer). imported_in (Some w)) right.0)
 
-right_kind : (part : Filed) (k : Key) (v : Answer) → IsRightOver part k v → IsOfKind k v
-right_kind part (Read path) v right = right
-right_kind part (Import layer path) v right = import_kind part layer path (import_of_layer layer path (shown part layer)) (import_of_layer layer path (shown part layer)).end v refl right
-right_kind part (Unit_of u) v right = tt
-right_kind part (Resolve label) v right = tt
+right_kind : (start : BaseState) (part : Filed) (k : Key) (v : Answer) → IsRightOver start part k v → IsOfKind k v
+right_kind start part (Read path) v right = right
+right_kind start part (Import layer path) v right =
+    let run : Run (Leaving ImportState) = import_of_layer (base_of_layer start part layer) layer path (shown part layer) in
+    import_kind part layer path run run.end v refl right
+right_kind start part (Unit_of u) v right = tt
+right_kind start part (Resolve label) v right = tt
 
 -- The answer of the first key is filed
-module _ (l : Log) (k : Key) (ks : List Key) (v : Answer) (d : IsDriven l (k ∷ ks)) where
+module _ (start : BaseState) (l : Log) (k : Key) (ks : List Key) (v : Answer) (d : IsDriven start l (k ∷ ks)) where
   abbrev filed_event : Event
   filed_event = File 0 k v
 
@@ -84,27 +81,31 @@ module _ (l : Log) (k : Key) (ks : List Key) (v : Answer) (d : IsDriven l (k ∷
   filed_state : (P : State → Type 0) → P (happens (state_of l) filed_event) → P (state_of filed_log)
   filed_state P p = subst P (sym (after_event l filed_event)) p
 
-  pub step_settled : IsRightOver (state_of l).filed k v → IsDriven filed_log ks × (left_to_do filed_log < left_to_do l)
-  step_settled right =
+  pub step_settled : (room : ℕ) → IsRightOver start (state_of l).filed k v → IsDriven start filed_log ks × (left_to_do room filed_log < left_to_do room l)
+  step_settled room right =
       let rest = settled (state_of l) k ks v d.stacked in
-      let allowed : (files : Files) → Allowed (world_of files) (λ path. false) (state_of l) filed_event =
-      λ files. (d.stacked.held k (inl refl), trees_dont_matter files (state_of l) k v (parts_give_answers (state_of l).filed (state_of l) k v (λ q x e. e) right)) in (
+      let allowed : (files : Files) → files.start ≡ start → Allowed (world_of files) (λ path. false) (state_of l) filed_event =
+      λ files same. (
+        d.stacked.held k (inl refl),
+        trees_dont_matter files (state_of l) k v (subst (λ (b : BaseState). IsRight (evaluator b) (state_of l).filed (state_of l) k v) (sym same) (own_answers start (state_of l) k v right)),
+      ) in (
         record {
           seats = d.seats;
           apart = d.apart;
-          runs = λ files. event_runs (world_of files) (λ path. false) l filed_event (d.runs files) (allowed files);
+          runs = λ files same. event_runs (world_of files) (λ path. false) l filed_event (d.runs files same) (allowed files same);
           stacked = filed_state (λ s. IsStacked s ks) rest.0;
           ready = filed_state (λ s. TopIsReady s ks) rest.1;
-          named = filed_state (λ s. AreNamed l.keys s ks) (named_settled l.keys (state_of l) k ks v d.named (λ x unit h. plain (state_of l).filed k v right x unit h) (right_kind (state_of l).filed k v right));
+          named = filed_state (λ s. AreNamed l.keys s ks) (named_settled l.keys (state_of l) k ks v d.named (λ x unit h. plain start (state_of l).filed k v right x unit h) (right_kind start (state_of l).filed k v right));
         },
-        filed_state (λ s. remaining l.keys s.filed < left_to_do l) (settled_less l.keys (state_of l).filed k v (d.stacked.unfiled k (inl refl)) (once l.keys d.apart) (d.named.claimed k (inl refl))),
+        filed_state (λ s. remaining room l.keys s.filed < left_to_do room l) (settled_less room l.keys (state_of l).filed k v (d.stacked.unfiled k (inl refl)) (once l.keys d.apart) (d.named.claimed k (inl refl))),
       )
 
 -- a unit is taken up
-pub step_begun : (l : Log) (n : ℕ) → IsDriven l [] → UnitsHaveNumbers l → IsReadyNumber l n → In l.keys (key_at l n) → IsDriven (with_event l (Claim 0 (key_at l n))) (key_at l n ∷ []) × (left_to_do (with_event l (Claim 0 (key_at l n))) ≡ left_to_do l)
-step_begun l n d numbers ready there = by (key_at l n) refl ready.task ready.free there
+pub step_begun : (start : BaseState) (l : Log) (n : ℕ) → IsDriven start l [] → UnitsHaveNumbers l → IsReadyNumber l n → In l.keys (key_at l n)
+    → IsDriven start (with_event l (Claim 0 (key_at l n))) (key_at l n ∷ []) × ((room : ℕ) → left_to_do room (with_event l (Claim 0 (key_at l n))) ≡ left_to_do room l)
+step_begun start l n d numbers ready there = by (key_at l n) refl ready.task ready.free there
   where
-    by : (k : Key) → key_at l n ≡ k → is_task k ≡ true → IsFree (state_of l) k → In l.keys k → IsDriven (with_event l (Claim 0 k)) (k ∷ []) × (left_to_do (with_event l (Claim 0 k)) ≡ left_to_do l)
+    by : (k : Key) → key_at l n ≡ k → is_task k ≡ true → IsFree (state_of l) k → In l.keys k → IsDriven start (with_event l (Claim 0 k)) (k ∷ []) × ((room : ℕ) → left_to_do room (with_event l (Claim 0 k)) ≡ left_to_do room l)
     by (Read path) e task free i = absurd (true≢false (sym task))
     by (Import layer path) e task free i = absurd (true≢false (sym task))
     by (Resolve label) e task free i = absurd (d.named.labels label i)
@@ -115,66 +116,72 @@ step_begun l n d numbers ready there = by (key_at l n) refl ready.task ready.fre
           record {
             seats = d.seats;
             apart = d.apart;
-            runs = λ files. event_runs (world_of files) (λ path. false) l claim (d.runs files) (((numbers u).0 (number_of l.keys (Unit_of u) i), free.unclaimed, free.unfiled, d.stacked.going), λ q h. (d.stacked.alone q 0 h).1);
+            runs = λ files same. event_runs (world_of files) (λ path. false) l claim (d.runs files same) (((numbers u).0 (number_of l.keys (Unit_of u) i), free.unclaimed, free.unfiled, d.stacked.going), λ q h. (d.stacked.alone q 0 h).1);
             stacked = subst (λ s. IsStacked s (Unit_of u ∷ [])) (sym state) one.0;
             ready = subst (λ s. TopIsReady s (Unit_of u ∷ [])) (sym state) one.1;
             named = subst (λ s. AreNamed l.keys s (Unit_of u ∷ [])) (sym state) (named_begun l.keys (state_of l) (Unit_of u) d.named i);
           },
-          ap (λ (s : State). remaining l.keys s.filed) state,
+          λ room. ap (λ (s : State). remaining room l.keys s.filed) state,
         )
 
 -- what is needed over what is filed is the same over every tree
-needs_tree : (files : Files) (filed : Filed) (k on : Key) (place : Place) → NeedsAt evaluator filed filed k on place → NeedsAt (world_of files) filed filed k on place
+needs_tree : (files : Files) (filed : Filed) (k on : Key) (place : Place) → NeedsAt (evaluator files.start) filed filed k on place → NeedsAt (world_of files) filed filed k on place
 needs_tree files filed (Read path) on place need = need
 needs_tree files filed (Import layer path) on place need = need
 needs_tree files filed (Unit_of u) on place need = need
 needs_tree files filed (Resolve label) on place need = need
 
 -- What is needed
-needed_askable : (k on : Key) (part : Filed) (place : Place) (asked : List Question) → IsInNeed part k on place asked → IsAskable on
-needed_askable (Read path) on part place asked need = absurd need
-needed_askable (Import layer path) on part place asked need = asked_key layer need.0 on need.1
+needed_askable : (start : BaseState) (k on : Key) (part : Filed) (place : Place) (asked : List Question) → IsInNeed start part k on place asked → IsAskable on
+needed_askable start (Read path) on part place asked need = absurd need
+needed_askable start (Import layer path) on part place asked need = asked_key layer need.0 on need.1
   where
     asked_key : (m : Layer) (q : Question) (z : Key) → z ≡ key_of m q → IsAskable z
     asked_key m (content_of other) z e = subst IsAskable (sym e) tt
     asked_key m (import_of other) z e = subst IsAskable (sym e) tt
-needed_askable (Unit_of u) on part place asked need = asked_key (layer_of u) need.0 on need.1
+needed_askable start (Unit_of u) on part place asked need = asked_key (layer_of u) need.0 on need.1
   where
     asked_key : (m : Layer) (q : Question) (z : Key) → z ≡ key_of m q → IsAskable z
     asked_key m (content_of other) z e = subst IsAskable (sym e) tt
     asked_key m (import_of other) z e = subst IsAskable (sym e) tt
-needed_askable (Resolve label) on part place asked need = absurd need
+needed_askable start (Resolve label) on part place asked need = absurd need
 
-needing_waits : (k on : Key) (part : Filed) (place : Place) (asked : List Question) → IsInNeed part k on place asked → MayWait k
-needing_waits (Read path) on part place asked need = absurd need
-needing_waits (Import layer path) on part place asked need = tt
-needing_waits (Unit_of u) on part place asked need = tt
-needing_waits (Resolve label) on part place asked need = absurd need
+needing_waits : (start : BaseState) (k on : Key) (part : Filed) (place : Place) (asked : List Question) → IsInNeed start part k on place asked → MayWait k
+needing_waits start (Read path) on part place asked need = absurd need
+needing_waits start (Import layer path) on part place asked need = tt
+needing_waits start (Unit_of u) on part place asked need = tt
+needing_waits start (Resolve label) on part place asked need = absurd need
 
 -- the layer of what an import asks
 same_layer_asked : (m n : Layer) (q : Question) (path : List ℕ) → Import n path ≡ key_of m q → n ≡ m
 same_layer_asked m n (content_of other) path e = absurd (cc e)
 same_layer_asked m n (import_of other) path e = let same : n ≡ m = cc e in same
 
-pub needed_layer : (names : List Key) (s : State) (ks : List Key) (k : Key) (n : Layer) (path : List ℕ) (place : Place) (asked : List Question)
-    → AreNamed names s ks → In names k → IsInNeed s.filed k (Import n path) place asked → n ≡ usual []
-needed_layer names s ks (Read p) n path place asked named i need = absurd need
-needed_layer names s ks (Import m p) n path place asked named i need = same_layer_asked m n need.0 path need.1 ∙ (named.imports m p i).0
-needed_layer names s ks (Unit_of (Setup t)) n path place asked named i need = absurd (cc need.2)
-needed_layer names s ks (Unit_of (Load dir t)) n path place asked named i need =
+pub needed_layer : (start : BaseState) (names : List Key) (s : State) (ks : List Key) (k : Key) (n : Layer) (path : List ℕ) (place : Place) (asked : List Question)
+    → AreNamed names s ks → In names k → IsInNeed start s.filed k (Import n path) place asked → (n ≡ early []) ⊎ (n ≡ usual [])
+needed_layer start names s ks (Read p) n path place asked named i need = absurd need
+needed_layer start names s ks (Import m p) n path place asked named i need =
+    let same = same_layer_asked m n need.0 path need.1 in
+    elim (named.imports m p i).0 [ inl e ↦ inl (same ∙ e) | inr e ↦ inr (same ∙ e) ]
+needed_layer start names s ks (Unit_of (Setup t)) n path place asked named i need =
+    elim (named.units (Setup t) i) [
+      | inl e ↦ (let same : t ≡ [] = cc e in inl (same_layer_asked (early t) n need.0 path need.1 ∙ ap early same))
+      | inr e ↦ absurd (cc e)
+    ]
+needed_layer start names s ks (Unit_of (Load dir t)) n path place asked named i need =
     elim (named.units (Load dir t) i) [
       | inl e ↦ absurd (cc e)
-      | inr e ↦ (let same : t ≡ [] = cc e in same_layer_asked (usual t) n need.0 path need.1 ∙ ap usual same)
+      | inr e ↦ (let same : t ≡ [] = cc e in inr (same_layer_asked (usual t) n need.0 path need.1 ∙ ap usual same))
     ]
-needed_layer names s ks (Resolve label) n path place asked named i need = absurd need
+needed_layer start names s ks (Resolve label) n path place asked named i need = absurd need
 
-may_be_named : (names : List Key) (s : State) (ks : List Key) (k on : Key) (place : Place) (asked : List Question)
-    → AreNamed names s ks → In names k → IsInNeed s.filed k on place asked → AsksContent on asked → MayBeNamed names on
-may_be_named names s ks k (Read path) place asked named i need content = tt
-may_be_named names s ks k (Import n path) place asked named i need content =
-    (needed_layer names s ks k n path place asked named i need, named.filed (Read path) (needed_imports_are_read s.filed k n path place asked need content))
-may_be_named names s ks k (Unit_of u) place asked named i need content = needed_askable k (Unit_of u) s.filed place asked need
-may_be_named names s ks k (Resolve label) place asked named i need content = needed_askable k (Resolve label) s.filed place asked need
+may_be_named : (start : BaseState) (names : List Key) (s : State) (ks : List Key) (k on : Key) (place : Place) (asked : List Question)
+    → AreNamed names s ks → In names k → IsInNeed start s.filed k on place asked → AsksContent on asked → MayBeNamed names on
+may_be_named start names s ks k (Read path) place asked named i need content = tt
+may_be_named start names s ks k (Import n path) place asked named i need content =
+    (needed_layer start names s ks k n path place asked named i need, named.filed (Read path) (needed_imports_are_read start s.filed k n path place asked need content))
+may_be_named start names s ks k (Unit_of u) place asked named i need content = needed_askable start k (Unit_of u) s.filed place asked need
+may_be_named start names s ks k (Resolve label) place asked named i need content = needed_askable start k (Resolve label) s.filed place asked need
 
 -- what is needed has no answer
 content_lacks : (x : Option Answer) → ((v : Answer) → x ≡ Some v → (content : Content) × (v ≡ found content)) → content_in x ≡ None → x ≡ None
@@ -192,26 +199,36 @@ lacks_by : (names : List Key) (s : State) (ks : List Key) → AreNamed names s k
 lacks_by names s ks named m (content_of path) none = content_lacks (s.filed (Read path)) (λ v e. named.kinds (Read path) v e) none
 lacks_by names s ks named m (import_of path) none = import_lacks (s.filed (Import m path)) (λ v e. named.kinds (Import m path) v e) none
 
-pub needed_lacks : (names : List Key) (s : State) (ks : List Key) → AreNamed names s ks → (k on : Key) (place : Place) (asked : List Question) → IsInNeed s.filed k on place asked → s.filed on ≡ None
-needed_lacks names s ks named (Read path) on place asked need = absurd need
-needed_lacks names s ks named (Import m path) on place asked need =
+pub needed_lacks : (start : BaseState) (names : List Key) (s : State) (ks : List Key) → AreNamed names s ks → (k on : Key) (place : Place) (asked : List Question) → IsInNeed start s.filed k on place asked → s.filed on ≡ None
+needed_lacks start names s ks named (Read path) on place asked need = absurd need
+needed_lacks start names s ks named (Import m path) on place asked need =
+    let base : BaseState = base_of_layer start s.filed m in
     subst (λ (z : Key). s.filed z ≡ None) (sym need.1)
-    (lacks_by names s ks named m need.0 (tree_needs_unknown (λ a. import_of_layer m path a) (import_tree m path) (shown s.filed m) need.0 place need.2).0)
-needed_lacks names s ks named (Unit_of u) on place asked need =
+    (lacks_by names s ks named m need.0 (tree_needs_unknown (λ a. import_of_layer base m path a) (import_tree base m path) (shown s.filed m) need.0 place need.2).0)
+needed_lacks start names s ks named (Unit_of u) on place asked need =
+    let base : BaseState = base_of_layer start s.filed (layer_of u) in
     subst (λ (z : Key). s.filed z ≡ None) (sym need.1)
-    (lacks_by names s ks named (layer_of u) need.0 (tree_needs_unknown (λ a. unit_of_key u a) (unit_tree u) (shown s.filed (layer_of u)) need.0 place need.2).0)
-needed_lacks names s ks named (Resolve label) on place asked need = absurd need
+    (lacks_by names s ks named (layer_of u) need.0 (tree_needs_unknown (λ a. unit_over base u a) (unit_tree base u) (shown s.filed (layer_of u)) need.0 place need.2).0)
+needed_lacks start names s ks named (Resolve label) on place asked need = absurd need
+
+-- how many files can still be read and taken before a key is claimed, if it is so many afterwards
+abbrev pub room_before : Key → ℕ → ℕ
+room_before (Read path) room = suc room
+room_before (Import layer path) room = room
+room_before (Unit_of u) room = room
+room_before (Resolve label) room = room
 
 -- The first key needs another one
-module _ (l : Log) (k on : Key) (ks : List Key) (place : Place) (asked : List Question) (d : IsDriven l (k ∷ ks)) (need : IsInNeed (state_of l).filed k on place asked) (content : AsksContent on asked) (none : (state_of l).filed on ≡ None) where
+module _ (start : BaseState) (l : Log) (k on : Key) (ks : List Key) (place : Place) (asked : List Question) (d : IsDriven start l (k ∷ ks)) (need : IsInNeed start (state_of l).filed k on place asked) (content : AsksContent on asked) (none : (state_of l).filed on ≡ None) where
   askable : IsAskable on
-  askable = needed_askable k on (state_of l).filed place asked need
+  askable = needed_askable start k on (state_of l).filed place asked need
 
-  allowed_block : (closes : Bool) → (closes ≡ true) ↔ Leads (state_of l).blocks on k → (files : Files) → Allowed (world_of files) (λ path. false) (state_of l) (Block 0 k on place closes)
-  allowed_block closes is files = (
+  allowed_block : (closes : Bool) → (closes ≡ true) ↔ Leads (state_of l).blocks on k → (files : Files) → files.start ≡ start → Allowed (world_of files) (λ path. false) (state_of l) (Block 0 k on place closes)
+  allowed_block closes is files same = (
     d.stacked.held k (inl refl),
     λ b e lacks. (let f = d.ready b e in absurd (cc (sym lacks ∙ f.1))),
-    needs_tree files (state_of l).filed k on place (parts_give_needs (state_of l).filed (state_of l).filed k on place asked (λ q x e. e) none need).0,
+    needs_tree files (state_of l).filed k on place
+        (subst (λ (b : BaseState). NeedsAt (evaluator b) (state_of l).filed (state_of l).filed k on place) (sym same) (own_needs start (state_of l).filed k on place asked need)),
     is,
   )
 
@@ -230,29 +247,34 @@ module _ (l : Log) (k on : Key) (ks : List Key) (place : Place) (asked : List Qu
   grown : list_any (same_key on) l.keys ≡ false → more.keys ≡ l.keys ++ on ∷ []
   grown new = ap (λ b. if b then l.keys else l.keys ++ on ∷ []) new
 
-  less_by : (q : Key) → on ≡ q → MayBeNamed l.keys q → list_any (same_key q) l.keys ≡ false → count_of is_read l.keys ≤ read_limit → remaining (l.keys ++ q ∷ []) (state_of l).filed < remaining l.keys (state_of l).filed
-  less_by (Read path) e may new few = reading_less l.keys path (state_of l).filed few
-  less_by (Import n path) e may new few =
-      subst (λ (m : Layer). remaining (l.keys ++ Import m path ∷ []) (state_of l).filed < remaining l.keys (state_of l).filed) (sym may.0)
-      (waiting_less l.keys path (subst (λ (m : Layer). list_any (same_key (Import m path)) l.keys ≡ false) may.0 new) (once l.keys d.apart) may.1 (state_of l).filed)
-  less_by (Unit_of u) e may new few = absurd may
-  less_by (Resolve label) e may new few = absurd may
+  less_by : (room : ℕ) (q : Key) → MayBeNamed l.keys q → list_any (same_key q) l.keys ≡ false → remaining room (l.keys ++ q ∷ []) (state_of l).filed < remaining (room_before q room) l.keys (state_of l).filed
+  less_by room (Read path) may new = reading_less l.keys path room (state_of l).filed
+  less_by room (Import n path) may new = elim may.0 [
+    | inl e ↦ subst (λ (m : Layer). remaining room (l.keys ++ Import m path ∷ []) (state_of l).filed < remaining room l.keys (state_of l).filed) (sym e)
+        (early_less room l.keys path (subst (λ (m : Layer). list_any (same_key (Import m path)) l.keys ≡ false) e new) (once l.keys d.apart) may.1 (state_of l).filed)
+    | inr e ↦ subst (λ (m : Layer). remaining room (l.keys ++ Import m path ∷ []) (state_of l).filed < remaining room l.keys (state_of l).filed) (sym e)
+        (usual_less room l.keys path (subst (λ (m : Layer). list_any (same_key (Import m path)) l.keys ≡ false) e new) (once l.keys d.apart) may.1 (state_of l).filed)
+  ]
+  less_by room (Unit_of u) may new = absurd may
+  less_by room (Resolve label) may new = absurd may
 
-  pub step_waits : IsFree (state_of l) on → count_of is_read l.keys ≤ read_limit → IsDriven waiting_log (on ∷ k ∷ ks) × (left_to_do waiting_log < left_to_do l)
-  step_waits free few =
+  pub step_waits : (room : ℕ) → IsFree (state_of l) on → IsDriven start waiting_log (on ∷ k ∷ ks) × (left_to_do room waiting_log < left_to_do (room_before on room) l)
+  step_waits room free =
       let apart : In (k ∷ ks) on → ⊥ = λ i. none_some ((state_of l).claims on) 0 free.unclaimed (d.stacked.held on i) in
-      let may = may_be_named l.keys (state_of l) (k ∷ ks) k on place asked d.named (d.named.claimed k (inl refl)) need content in
+      let may = may_be_named start l.keys (state_of l) (k ∷ ks) k on place asked d.named (d.named.claimed k (inl refl)) need content in
       let new = is_new l (state_of l) (k ∷ ks) on d.named (not_unit on askable) apart none in
-      let next = waiting_on (state_of l) k on ks place d.stacked (needing_waits k on (state_of l).filed place asked need) askable free in (
+      let next = waiting_on (state_of l) k on ks place d.stacked (needing_waits start k on (state_of l).filed place asked need) askable free in (
         record {
           seats = d.seats;
           apart = subst (λ (z : List Key). DifferIn z) (sym (grown new)) (still_differ l.keys on new d.apart);
-          runs = λ files. event_runs (world_of files) (λ path. false) more wait_event (d.runs files) (allowed_block false ((λ e. absurd (true≢false (sym e))), (λ leads. absurd (apart (leads_from (state_of l) k ks d.stacked on leads)))) files);
+          runs = λ files same. event_runs (world_of files) (λ path. false) more wait_event (d.runs files same)
+              (allowed_block false ((λ e. absurd (true≢false (sym e))), (λ leads. absurd (apart (leads_from (state_of l) k ks d.stacked on leads)))) files same);
           stacked = waiting_state (λ s. IsStacked s (on ∷ k ∷ ks)) next.0;
           ready = waiting_state (λ s. TopIsReady s (on ∷ k ∷ ks)) next.1;
           named = waiting_state (λ s. AreNamed more.keys s (on ∷ k ∷ ks)) (named_more l (state_of l) (happens (state_of l) wait_event) (k ∷ ks) on d.named may refl);
         },
-        waiting_state (λ s. remaining more.keys s.filed < left_to_do l) (subst (λ (z : List Key). remaining z (state_of l).filed < left_to_do l) (sym (grown new)) (less_by on refl may new few)),
+        waiting_state (λ s. remaining room more.keys s.filed < left_to_do (room_before on room) l)
+            (subst (λ (z : List Key). remaining room z (state_of l).filed < left_to_do (room_before on room) l) (sym (grown new)) (less_by room on may new)),
       )
 
   -- or its wait closes a cycle, and it has no value
@@ -277,7 +299,7 @@ module _ (l : Log) (k on : Key) (ks : List Key) (place : Place) (asked : List Qu
   closes : ClosesCycle (happens (state_of l) close_event) k
   closes = (record { on = on; place = place; closes = true }, put_own (state_of l).blocks k (record { on = on; place = place; closes = true }), refl)
 
-  import_by : (z : Key) → k ≡ z → is_unit z ≡ false → IsInNeed (state_of l).filed z on place asked → (m : Layer) × (path : List ℕ) × (k ≡ Import m path)
+  import_by : (z : Key) → k ≡ z → is_unit z ≡ false → IsInNeed start (state_of l).filed z on place asked → (m : Layer) × (path : List ℕ) × (k ≡ Import m path)
   import_by (Read path) e unit n = absurd n
   import_by (Import m path) e unit n = (m, path, e)
   import_by (Unit_of u) e unit n = absurd (true≢false unit)
@@ -290,18 +312,18 @@ module _ (l : Log) (k on : Key) (ks : List Key) (place : Place) (asked : List Qu
       by true e = absurd (unit_closes_none (state_of l) k on ks d.stacked askable e there)
       by false e = refl
 
-  no_value_right : (n : Layer) (q : List ℕ) → on ≡ Import n q → (m : Layer) (path : List ℕ) → k ≡ Import m path → IsRight evaluator (happens (state_of l) close_event).filed (happens (state_of l) close_event) k (no_value q place asked)
+  no_value_right : (n : Layer) (q : List ℕ) → on ≡ Import n q → (m : Layer) (path : List ℕ) → k ≡ Import m path → IsRight (evaluator start) (happens (state_of l) close_event).filed (happens (state_of l) close_event) k (no_value q place asked)
   no_value_right n q is m path e =
-      cycles_have_no_value (happens (state_of l) close_event) k path q place asked m e
-      (subst (λ (z : Key). IsInNeed (state_of l).filed k z place asked) (is ∙ ap (λ (w : Layer). Import w q) (layers n q is m path e)) need) closes
+      cycles_have_no_value start (happens (state_of l) close_event) k path q place asked m e
+      (subst (λ (z : Key). IsInNeed start (state_of l).filed k z place asked) (is ∙ ap (λ (w : Layer). Import w q) (layers n q is m path e)) need) closes
     where
       layers : (n1 : Layer) (q1 : List ℕ) → on ≡ Import n1 q1 → (m1 : Layer) (p1 : List ℕ) → k ≡ Import m1 p1 → n1 ≡ m1
       layers n1 q1 i1 m1 p1 e1 =
-          let there : IsInNeed (state_of l).filed (Import m1 p1) (Import n1 q1) place asked = subst (λ (z : Key). IsInNeed (state_of l).filed z (Import n1 q1) place asked) e1 (subst (λ (z : Key). IsInNeed (state_of l).filed k z place asked) i1 need) in
+          let there : IsInNeed start (state_of l).filed (Import m1 p1) (Import n1 q1) place asked = subst (λ (z : Key). IsInNeed start (state_of l).filed z (Import n1 q1) place asked) e1 (subst (λ (z : Key). IsInNeed start (state_of l).filed k z place asked) i1 need) in
           same_layer_asked m1 n1 there.0 q1 there.1
 
-  pub step_closes : Leads (state_of l).blocks on k → (n : Layer) (q : List ℕ) → on ≡ Import n q → IsDriven (ended_log q) ks × (left_to_do (ended_log q) < left_to_do l)
-  step_closes leads n q is =
+  pub step_closes : (room : ℕ) → Leads (state_of l).blocks on k → (n : Layer) (q : List ℕ) → on ≡ Import n q → IsDriven start (ended_log q) ks × (left_to_do room (ended_log q) < left_to_do room l)
+  step_closes room leads n q is =
       let there = leads_from (state_of l) k ks d.stacked on leads in
       let unit = not_a_unit there in
       let imported = import_by k refl unit need in
@@ -309,20 +331,24 @@ module _ (l : Log) (k on : Key) (ks : List Key) (place : Place) (asked : List Qu
       let shut = closing (state_of l) k on ks place d.stacked askable there in
       let rest = settled (happens (state_of l) close_event) k ks (no_value q place asked) shut in
       let named = named_still l (state_of l) (happens (state_of l) close_event) (k ∷ ks) on d.named there refl in
-      let runs : (files : Files) → Runs (world_of files) (λ path. false) opening closed.events =
-      λ files. event_runs (world_of files) (λ path. false) more close_event (d.runs files) (allowed_block true ((λ e. leads), (λ x. refl)) files) in
+      let runs : (files : Files) → files.start ≡ start → Runs (world_of files) (λ path. false) opening closed.events =
+      λ files same. event_runs (world_of files) (λ path. false) more close_event (d.runs files same) (allowed_block true ((λ e. leads), (λ x. refl)) files same) in
       let keys : more.keys ≡ l.keys = ap (λ b. if b then l.keys else l.keys ++ on ∷ []) (any_in l.keys on (d.named.claimed on there)) in (
         record {
           seats = d.seats;
           apart = subst (λ (z : List Key). DifferIn z) (sym keys) d.apart;
-          runs = λ files. event_runs (world_of files) (λ path. false) closed (end_event q) (runs files)
-              (closed_state (λ s. Allowed (world_of files) (λ path. false) s (end_event q)) (shut.held k (inl refl), trees_dont_matter files (happens (state_of l) close_event) k (no_value q place asked) right));
+          runs = λ files same. event_runs (world_of files) (λ path. false) closed (end_event q) (runs files same)
+              (closed_state (λ s. Allowed (world_of files) (λ path. false) s (end_event q)) (
+                shut.held k (inl refl),
+                trees_dont_matter files (happens (state_of l) close_event) k (no_value q place asked)
+                    (subst (λ (b : BaseState). IsRight (evaluator b) (happens (state_of l) close_event).filed (happens (state_of l) close_event) k (no_value q place asked)) (sym same) right),
+              ));
           stacked = ended_state q (λ s. IsStacked s ks) rest.0;
           ready = ended_state q (λ s. TopIsReady s ks) rest.1;
           named = ended_state q (λ s. AreNamed more.keys s ks) (named_settled more.keys (happens (state_of l) close_event) k ks (no_value q place asked) named (λ x u h. absurd (true≢false (sym u ∙ unit)))
               (subst (λ (z : Key). IsOfKind z (no_value q place asked)) (sym imported.2) (is_unusable, refl)));
         },
-        ended_state q (λ s. remaining more.keys s.filed < left_to_do l)
-            (subst (λ (z : List Key). remaining z (put (state_of l).filed k (Some (no_value q place asked))) < left_to_do l) (sym keys)
-            (settled_less l.keys (state_of l).filed k (no_value q place asked) (d.stacked.unfiled k (inl refl)) (once l.keys d.apart) (d.named.claimed k (inl refl)))),
+        ended_state q (λ s. remaining room more.keys s.filed < left_to_do room l)
+            (subst (λ (z : List Key). remaining room z (put (state_of l).filed k (Some (no_value q place asked))) < left_to_do room l) (sym keys)
+            (settled_less room l.keys (state_of l).filed k (no_value q place asked) (d.stacked.unfiled k (inl refl)) (once l.keys d.apart) (d.named.claimed k (inl refl)))),
       )

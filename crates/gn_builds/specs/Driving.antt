@@ -1,6 +1,6 @@
 -- The log of loading by one seat, and how far it has come.
-use Rattle.std.specs.Prelude.{◌≡◌, ◌⊎◌, ℕ, suc, ◌+◌, ◌-◌, ◌*◌, ◌<◌, ◌≤◌, List, [], ◌∷◌, map, Option, Some, None, Bool, true, false, not, is_some, IsSome}
-use Rattle.std.specs.List.{list_any}
+use Rattle.std.specs.Prelude.{◌≡◌, ◌⊎◌, ℕ, ◌+◌, ◌*◌, ◌<◌, ◌≤◌, List, [], ◌∷◌, map, length, Option, Some, None, Bool, true, false, not, is_some, IsSome}
+use Rattle.std.specs.List.{filter, list_any}
 use Rattle.gn_outside.specs.Tree.{Tree}
 use Rattle.gn_outside.specs.States.{SourceRead, SourceState, paths_of}
 use Rattle.gn_outside.specs.Lists.{Extends, Each}
@@ -10,7 +10,9 @@ use Rattle.gn_labels.specs.declared.label.Label.{Label}
 use Rattle.gn_closure.specs.Closure.{In}
 use Rattle.gn_closure.specs.Reach.{Unit_key, Setup}
 use Rattle.gn_graph.specs.Numbers.{IsMore}
-use Rattle.gn_core.specs.Keys.{Layer, usual, Key, Read, Import, Unit_of, Resolve, Answer, found, Filed, imported_in, units, same_key}
+use Rattle.gn_environment.specs.Chains.{is_one_of}
+use Rattle.gn_executions.specs.Base.{BaseState}
+use Rattle.gn_core.specs.Keys.{Layer, early, usual, Key, Read, Import, Unit_of, Resolve, Answer, found, Filed, imported_in, units, same_key}
 use Rattle.gn_core.specs.Machine.{State, Runs, Leads, IsOver, IsFiled, read_limit}
 use Rattle.gn_book.specs.Keys.{key_of}
 use Rattle.gn_book.specs.Graphs.{is_unit}
@@ -32,7 +34,7 @@ IsOfKind (Resolve label) v = Unit {0}
 -- is claimed or filed
 pub record AreNamed (names : List Key) (s : State) (ks : List Key) : Type 0 where
   pub begun : (k : Key) → In names k → is_unit k ≡ false → In ks k ⊎ IsFiled s.filed k
-  pub imports : (layer : Layer) (path : List ℕ) → In names (Import layer path) → (layer ≡ usual []) × In names (Read path)
+  pub imports : (layer : Layer) (path : List ℕ) → In names (Import layer path) → ((layer ≡ early []) ⊎ (layer ≡ usual [])) × In names (Read path)
   pub nothing : NeedNothing (units s.filed)
   pub units : (u : Unit_key) → In names (Unit_of u) → (u ≡ Setup []) ⊎ (u ≡ root)
   pub labels : (label : Label) → In names (Resolve label) → ⊥
@@ -40,11 +42,11 @@ pub record AreNamed (names : List Key) (s : State) (ks : List Key) : Type 0 wher
   pub filed : (k : Key) → IsFiled s.filed k → In names k
   pub kinds : (k : Key) (v : Answer) → s.filed k ≡ Some v → IsOfKind k v
 
--- the log of loading by one seat, which has claimed these keys, the last one first
-pub record IsDriven (l : Log) (ks : List Key) : Type 0 where
+-- the log of loading by one seat a build that starts with this base, which has claimed these keys, the last one first
+pub record IsDriven (start : BaseState) (l : Log) (ks : List Key) : Type 0 where
   pub seats : l.seats ≡ 1
   pub apart : KeysDiffer l
-  pub runs : (files : Files) → Runs (world_of files) (λ path. false) opening l.events
+  pub runs : (files : Files) → files.start ≡ start → Runs (world_of files) (λ path. false) opening l.events
   pub stacked : IsStacked (state_of l) ks
   pub ready : TopIsReady (state_of l) ks
   pub named : AreNamed l.keys (state_of l) ks
@@ -76,7 +78,8 @@ abbrev pub with_claim : Option Claim → List Claim → List Claim
 with_claim None cs = cs
 with_claim (Some c) cs = c ∷ cs
 
--- The measure of loading: how many files can still be read, how many imports can still be claimed of files that were read, and how many keys have no answer
+-- The measure of loading: how many files can still be read, how many imports of each layer can still be claimed of files that were read, and how many keys have
+-- no answer
 
 abbrev pub one_if : Bool → ℕ
 one_if true = 1
@@ -91,25 +94,23 @@ is_read (Read path) = true
 is_read _ = false
 
 -- a file was read that isn't imported yet
-abbrev pub is_awaited : List Key → Key → Bool
-is_awaited names (Read path) = not (list_any (same_key (Import (usual []) path)) names)
-is_awaited names _ = false
+abbrev pub is_awaited : Layer → List Key → Key → Bool
+is_awaited layer names (Read path) = not (list_any (same_key (Import layer path)) names)
+is_awaited layer names _ = false
 
 abbrev pub is_open : Filed → Key → Bool
 is_open filed k = not (is_some (filed k))
 
-unfoldable pub room : List Key → ℕ
-room names = suc read_limit - count_of is_read names
-
-unfoldable pub remaining : List Key → Filed → ℕ
-remaining names filed = 5 * room names + (2 * count_of (is_awaited names) names + count_of (is_open filed) names)
+-- `room`: how many files can still be read, and taken of those that were read before
+unfoldable pub remaining : ℕ → List Key → Filed → ℕ
+remaining room names filed = 7 * room + (2 * (count_of (is_awaited (early []) names) names + count_of (is_awaited (usual []) names) names) + count_of (is_open filed) names)
 
 -- how many of the two units of a build have no answer
 abbrev pub units_left : Filed → ℕ
 units_left filed = one_if (is_open filed (Unit_of (Setup []))) + one_if (is_open filed (Unit_of root))
 
-abbrev pub left_to_do : Log → ℕ
-left_to_do l = remaining l.keys (state_of l).filed
+abbrev pub left_to_do : ℕ → Log → ℕ
+left_to_do room l = remaining room l.keys (state_of l).filed
 
 -- Reads
 
@@ -121,32 +122,36 @@ paths_read (Import layer path ∷ ks) = paths_read ks
 paths_read (Unit_of unit ∷ ks) = paths_read ks
 paths_read (Resolve label ∷ ks) = paths_read ks
 
--- the source has read just the paths that have numbers, in their order, and what it has read is what its tree has there
-pub record HasRead (before now : SourceState) (l : Log) : Type 0 where
+-- those that weren't known before
+unfoldable pub unknown_of : List (List ℕ) → List (List ℕ) → List (List ℕ)
+unknown_of known paths = filter (λ path. not (is_one_of path known)) paths
+
+-- the source has read just the paths that have numbers and weren't known before, in their order, and what is filed is what its tree has there
+pub record HasRead (start : BaseState) (known : List (List ℕ)) (before now : SourceState) (l : Log) : Type 0 where
   pub tree : now.tree ≡ before.tree
   pub faults : now.faults ≡ before.faults
-  pub reads : Extends before.reads now.reads (plain_reads (paths_read l.keys))
-  pub over : (tree : Tree) → before.tree ≡ Some tree → IsOver (world_of (files_of tree)) l.events
+  pub reads : Extends before.reads now.reads (plain_reads (unknown_of known (paths_read l.keys)))
+  pub over : (tree : Tree) → before.tree ≡ Some tree → IsOver (world_of (files_of start tree)) l.events
 
 -- the seat's claims, its reads, and a number of reads that is below the limit
-pub record IsGoing (before now : SourceState) (l : Log) (cs : List Claim) (reads : ℕ) : Type 0 where
-  pub driven : IsDriven l (keys_of cs)
+pub record IsGoing (start : BaseState) (known : List (List ℕ)) (before now : SourceState) (l : Log) (cs : List Claim) (reads : ℕ) : Type 0 where
+  pub driven : IsDriven start l (keys_of cs)
   pub claims : AreClaims l cs
-  pub source : HasRead before now l
-  pub counted : reads ≡ count_of is_read l.keys
+  pub source : HasRead start known before now l
+  pub counted : reads ≡ length (unknown_of known (paths_read l.keys))
   pub few : reads ≤ read_limit
 
 -- Where loading ends before all is loaded
 
 -- whatever has become of it, the source has read paths that have numbers, in their order, and none behind a read that has failed
-pub record ReadsNumbered (before now : SourceState) : Type 0 where
+pub record ReadsNumbered (start : BaseState) (known : List (List ℕ)) (before now : SourceState) : Type 0 where
   pub log : Log
   pub keys : List Key
-  pub driven : IsDriven log keys
-  pub over : (tree : Tree) → before.tree ≡ Some tree → IsOver (world_of (files_of tree)) log.events
+  pub driven : IsDriven start log keys
+  pub over : (tree : Tree) → before.tree ≡ Some tree → IsOver (world_of (files_of start tree)) log.events
   pub reads : List SourceRead
   pub goes : ReadsOnBy before now reads
-  pub numbered : IsMore (paths_of reads) (paths_read log.keys)
+  pub numbered : IsMore (paths_of reads) (unknown_of known (paths_read log.keys))
 
 -- it has failed at this path, which it has read last
 pub record FailsAt (path : List ℕ) (before now : SourceState) : Type 0 where
@@ -154,5 +159,6 @@ pub record FailsAt (path : List ℕ) (before now : SourceState) : Type 0 where
   pub last : IsSome before.reads → FailedAt path before now
 
 -- more files were read than a build may ask for
-abbrev pub HasTooMany : SourceState → SourceState → Type 0
-HasTooMany before now = (l : Log) × (ks : List Key) × IsDriven l ks × HasRead before now l × (read_limit < count_of is_read l.keys)
+abbrev pub HasTooMany : BaseState → List (List ℕ) → SourceState → SourceState → Type 0
+HasTooMany start known before now =
+    (l : Log) × (ks : List Key) × IsDriven start l ks × HasRead start known before now l × (read_limit < length (unknown_of known (paths_read l.keys)))

@@ -1,6 +1,7 @@
 -- The files that a log has read. A source that tells no tree has read files too.
 use Rattle.std.specs.Prelude.{List, Option, Some, None}
 use Rattle.gn_runs.specs.Runs.{Content, is_absent}
+use Rattle.gn_executions.specs.Base.{BaseState}
 use Rattle.gn_core.specs.Keys.{Key, Read, Answer, found, import_is, no_value, unit_is, record_is}
 use Rattle.gn_core.specs.Machine.{IsOver}
 use Rattle.gn_book.specs.Logs.{Log, state_of}
@@ -15,9 +16,9 @@ content_found (Some (no_value path place asked)) = is_absent
 content_found (Some (unit_is run)) = is_absent
 content_found (Some (record_is bytes)) = is_absent
 
-abbrev pub read_by : Log → Files
-read_by l = record { given = λ path. content_found ((state_of l).filed (Read path)); paths = paths_read l.keys }
+abbrev pub read_by : BaseState → Log → Files
+read_by start l = record { start = start; given = λ path. content_found ((state_of l).filed (Read path)); paths = paths_read l.keys }
 
 -- the log is over them
 abbrev pub FilesWereRead : Type 0
-FilesWereRead = (l : Log) (ks : List Key) → IsDriven l ks → IsOver (world_of (read_by l)) l.events
+FilesWereRead = (start : BaseState) (l : Log) (ks : List Key) → IsDriven start l ks → IsOver (world_of (read_by start l)) l.events

@@ -1,6 +1,6 @@
 // What makes the work of loading right.
 
-ghost use Rattle.gn_builds.specs.Builds.{TwoAreReached, EndedHasBuild, EndedHasAsked, LinksAreFiled};
+ghost use Rattle.gn_builds.specs.Builds.{TwoAreReached, EndedHasSetup, EndedHasBuild, EndedHasAsked, LinksAreFiled};
 ghost use Rattle.gn_builds.specs.Rest.{RestHasEnded, RestIsLoaded, RestIsBuilt, TooManyAreTooLarge, NumberedAreAsked};
 ghost use Rattle.gn_builds.specs.Causes.{SpoilersAreUnusable, LinksAreUnusable, WrongIsCause, RoundIsCause};
 ghost use Rattle.gn_builds.specs.Own.{FilesWereRead};
@@ -8,8 +8,8 @@ ghost use Rattle.gn_builds.specs.Laws.{TodayIsLayered, PartsGiveAnswers, PartsGi
 
 use gn_book::next_is_by_the_rules;
 
-/// The laws of loading in any order hold of today's builds, over every tree: one build file under the default toolchain, with
-/// what it imports.
+/// The laws of loading in any order hold of today's builds, over every tree: a build configuration, and behind it one build file
+/// under the default toolchain, with what they import.
 pub fn todays_builds_are_layered()
     ensures { TodayIsLayered }
 {}
@@ -25,10 +25,11 @@ pub fn work_over_a_part_is_right()
     ensures trees { TreesDontMatter }
 {}
 
-/// When loading has come to rest, in whatever order and by how many seats, the build file of the source root has its answer, and
-/// just what it asks, directly or through imports, was read and imported. An import that can't be used leads to the next one by its
-/// answer. No other unit is reached but a build configuration that isn't executed yet, and nothing is generated.
+/// When loading has come to rest, in whatever order and by how many seats, the build configuration has its answer, and where that has
+/// left something the build file of the source root has its own; just what they ask, directly or through imports, was read and
+/// imported. An import that can't be used leads to the next one by its answer. No other unit is reached, and nothing is generated.
 pub fn loading_ends_with_the_build()
+    ensures setup { EndedHasSetup }
     ensures build { EndedHasBuild }
     ensures asked { EndedHasAsked }
     ensures links { LinksAreFiled }

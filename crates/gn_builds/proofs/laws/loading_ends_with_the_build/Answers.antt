@@ -1,5 +1,8 @@
-use Rattle.gn_builds.proofs.Builds.{ended_has_build, ended_has_asked, links_are_filed, two_are_reached}
+use Rattle.gn_builds.proofs.Builds.{ended_has_setup, ended_has_build, ended_has_asked, links_are_filed, two_are_reached}
 use Rattle.gn_builds.proofs.laws.loading_ends_with_the_build.Goals as goal
+
+pub returns-clause-setup : goal.returns-clause-setup
+returns-clause-setup c = ended_has_setup
 
 pub returns-clause-build : goal.returns-clause-build
 returns-clause-build c = ended_has_build
