@@ -4,12 +4,12 @@ use Rattle.std.specs.declared.vec.Vec.{Vec}
 use Rattle.std.specs.declared.alloc.Global.{Global}
 use Rattle.gn_paths.specs.declared.place.Place.{Place}
 use Rattle.gn_faults.specs.declared.fault.Fault.{Fault}
-use Rattle.gn_values.specs.Imported.{ImportState}
-use Rattle.gn_items.specs.Effects.{Effects, no_effects}
+use Rattle.gn_definitions.specs.Imported.{ImportState}
+use Rattle.gn_items.specs.Effects.{Effects}
 use Rattle.gn_items.specs.Questions.{question_of}
 use Rattle.gn_items.specs.declared.question.Question.{Question as Asked}
 use Rattle.gn_items.specs.declared.key.Key.{Key as Named}
-use Rattle.gn_items.specs.declared.key.Key.TheVariants.{Import as ImportKey, Load as LoadKey}
+use Rattle.gn_items.specs.declared.key.Key.TheVariants.{Import as ImportKey, Setup as SetupKey, Load as LoadKey}
 use Rattle.gn_items.specs.declared.key.When.{When}
 use Rattle.gn_items.specs.declared.key.When.TheVariants.{Early, Usual}
 use Rattle.gn_runs.specs.Runs.{Question, content_of, import_of, Answers, End, ended, wrong, spoiled, needs, Run}
@@ -19,22 +19,23 @@ use Rattle.gn_closure.specs.Reach.{Setup, Load}
 use Rattle.gn_meaning.specs.Steps.{Left as EndedWith}
 use Rattle.gn_eval.specs.Library.{Need, LibraryState, Includes, GoesOn}
 use Rattle.gn_eval.specs.Ends.{asked_until}
-use Rattle.gn_executions.specs.Base.{BaseState, plain_base}
+use Rattle.gn_executions.specs.Base.{BaseState}
+use Rattle.gn_executions.specs.Setups.{setup_execution}
 use Rattle.gn_executions.specs.Units.{import_execution, load_execution}
-use Rattle.gn_unit.specs.Ends.{EndsWith, IsLoadOf, IsImportOf, IsUnitOf, IsNeedOf, HasAskedOf, WhereStopped, asked_of}
+use Rattle.gn_unit.specs.Ends.{EndsWith, IsLoadOf, IsSetupOf, IsImportOf, IsUnitOf, IsNeedOf, HasAskedOf, WhereStopped, asked_of}
 use Rattle.gn_unit.specs.declared.unit.EvalStop.{EvalStop}
 use Rattle.gn_unit.specs.declared.unit.EvalStop.TheVariants.{Stopped, Memory}
 use Rattle.gn_unit.specs.declared.unit.Unit.{Unit as Evaluated}
 use Rattle.gn_unit.specs.declared.unit.Unit.TheVariants as unit
-use Rattle.gn_core.specs.Keys.{Layer, usual, Key, Import, Unit_of, Answer, found, import_is, no_value, unit_is, record_is, Filed, Leaving, key_of, shown}
+use Rattle.gn_core.specs.Keys.{Layer, early, usual, Key, Import, Unit_of, Answer, found, import_is, no_value, unit_is, record_is, Filed, Leaving, key_of, shown}
 use Rattle.gn_core.specs.Machine.{IsRightImport, spoiled_as}
 use Rattle.gn_book.specs.Keys.{key_of as named_by, layer_at}
-use Rattle.gn_builds.specs.Worlds.{when_of, toolchain_of, left_end, left_run, nothing_needed, import_of_layer}
+use Rattle.gn_builds.specs.Worlds.{when_of, toolchain_of, left_end, left_run, configuration_leaves, file_leaves, base_of_layer, import_of_layer}
 use Rattle.gn_builds.specs.Working.{over, AsksContent}
-use Rattle.gn_load.specs.Answers.{run_of, meaning_of}
+use Rattle.gn_load.specs.Answers.{run_of, unit_left, meaning_of}
 use Rattle.gn_load.specs.Performing.{IsPerformed}
 use Rattle.gn_load.specs.Told.{need_view, has_no_value}
-use Rattle.gn_load.specs.Evaluating.{IsRan, IsBuildFile, IsImported, IsLoadExecuted, IsImportFiled, IsLacking}
+use Rattle.gn_load.specs.Evaluating.{IsRan, IsBuildFile, IsConfiguration, IsImported, IsLoadExecuted, IsSetupExecuted, IsImportFiled, IsLacking}
 use Rattle.gn_load.specs.declared.answer.Executed.{Executed}
 use Rattle.gn_load.specs.declared.answer.Executed.TheVariants.{Left, Wrong, Spoiled}
 use Rattle.gn_load.specs.declared.answer.Filed.{Filed as FiledAnswer}
@@ -70,34 +71,51 @@ stop_lacks need asked stop is base key a h = subst (λ (s : EvalStop). WhereStop
 
 -- what has ended is of the kind of its key
 pub is_build_file : (u : Evaluated) (end : End (EndedWith (Unit {0}))) → IsLoadOf u end → IsBuildFile u
+is_build_file (unit.Setup value effects) end h = h
 is_build_file (unit.Load effects) end h = tt
 is_build_file (unit.Import value effects) end h = h
 is_build_file (unit.Wrong fault asked) end h = tt
 is_build_file (unit.Spoiled path place asked) end h = tt
 
+pub is_configuration : (u : Evaluated) (end : End (EndedWith ImportState)) → IsSetupOf u end → IsConfiguration u
+is_configuration (unit.Setup value effects) end h = tt
+is_configuration (unit.Load effects) end h = h
+is_configuration (unit.Import value effects) end h = h
+is_configuration (unit.Wrong fault asked) end h = tt
+is_configuration (unit.Spoiled path place asked) end h = tt
+
 pub is_imported : (u : Evaluated) (end : End (EndedWith ImportState)) → IsImportOf u end → IsImported u
+is_imported (unit.Setup value effects) end h = h
 is_imported (unit.Load effects) end h = h
 is_imported (unit.Import value effects) end h = tt
 is_imported (unit.Wrong fault asked) end h = tt
 is_imported (unit.Spoiled path place asked) end h = tt
 
--- what has come of the execution of a build file, and of one that is imported
-module _ (key : Named) (a : Answers) (ran : Ran) (does : IsRan plain_base key a ran) where
+-- what has come of the execution of a build configuration, of a build file and of one that is imported
+module _ (base : BaseState) (key : Named) (a : Answers) (ran : Ran) (does : IsRan base key a ran) where
+  module _ (toolchain : List ℕ) (named : key ≡ SetupKey toolchain) where
+    pub setup_ended : (u : Evaluated) → ran ≡ Ended u → IsSetupOf u (setup_execution base toolchain a).end × ((setup_execution base toolchain a).asked ≡ asked_of u)
+    setup_ended u is = subst (λ (k : Named). IsUnitOf base k u a × HasAskedOf base k u a) named (subst (IsRan base key a) is does)
+
+    pub setup_needs : (need : Needed) (asked : Vec Asked Global) → ran ≡ Lacks need asked
+        → setup_execution base toolchain a ≡ record { end = needs (need_view need).question (need_view need).place; asked = asked_until (need_view need).question (map question_of asked.items) }
+    setup_needs need asked is = subst (λ (k : Named). IsNeedOf base k (need_view need) (map question_of asked.items) a) named (subst (IsRan base key a) is does)
+
   module _ (dir toolchain : List ℕ) (named : key ≡ LoadKey dir toolchain) where
-    pub load_ended : (u : Evaluated) → ran ≡ Ended u → IsLoadOf u (load_execution plain_base dir toolchain a).end × ((load_execution plain_base dir toolchain a).asked ≡ asked_of u)
-    load_ended u is = subst (λ (k : Named). IsUnitOf plain_base k u a × HasAskedOf plain_base k u a) named (subst (IsRan plain_base key a) is does)
+    pub load_ended : (u : Evaluated) → ran ≡ Ended u → IsLoadOf u (load_execution base dir toolchain a).end × ((load_execution base dir toolchain a).asked ≡ asked_of u)
+    load_ended u is = subst (λ (k : Named). IsUnitOf base k u a × HasAskedOf base k u a) named (subst (IsRan base key a) is does)
 
     pub load_needs : (need : Needed) (asked : Vec Asked Global) → ran ≡ Lacks need asked
-        → load_execution plain_base dir toolchain a ≡ record { end = needs (need_view need).question (need_view need).place; asked = asked_until (need_view need).question (map question_of asked.items) }
-    load_needs need asked is = subst (λ (k : Named). IsNeedOf plain_base k (need_view need) (map question_of asked.items) a) named (subst (IsRan plain_base key a) is does)
+        → load_execution base dir toolchain a ≡ record { end = needs (need_view need).question (need_view need).place; asked = asked_until (need_view need).question (map question_of asked.items) }
+    load_needs need asked is = subst (λ (k : Named). IsNeedOf base k (need_view need) (map question_of asked.items) a) named (subst (IsRan base key a) is does)
 
   module _ (w : When) (toolchain path : List ℕ) (named : key ≡ ImportKey w toolchain path) where
-    pub import_ended : (u : Evaluated) → ran ≡ Ended u → IsImportOf u (import_execution plain_base w toolchain path a).end × ((import_execution plain_base w toolchain path a).asked ≡ asked_of u)
-    import_ended u is = subst (λ (k : Named). IsUnitOf plain_base k u a × HasAskedOf plain_base k u a) named (subst (IsRan plain_base key a) is does)
+    pub import_ended : (u : Evaluated) → ran ≡ Ended u → IsImportOf u (import_execution base w toolchain path a).end × ((import_execution base w toolchain path a).asked ≡ asked_of u)
+    import_ended u is = subst (λ (k : Named). IsUnitOf base k u a × HasAskedOf base k u a) named (subst (IsRan base key a) is does)
 
     pub import_needs : (need : Needed) (asked : Vec Asked Global) → ran ≡ Lacks need asked
-        → import_execution plain_base w toolchain path a ≡ record { end = needs (need_view need).question (need_view need).place; asked = asked_until (need_view need).question (map question_of asked.items) }
-    import_needs need asked is = subst (λ (k : Named). IsNeedOf plain_base k (need_view need) (map question_of asked.items) a) named (subst (IsRan plain_base key a) is does)
+        → import_execution base w toolchain path a ≡ record { end = needs (need_view need).question (need_view need).place; asked = asked_until (need_view need).question (map question_of asked.items) }
+    import_needs need asked is = subst (λ (k : Named). IsNeedOf base k (need_view need) (map question_of asked.items) a) named (subst (IsRan base key a) is does)
 
 -- how executions end, as what is filed of them
 module _ {A B : Type 0} (f : A → B) (run : Run (EndedWith A)) where
@@ -111,27 +129,41 @@ module _ {A B : Type 0} (f : A → B) (run : Run (EndedWith A)) where
   spoiled_run path place asked e h = λ i. record { end = left_end f (sym e i); asked = sym h i }
 
 -- an execution that has ended is settled
-load_settled : (u : Evaluated) (end : End (EndedWith (Unit {0}))) → IsLoadOf u end → IsSettled (left_end (λ value. nothing_needed) end)
-load_settled (unit.Load effects) end h = subst (λ (e : End (EndedWith (Unit {0}))). IsSettled (left_end (λ value. nothing_needed) e)) (sym h.1) tt
+load_settled : (u : Evaluated) (end : End (EndedWith (Unit {0}))) → IsLoadOf u end → IsSettled (left_end file_leaves end)
+load_settled (unit.Setup value effects) end h = absurd h
+load_settled (unit.Load effects) end h = subst (λ (e : End (EndedWith (Unit {0}))). IsSettled (left_end file_leaves e)) (sym h.1) tt
 load_settled (unit.Import value effects) end h = absurd h
-load_settled (unit.Wrong fault asked) end h = subst (λ (e : End (EndedWith (Unit {0}))). IsSettled (left_end (λ value. nothing_needed) e)) (sym h) tt
-load_settled (unit.Spoiled path place asked) end h = subst (λ (e : End (EndedWith (Unit {0}))). IsSettled (left_end (λ value. nothing_needed) e)) (sym h) tt
+load_settled (unit.Wrong fault asked) end h = subst (λ (e : End (EndedWith (Unit {0}))). IsSettled (left_end file_leaves e)) (sym h) tt
+load_settled (unit.Spoiled path place asked) end h = subst (λ (e : End (EndedWith (Unit {0}))). IsSettled (left_end file_leaves e)) (sym h) tt
 
--- the work on the claim of a build file whose execution has ended
-pub load_answered : (part : Filed) (dir toolchain : List ℕ) (u : Evaluated) (executed : Executed (Unit {0}))
-    → IsLoadOf u (load_execution plain_base dir toolchain (shown part (usual toolchain))).end → (load_execution plain_base dir toolchain (shown part (usual toolchain))).asked ≡ asked_of u
-    → IsLoadExecuted u executed → IsPerformed part (Unit_of (Load dir toolchain)) (Answered (unit_filed executed))
-load_answered part dir toolchain u executed ends asked is =
-    (load_settled u (load_execution plain_base dir toolchain (shown part (usual toolchain))).end ends, ap unit_is (is (load_execution plain_base dir toolchain (shown part (usual toolchain))) ends asked))
+setup_settled : (u : Evaluated) (end : End (EndedWith ImportState)) → IsSetupOf u end → IsSettled (left_end configuration_leaves end)
+setup_settled (unit.Setup value effects) end h = subst (λ (e : End (EndedWith ImportState)). IsSettled (left_end configuration_leaves e)) (sym h.1) tt
+setup_settled (unit.Load effects) end h = absurd h
+setup_settled (unit.Import value effects) end h = absurd h
+setup_settled (unit.Wrong fault asked) end h = subst (λ (e : End (EndedWith ImportState)). IsSettled (left_end configuration_leaves e)) (sym h) tt
+setup_settled (unit.Spoiled path place asked) end h = subst (λ (e : End (EndedWith ImportState)). IsSettled (left_end configuration_leaves e)) (sym h) tt
 
--- that of a build configuration, which isn't executed
-pub setup_answered : (part : Filed) (toolchain : List ℕ) (effects : Effects) → effects ≡ no_effects → IsPerformed part (Unit_of (Setup toolchain)) (Answered (unit_filed (Left (tt {0}) effects)))
-setup_answered part toolchain effects is = (tt, ap (λ (e : Effects). unit_is (run_of (λ value. nothing_needed) (Left (tt {0}) e))) is)
+-- the work on the claim of a build configuration whose execution has ended
+pub setup_answered : (start : BaseState) (part : Filed) (toolchain : List ℕ) (u : Evaluated) (executed : Executed (Option ImportState))
+    → IsSetupOf u (setup_execution start toolchain (shown part (early toolchain))).end → (setup_execution start toolchain (shown part (early toolchain))).asked ≡ asked_of u
+    → IsSetupExecuted u executed → IsPerformed start part (Unit_of (Setup toolchain)) (Answered (unit_filed executed))
+setup_answered start part toolchain u executed ends asked is =
+    (setup_settled u (setup_execution start toolchain (shown part (early toolchain))).end ends, ap unit_is (is (setup_execution start toolchain (shown part (early toolchain))) ends asked))
+
+-- that of a build file, over the base that it sees
+module _ (start base : BaseState) (part : Filed) (dir toolchain : List ℕ) (same : base ≡ base_of_layer start part (usual toolchain)) where
+  pub load_answered : (u : Evaluated) (executed : Executed (Option ImportState))
+      → IsLoadOf u (load_execution base dir toolchain (shown part (usual toolchain))).end → (load_execution base dir toolchain (shown part (usual toolchain))).asked ≡ asked_of u
+      → IsLoadExecuted u executed → IsPerformed start part (Unit_of (Load dir toolchain)) (Answered (unit_filed executed))
+  load_answered u executed ends asked is =
+      subst (λ (b : BaseState). IsSettled (left_end file_leaves (load_execution b dir toolchain (shown part (usual toolchain))).end) × (unit_is (run_of unit_left executed) ≡ unit_is (left_run file_leaves (load_execution b dir toolchain (shown part (usual toolchain)))))) same
+      (load_settled u (load_execution base dir toolchain (shown part (usual toolchain))).end ends, ap unit_is (is (load_execution base dir toolchain (shown part (usual toolchain))) ends asked))
 
 -- of an import
-pub import_answered : (part : Filed) (l : Layer) (path : List ℕ) (run : Run (Leaving ImportState)) (filed : FiledAnswer)
-    → run ≡ import_of_layer l path (shown part l) → IsImportFiled part l run filed → IsPerformed part (Import l path) (Answered filed)
-import_answered part l path run filed is right = subst (λ (r : Run (Leaving ImportState)). IsRightImport (over part) l path r r.end (meaning_of filed)) is (right path)
+pub import_answered : (start base : BaseState) (part : Filed) (l : Layer) (path : List ℕ) → base ≡ base_of_layer start part l → (run : Run (Leaving ImportState)) (filed : FiledAnswer)
+    → run ≡ import_of_layer base l path (shown part l) → IsImportFiled part l run filed → IsPerformed start part (Import l path) (Answered filed)
+import_answered start base part l path same run filed is right =
+    subst (λ (r : Run (Leaving ImportState)). IsRightImport (over part) l path r r.end (meaning_of filed)) (is ∙ ap (λ (b : BaseState). import_of_layer b l path (shown part l)) same) (right path)
 
 -- an answer that is spoiled at an import without value has none
 pub spoiled_by : (x : Option Answer) (q : List ℕ) (p : Place) (run : Run (Leaving ImportState)) → (if has_no_value x then no_value q p run.asked else import_is run) ≡ spoiled_as x q p run
@@ -179,41 +211,60 @@ needs_left : {A B : Type 0} (f : A → B) (run : Run (EndedWith A)) (q : Questio
 needs_left f run q p place asked is same = ap (λ (r : Run _). left_end f r.end) is ∙ ap (needs q) (sym same)
 
 -- the execution of an import of a layer
-pub import_at_layer : (w : When) (toolchain path : List ℕ) (a : Answers) → import_execution plain_base (when_of (layer_at w toolchain)) (toolchain_of (layer_at w toolchain)) path a ≡ import_execution plain_base w toolchain path a
-import_at_layer Early toolchain path a = refl
-import_at_layer Usual toolchain path a = refl
+pub import_at_layer : (base : BaseState) (w : When) (toolchain path : List ℕ) (a : Answers) → import_execution base (when_of (layer_at w toolchain)) (toolchain_of (layer_at w toolchain)) path a ≡ import_execution base w toolchain path a
+import_at_layer base Early toolchain path a = refl
+import_at_layer base Usual toolchain path a = refl
 
--- the work on a claim whose evaluation needs another answer
-pub load_lacks : (part : Filed) (dir toolchain : List ℕ) (need : Need) (asked : List Question) (done : Performed)
-    → load_execution plain_base dir toolchain (shown part (usual toolchain)) ≡ record { end = needs need.question need.place; asked = asked_until need.question asked }
-    → IsLacking (usual toolchain) need asked done → IsPerformed part (Unit_of (Load dir toolchain)) done
-load_lacks part dir toolchain need asked (Answered filed) is lacking = absurd lacking
-load_lacks part dir toolchain need asked (Needs on place all) is lacking = (
+-- The work on a claim whose evaluation needs another answer
+
+pub setup_lacks : (start : BaseState) (part : Filed) (toolchain : List ℕ) (need : Need) (asked : List Question) (done : Performed)
+    → setup_execution start toolchain (shown part (early toolchain)) ≡ record { end = needs need.question need.place; asked = asked_until need.question asked }
+    → IsLacking (early toolchain) need asked done → IsPerformed start part (Unit_of (Setup toolchain)) done
+setup_lacks start part toolchain need asked (Answered filed) is lacking = absurd lacking
+setup_lacks start part toolchain need asked (Needs on place all) is lacking = (
   (
     need.question,
     lacking.0,
-    needs_left (λ value. nothing_needed) (load_execution plain_base dir toolchain (shown part (usual toolchain))) need.question need.place place (asked_until need.question asked) is lacking.1,
-    ap (λ (r : Run (EndedWith (Unit {0}))). r.asked) is ∙ sym lacking.2,
-  ),
-  content_asked (usual toolchain) need.question asked (map question_of all.items) (named_by on) lacking.0 lacking.2,
-)
-
-pub import_lacks : (part : Filed) (l : Layer) (path : List ℕ) (need : Need) (asked : List Question) (done : Performed)
-    → import_execution plain_base (when_of l) (toolchain_of l) path (shown part l) ≡ record { end = needs need.question need.place; asked = asked_until need.question asked }
-    → IsLacking l need asked done → IsPerformed part (Import l path) done
-import_lacks part l path need asked (Answered filed) is lacking = absurd lacking
-import_lacks part l path need asked (Needs on place all) is lacking = (
-  (
-    need.question,
-    lacking.0,
-    needs_left (λ value. value) (import_execution plain_base (when_of l) (toolchain_of l) path (shown part l)) need.question need.place place (asked_until need.question asked) is lacking.1,
+    needs_left configuration_leaves (setup_execution start toolchain (shown part (early toolchain))) need.question need.place place (asked_until need.question asked) is lacking.1,
     ap (λ (r : Run (EndedWith ImportState)). r.asked) is ∙ sym lacking.2,
   ),
-  content_asked l need.question asked (map question_of all.items) (named_by on) lacking.0 lacking.2,
+  content_asked (early toolchain) need.question asked (map question_of all.items) (named_by on) lacking.0 lacking.2,
 )
 
+module _ (start base : BaseState) (part : Filed) (dir toolchain : List ℕ) (same : base ≡ base_of_layer start part (usual toolchain)) where
+  pub load_lacks : (need : Need) (asked : List Question) (done : Performed)
+      → load_execution base dir toolchain (shown part (usual toolchain)) ≡ record { end = needs need.question need.place; asked = asked_until need.question asked }
+      → IsLacking (usual toolchain) need asked done → IsPerformed start part (Unit_of (Load dir toolchain)) done
+  load_lacks need asked (Answered filed) is lacking = absurd lacking
+  load_lacks need asked (Needs on place all) is lacking =
+      let there = ap (λ (b : BaseState). load_execution b dir toolchain (shown part (usual toolchain))) (sym same) ∙ is in (
+        (
+          need.question,
+          lacking.0,
+          needs_left file_leaves (load_execution (base_of_layer start part (usual toolchain)) dir toolchain (shown part (usual toolchain))) need.question need.place place (asked_until need.question asked) there lacking.1,
+          ap (λ (r : Run (EndedWith (Unit {0}))). r.asked) there ∙ sym lacking.2,
+        ),
+        content_asked (usual toolchain) need.question asked (map question_of all.items) (named_by on) lacking.0 lacking.2,
+      )
+
+module _ (start base : BaseState) (part : Filed) (l : Layer) (path : List ℕ) (same : base ≡ base_of_layer start part l) where
+  pub import_lacks : (need : Need) (asked : List Question) (done : Performed)
+      → import_execution base (when_of l) (toolchain_of l) path (shown part l) ≡ record { end = needs need.question need.place; asked = asked_until need.question asked }
+      → IsLacking l need asked done → IsPerformed start part (Import l path) done
+  import_lacks need asked (Answered filed) is lacking = absurd lacking
+  import_lacks need asked (Needs on place all) is lacking =
+      let there = ap (λ (b : BaseState). import_execution b (when_of l) (toolchain_of l) path (shown part l)) (sym same) ∙ is in (
+        (
+          need.question,
+          lacking.0,
+          needs_left (λ value. value) (import_execution (base_of_layer start part l) (when_of l) (toolchain_of l) path (shown part l)) need.question need.place place (asked_until need.question asked) there lacking.1,
+          ap (λ (r : Run (EndedWith ImportState)). r.asked) there ∙ sym lacking.2,
+        ),
+        content_asked l need.question asked (map question_of all.items) (named_by on) lacking.0 lacking.2,
+      )
+
 -- the run of an import of a layer is its execution, as what is filed of it
-pub import_run_at : (w : When) (toolchain path : List ℕ) (a : Answers) (executed : Executed ImportState)
-    → run_of (λ (value : ImportState). value) executed ≡ left_run (λ (value : ImportState). value) (import_execution plain_base w toolchain path a)
-    → run_of (λ (value : ImportState). value) executed ≡ import_of_layer (layer_at w toolchain) path a
-import_run_at w toolchain path a executed is = is ∙ ap (left_run (λ (value : ImportState). value)) (sym (import_at_layer w toolchain path a))
+pub import_run_at : (base : BaseState) (w : When) (toolchain path : List ℕ) (a : Answers) (executed : Executed ImportState)
+    → run_of (λ (value : ImportState). value) executed ≡ left_run (λ (value : ImportState). value) (import_execution base w toolchain path a)
+    → run_of (λ (value : ImportState). value) executed ≡ import_of_layer base (layer_at w toolchain) path a
+import_run_at base w toolchain path a executed is = is ∙ ap (left_run (λ (value : ImportState). value)) (sym (import_at_layer base w toolchain path a))

@@ -1,4 +1,9 @@
 mod Contents
+mod SetUps
+mod Seen
+mod KnownLemmas
+mod DriverParts
+mod ReadLemmas
 mod ToldLemmas
 mod Evaluations
 mod TurnLemmas

@@ -5,6 +5,7 @@ use Rattle.gn_paths.specs.declared.place.Place.{Place}
 use Rattle.gn_outside.specs.Tree.{Tree, read_of}
 use Rattle.gn_outside.specs.States.{SourceState}
 use Rattle.gn_runs.specs.Runs.{Question, content_of, import_of, Content}
+use Rattle.gn_executions.specs.Base.{BaseState}
 use Rattle.gn_core.specs.Keys.{Layer, Key, Read, Import, Unit_of, Resolve, Answer, found, Filed as Answers, layer_of, key_of as core_key}
 use Rattle.gn_core.specs.Machine.{File, read_limit}
 use Rattle.gn_book.specs.Keys.{key_of}
@@ -12,7 +13,7 @@ use Rattle.gn_book.specs.Logs.{Log, with_event}
 use Rattle.gn_book.specs.declared.book.Claim.{Claim}
 use Rattle.gn_builds.specs.Worlds.{content_in}
 use Rattle.gn_builds.specs.Stacks.{IsAskable, MayWait}
-use Rattle.gn_builds.specs.Working.{IsInNeed}
+use Rattle.gn_builds.specs.Working.{IsInNeed, IsSeen}
 use Rattle.gn_builds.specs.Driving.{with_claim}
 use Rattle.gn_load.specs.Answers.{meaning_of}
 use Rattle.gn_load.specs.Performing.{IsPerformed, IsOfTree, IsWorkOf, IsEvaluated, HasWork}
@@ -48,15 +49,15 @@ asked_askable : (l : Layer) (q : Question) → IsAskable (core_key l q)
 asked_askable l (content_of path) = tt
 asked_askable l (import_of path) = tt
 
-pub needed_askable : (part : Answers) (k on : Key) (place : Place) (asked : List Question) → IsInNeed part k on place asked → IsAskable on
-needed_askable part (Read path) on place asked need = absurd need
-needed_askable part (Import l path) on place asked need = subst IsAskable (sym need.1) (asked_askable l need.0)
-needed_askable part (Unit_of unit) on place asked need = subst IsAskable (sym need.1) (asked_askable (layer_of unit) need.0)
-needed_askable part (Resolve label) on place asked need = absurd need
+pub needed_askable : (start : BaseState) (part : Answers) (k on : Key) (place : Place) (asked : List Question) → IsInNeed start part k on place asked → IsAskable on
+needed_askable start part (Read path) on place asked need = absurd need
+needed_askable start part (Import l path) on place asked need = subst IsAskable (sym need.1) (asked_askable l need.0)
+needed_askable start part (Unit_of unit) on place asked need = subst IsAskable (sym need.1) (asked_askable (layer_of unit) need.0)
+needed_askable start part (Resolve label) on place asked need = absurd need
 
 -- An evaluation reads nothing
 
-pub done_work : (k : Key) (s : SourceState) (d : Performed) → MayWait k → IsWorkOf k s s (Ok d)
+done_work : (k : Key) (s : SourceState) (d : Performed) → MayWait k → IsWorkOf k s s (Ok d)
 done_work (Read path) s d may = absurd may
 done_work (Import layer path) s d may = record { tree = refl; reads = refl; faults = refl; fails = tt }
 done_work (Unit_of unit) s d may = record { tree = refl; reads = refl; faults = refl; fails = tt }
@@ -88,9 +89,14 @@ evaluated_tree k before (Ok d) may = λ tree told. of_no_read tree k d may
 evaluated_tree k before (Err e) may = tt
 
 -- a read looks at no part
-pub at_part : (part : Answers) (k : Key) (r : Result Performed PerformStop) → IfOk r (λ d. (p : Answers) → IsPerformed p k d) → IfOk r (IsPerformed part k)
-at_part part k (Ok d) h = h part
-at_part part k (Err e) h = tt
+pub at_part : (start : BaseState) (part : Answers) (k : Key) (r : Result Performed PerformStop) → IfOk r (λ d. (b : BaseState) (p : Answers) → IsPerformed b p k d) → IfOk r (λ d. IsSeen part k → IsPerformed start part k d)
+at_part start part k (Ok d) h = λ seen. h start part
+at_part start part k (Err e) h = tt
+
+-- and what the evaluation of a build configuration sees is always there
+pub as_seen : {E : Type 0} (S : Type 0) (P : Performed → Type 0) (r : Result Performed E) → IfOk r P → IfOk r (λ d. S → P d)
+as_seen S P (Ok d) h = λ seen. h
+as_seen S P (Err e) h = tt
 
 -- what leaves a stack
 none_left : (cs : List Claim) → length cs ≡ 0 → cs ≡ []
@@ -104,15 +110,15 @@ popped (Some c) old new n m items cases long = (items, tt)
 -- A read
 
 module _ (was now : SourceState) (old new : Driver) (c : Claim) where
-  pub read_answered : (part : Answers) (filed : Filed) (r : Result (Unit {0}) Stop) → IsPerformed part (key_of c.key) (Answered filed)
+  pub read_answered : (start : BaseState) (part : Answers) (filed : Filed) (r : Result (Unit {0}) Stop) → (IsSeen part (key_of c.key) → IsPerformed start part (key_of c.key) (Answered filed))
       → ((tree : Tree) → was.tree ≡ Some tree → IsOfTree tree (key_of c.key) (Answered filed)) → IsWorkOf (key_of c.key) was now (Ok (Answered filed)) → ReadsAs old new c (meaning_of filed) r → IsRead was now old new c r
-  read_answered part filed r done tells work reads path key =
-      by r (subst (λ (k : Key). IsPerformed part k (Answered filed)) key done) (λ tree told. subst (λ (k : Key). IsOfTree tree k (Answered filed)) key (tells tree told)) (subst (λ (k : Key). IsWorkOf k was now (Ok (Answered filed))) key work) reads
+  read_answered start part filed r done tells work reads path key =
+      by r (subst (λ (k : Key). IsSeen part k → IsPerformed start part k (Answered filed)) key done tt) (λ tree told. subst (λ (k : Key). IsOfTree tree k (Answered filed)) key (tells tree told)) (subst (λ (k : Key). IsWorkOf k was now (Ok (Answered filed))) key work) reads
     where
       is_found : (x y : Content) → meaning_of filed ≡ found x → meaning_of filed ≡ found y → x ≡ y
       is_found x y e h = let same : found x ≡ found y = sym e ∙ h in cc same
 
-      at : (o : Result (Unit {0}) Stop) → IsPerformed part (Read path) (Answered filed) → ((tree : Tree) → was.tree ≡ Some tree → IsOfTree tree (Read path) (Answered filed)) → IsWorkOf (Read path) was now (Ok (Answered filed)) → ReadsAs old new c (meaning_of filed) o
+      at : (o : Result (Unit {0}) Stop) → IsPerformed start part (Read path) (Answered filed) → ((tree : Tree) → was.tree ≡ Some tree → IsOfTree tree (Read path) (Answered filed)) → IsWorkOf (Read path) was now (Ok (Answered filed)) → ReadsAs old new c (meaning_of filed) o
           → IsReadAt was now old new c path o
       at o is tree_is does noted = record {
         content = is.0;
@@ -123,7 +129,7 @@ module _ (was now : SourceState) (old new : Driver) (c : Claim) where
         reads = does.reads;
       }
 
-      by : (o : Result (Unit {0}) Stop) → IsPerformed part (Read path) (Answered filed) → ((tree : Tree) → was.tree ≡ Some tree → IsOfTree tree (Read path) (Answered filed)) → IsWorkOf (Read path) was now (Ok (Answered filed)) → ReadsAs old new c (meaning_of filed) o
+      by : (o : Result (Unit {0}) Stop) → IsPerformed start part (Read path) (Answered filed) → ((tree : Tree) → was.tree ≡ Some tree → IsOfTree tree (Read path) (Answered filed)) → IsWorkOf (Read path) was now (Ok (Answered filed)) → ReadsAs old new c (meaning_of filed) o
           → IsReadOf was now old new c path o
       by (Ok u) is tree_is does noted = at (Ok u) is tree_is does noted
       by (Err (stop.Failed p)) is tree_is does noted = absurd noted
@@ -149,9 +155,10 @@ counted_as old new c v (Err stop.TooLarge) counted few many = (counted, many.1)
 counted_as old new c v (Err stop.Memory) counted few many = tt
 
 module _ (old new : Driver) (c : Claim) (v : Answer) where
-  pub reads_as : (book : Log) → book ≡ with_event old.book (File 0 (key_of c.key) v) → (r : Result (Unit {0}) Stop) → new.book ≡ book → new.waiting ≡ old.waiting → new.imports ≡ old.imports → new.reads ≡ old.reads + 1
+  pub reads_as : (book : Log) → book ≡ with_event old.book (File 0 (key_of c.key) v) → (r : Result (Unit {0}) Stop) → new.book ≡ book → new.waiting ≡ old.waiting → (new.early ≡ old.early) × (new.imports ≡ old.imports)
+      → (new.bases ≡ old.bases) × (new.known ≡ old.known) → new.reads ≡ old.reads + 1
       → OnOk r (new.reads ≤ read_limit) → IfErr r (λ s. (s ≡ stop.TooLarge) × (read_limit < new.reads)) → ReadsAs old new c v r
-  reads_as book filed r same waiting imports reads few many = counted_as old new c v r (record { book = same ∙ filed; waiting = waiting; imports = imports; reads = reads }) few many
+  reads_as book filed r same waiting imports begins reads few many = counted_as old new c v r (record { book = same ∙ filed; waiting = waiting; imports = imports; begins = begins; reads = reads }) few many
 
   pub reads_lost : (r : Result (Unit {0}) Stop) → IsErrAnd r (λ e. e ≡ stop.Memory) → ReadsAs old new c v r
   reads_lost (Ok u) h = absurd h
@@ -162,9 +169,9 @@ abbrev pub IsAnswer : Performed → Type 0
 IsAnswer (Answered filed) = Unit {0}
 IsAnswer (Needs on place asked) = ⊥
 
-pub reads_need_none : (part : Answers) (k : Key) (path : List ℕ) (done : Performed) → k ≡ Read path → IsPerformed part k done → IsAnswer done
-reads_need_none part k path done key is = by done (subst (λ (q : Key). IsPerformed part q done) key is)
+pub reads_need_none : (start : BaseState) (part : Answers) (k : Key) (path : List ℕ) (done : Performed) → k ≡ Read path → (IsSeen part k → IsPerformed start part k done) → IsAnswer done
+reads_need_none start part k path done key is = by done (subst (λ (q : Key). IsSeen part q → IsPerformed start part q done) key is tt)
   where
-    by : (d : Performed) → IsPerformed part (Read path) d → IsAnswer d
+    by : (d : Performed) → IsPerformed start part (Read path) d → IsAnswer d
     by (Answered filed) h = tt
     by (Needs on place asked) h = h.0

@@ -1,10 +1,10 @@
 -- What is filed, as the answers of loading.
 use Rattle.std.specs.Prelude.{map, Option, Some, None}
+use Rattle.gn_definitions.specs.Imported.{ImportState}
 use Rattle.gn_items.specs.Effects.{Effects}
 use Rattle.gn_items.specs.Questions.{question_of}
 use Rattle.gn_runs.specs.Runs.{Content, has_bytes, is_absent, is_too_big, End, ended, wrong, spoiled, needs, Run}
-use Rattle.gn_closure.specs.Reach.{Done}
-use Rattle.gn_core.specs.Keys.{Answer, found, import_is, no_value, unit_is, Leaving}
+use Rattle.gn_core.specs.Keys.{Answer, found, import_is, no_value, unit_is, Leaving, UnitLeft}
 use Rattle.gn_builds.specs.Worlds.{nothing_needed}
 use Rattle.gn_load.specs.declared.answer.FileContent.{FileContent}
 use Rattle.gn_load.specs.declared.answer.FileContent.TheVariants.{Bytes, Absent, TooBig}
@@ -25,15 +25,19 @@ run_of f (Left value effects) = record { end = ended (record { value = f value; 
 run_of f (Wrong fault asked) = record { end = wrong fault; asked = map question_of asked.items }
 run_of f (Spoiled path place asked) = record { end = spoiled path place; asked = map question_of asked.items }
 
+-- what a unit has left: it needs nothing yet
+abbrev pub unit_left : Option ImportState → UnitLeft
+unit_left beneath = record { needs = nothing_needed; beneath = beneath }
+
 -- what is filed, as the answer of a key
 abbrev pub meaning_of : Filed → Answer
 meaning_of (content_filed content) = found (content_view content)
 meaning_of (import_filed executed) = import_is (run_of (λ value. value) executed)
-meaning_of (unit_filed executed) = unit_is (run_of (λ value. nothing_needed) executed)
+meaning_of (unit_filed executed) = unit_is (run_of unit_left executed)
 meaning_of (NoValue path place asked) = no_value path place (map question_of asked.items)
 
 -- the answer of a unit, as a run
-abbrev pub unit_run : Option Answer → Option (Run (Leaving Done))
+abbrev pub unit_run : Option Answer → Option (Run (Leaving UnitLeft))
 unit_run (Some (unit_is run)) = Some run
 unit_run _ = None
 
@@ -44,6 +48,6 @@ left_in (wrong fault) = None
 left_in (spoiled path place) = None
 left_in (needs question place) = None
 
-abbrev pub left_by : Option (Run (Leaving Done)) → Option Effects
+abbrev pub left_by : Option (Run (Leaving UnitLeft)) → Option Effects
 left_by None = None
 left_by (Some run) = left_in run.end

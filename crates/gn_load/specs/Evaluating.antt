@@ -1,6 +1,6 @@
--- What the execution of a build file or of an import over a part comes to.
-use Rattle.std.specs.Prelude.{◌≡◌, ℕ, List, map}
-use Rattle.gn_values.specs.Imported.{ImportState}
+-- What the execution of a build configuration, of a build file or of an import over a part comes to.
+use Rattle.std.specs.Prelude.{◌≡◌, ℕ, List, map, Option}
+use Rattle.gn_definitions.specs.Imported.{ImportState}
 use Rattle.gn_items.specs.Questions.{question_of}
 use Rattle.gn_items.specs.declared.key.Key.{Key as Named}
 use Rattle.gn_runs.specs.Runs.{Question, Answers, Run}
@@ -8,14 +8,14 @@ use Rattle.gn_eval.specs.Library.{Need}
 use Rattle.gn_eval.specs.Ends.{asked_until}
 use Rattle.gn_executions.specs.Base.{BaseState}
 use Rattle.gn_meaning.specs.Steps.{Left}
-use Rattle.gn_unit.specs.Ends.{IsLoadOf, IsUnitOf, IsNeedOf, HasAskedOf, asked_of}
+use Rattle.gn_unit.specs.Ends.{IsLoadOf, IsSetupOf, IsUnitOf, IsNeedOf, HasAskedOf, asked_of}
 use Rattle.gn_unit.specs.declared.unit.Unit.{Unit as Evaluated}
 use Rattle.gn_unit.specs.declared.unit.Unit.TheVariants as unit
 use Rattle.gn_core.specs.Keys.{Layer, Filed, Leaving, key_of}
 use Rattle.gn_core.specs.Machine.{IsRightImport}
 use Rattle.gn_book.specs.Keys.{key_of as named_by}
-use Rattle.gn_builds.specs.Worlds.{left_run, nothing_needed}
-use Rattle.gn_load.specs.Answers.{run_of, meaning_of}
+use Rattle.gn_builds.specs.Worlds.{left_run, configuration_leaves, file_leaves}
+use Rattle.gn_load.specs.Answers.{run_of, unit_left, meaning_of}
 use Rattle.gn_builds.specs.Working.{over}
 use Rattle.gn_load.specs.Told.{need_view}
 use Rattle.gn_load.specs.declared.answer.Executed.{Executed}
@@ -32,21 +32,34 @@ IsRan base key a (Lacks need asked) = IsNeedOf base key (need_view need) (map qu
 
 -- what a build file leaves, and what one that is imported leaves
 abbrev pub IsBuildFile : Evaluated → Type 0
+IsBuildFile (unit.Setup value effects) = ⊥
 IsBuildFile (unit.Load effects) = Unit {0}
 IsBuildFile (unit.Import value effects) = ⊥
 IsBuildFile (unit.Wrong fault asked) = Unit {0}
 IsBuildFile (unit.Spoiled path place asked) = Unit {0}
 
+abbrev pub IsConfiguration : Evaluated → Type 0
+IsConfiguration (unit.Setup value effects) = Unit {0}
+IsConfiguration (unit.Load effects) = ⊥
+IsConfiguration (unit.Import value effects) = ⊥
+IsConfiguration (unit.Wrong fault asked) = Unit {0}
+IsConfiguration (unit.Spoiled path place asked) = Unit {0}
+
 abbrev pub IsImported : Evaluated → Type 0
+IsImported (unit.Setup value effects) = ⊥
 IsImported (unit.Load effects) = ⊥
 IsImported (unit.Import value effects) = Unit {0}
 IsImported (unit.Wrong fault asked) = Unit {0}
 IsImported (unit.Spoiled path place asked) = Unit {0}
 
 -- as a run
-abbrev pub IsLoadExecuted : Evaluated → Executed (Unit {0}) → Type 0
+abbrev pub IsLoadExecuted : Evaluated → Executed (Option ImportState) → Type 0
 IsLoadExecuted u executed =
-    (run : Run (Left (Unit {0}))) → IsLoadOf u run.end → run.asked ≡ asked_of u → run_of (λ value. nothing_needed) executed ≡ left_run (λ value. nothing_needed) run
+    (run : Run (Left (Unit {0}))) → IsLoadOf u run.end → run.asked ≡ asked_of u → run_of unit_left executed ≡ left_run file_leaves run
+
+abbrev pub IsSetupExecuted : Evaluated → Executed (Option ImportState) → Type 0
+IsSetupExecuted u executed =
+    (run : Run (Left ImportState)) → IsSetupOf u run.end → run.asked ≡ asked_of u → run_of unit_left executed ≡ left_run configuration_leaves run
 
 -- what is filed of the execution of an import is right over the part
 abbrev pub IsImportFiled : Filed → Layer → Run (Leaving ImportState) → FiledAnswer → Type 0

@@ -1,5 +1,6 @@
 pub mod Parsing
 pub mod Answers
+pub mod Bases
 pub mod Performing
 pub mod Told
 pub mod Evaluating

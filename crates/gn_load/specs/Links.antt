@@ -1,9 +1,9 @@
 -- Where the links of imports lead that can't be used.
-use Rattle.std.specs.Prelude.{◌≡◌, ℕ, List, [], Option, Some, None}
-use Rattle.gn_values.specs.Imported.{ImportState}
+use Rattle.std.specs.Prelude.{◌≡◌, ℕ, List, Option, Some, None}
+use Rattle.gn_definitions.specs.Imported.{ImportState}
 use Rattle.gn_runs.specs.Runs.{is_unusable, wrong, Run}
 use Rattle.gn_imports.specs.Causes.{led}
-use Rattle.gn_core.specs.Keys.{Leaving, usual, Import, Answer, import_is, imported_in}
+use Rattle.gn_core.specs.Keys.{Layer, Leaving, Import, Answer, import_is, imported_in}
 use Rattle.gn_book.specs.Logs.{Log, state_of}
 use Rattle.gn_builds.specs.Causes.{link_by, link_at, read_count}
 use Rattle.gn_load.specs.declared.causes.Led.{Led}
@@ -15,9 +15,10 @@ IsLedBy v (to.Fault fault) = (run : Run (Leaving ImportState)) × (v ≡ Some (i
 IsLedBy v (to.Import path place) = link_by v ≡ Some (record { path = path.now; place = place.now })
 IsLedBy v to.Nothing = (link_by v ≡ None) × (imported_in v ≡ Some is_unusable → ⊥)
 
--- links lead to an import with a fault, or after as many as files were read to one that has a link
-abbrev pub IsFollowed : Log → List ℕ → Led → Type 0
-IsFollowed l path (to.Fault fault) =
-    (n : ℕ) × (q : List ℕ) × (run : Run (Leaving ImportState)) × (led (link_at l) n path ≡ Some q) × ((state_of l).filed (Import (usual []) q) ≡ Some (import_is run)) × (run.end ≡ wrong fault.now)
-IsFollowed l path (to.Import next place) = (q : List ℕ) × (led (link_at l) (read_count l) path ≡ Some q) × (link_at l q ≡ Some (record { path = next.now; place = place.now }))
-IsFollowed l path to.Nothing = ⊥
+-- links of a layer lead to an import with a fault, or after as many as files were read to one that has a link
+abbrev pub IsFollowed : Layer → Log → List ℕ → Led → Type 0
+IsFollowed layer l path (to.Fault fault) =
+    (n : ℕ) × (q : List ℕ) × (run : Run (Leaving ImportState)) × (led (link_at layer l) n path ≡ Some q) × ((state_of l).filed (Import layer q) ≡ Some (import_is run)) × (run.end ≡ wrong fault.now)
+IsFollowed layer l path (to.Import next place) =
+    (q : List ℕ) × (led (link_at layer l) (read_count l) path ≡ Some q) × (link_at layer l q ≡ Some (record { path = next.now; place = place.now }))
+IsFollowed layer l path to.Nothing = ⊥

@@ -6,21 +6,23 @@ use Rattle.gn_outside.specs.Lists.{Extends}
 use Rattle.gn_outside.specs.Sources.{plain_reads}
 use Rattle.gn_items.specs.Questions.{question_of}
 use Rattle.gn_runs.specs.Runs.{has_bytes}
+use Rattle.gn_executions.specs.Base.{BaseState}
 use Rattle.gn_core.specs.Keys.{Key, Read, Import, Unit_of, Resolve, found, Filed}
 use Rattle.gn_book.specs.Keys.{key_of as named_by}
 use Rattle.gn_builds.specs.Worlds.{content_in}
 use Rattle.gn_builds.specs.Working.{IsRightOver, IsInNeed, AsksContent}
-use Rattle.gn_load.specs.Answers.{meaning_of}
+use Rattle.gn_load.specs.Answers.{content_view, meaning_of}
+use Rattle.gn_load.specs.declared.answer.FileContent.{FileContent}
 use Rattle.gn_load.specs.declared.work.Performed.{Performed}
 use Rattle.gn_load.specs.declared.work.Performed.TheVariants.{Answered, Needs}
 use Rattle.gn_load.specs.declared.work.PerformStop.{PerformStop}
 use Rattle.gn_load.specs.declared.work.PerformStop.TheVariants.{Failed, Memory}
 
 -- The work on a claim: the answer is right over this part, or the evaluation needs another answer over it
-abbrev pub IsPerformed : Filed → Key → Performed → Type 0
-IsPerformed part k (Answered filed) = IsRightOver part k (meaning_of filed)
-IsPerformed part k (Needs on place asked) =
-    IsInNeed part k (named_by on) place (map question_of asked.items) × AsksContent (named_by on) (map question_of asked.items)
+abbrev pub IsPerformed : BaseState → Filed → Key → Performed → Type 0
+IsPerformed start part k (Answered filed) = IsRightOver start part k (meaning_of filed)
+IsPerformed start part k (Needs on place asked) =
+    IsInNeed start part k (named_by on) place (map question_of asked.items) × AsksContent (named_by on) (map question_of asked.items)
 
 -- the answer of a read is what the tree has at its path
 abbrev pub IsOfTree : Tree → Key → Performed → Type 0
@@ -64,9 +66,24 @@ HasWork (Import l path) = Unit {0}
 HasWork (Unit_of unit) = Unit {0}
 HasWork (Resolve label) = ⊥
 
--- the bytes of a file are filed, or memory was wanting
-abbrev pub IsContent : List ℕ → Result Performed PerformStop → Type 0
-IsContent bytes (Ok (Answered filed)) = meaning_of filed ≡ found (has_bytes bytes)
-IsContent bytes (Ok (Needs on place asked)) = ⊥
+-- the bytes of a file, or memory was wanting
+abbrev pub IsContent : List ℕ → Result FileContent PerformStop → Type 0
+IsContent bytes (Ok content) = content_view content ≡ has_bytes bytes
 IsContent bytes (Err Failed) = ⊥
 IsContent bytes (Err Memory) = Unit {0}
+
+-- one read of a path, which a want of memory may leave out. The count of faults rises exactly where the read has failed
+abbrev pub JoinsReads : List ℕ → Option (List SourceRead) → Option (List SourceRead) → Result FileContent PerformStop → Type 0
+JoinsReads path before after (Ok content) = Extends before after (plain_reads (path ∷ []))
+JoinsReads path before after (Err Failed) = Extends before after (record { path = path; failed = true } ∷ [])
+JoinsReads path before after (Err Memory) = Extends before after (plain_reads (path ∷ [])) ⊎ (after ≡ before)
+
+abbrev pub CountsRead : ℕ → ℕ → Result FileContent PerformStop → Type 0
+CountsRead before after (Ok content) = after ≡ before
+CountsRead before after (Err Failed) = before < after
+CountsRead before after (Err Memory) = after ≡ before
+
+pub record IsReadBy (path : List ℕ) (before after : SourceState) (r : Result FileContent PerformStop) : Type 0 where
+  pub tree : after.tree ≡ before.tree
+  pub reads : JoinsReads path before.reads after.reads r
+  pub faults : CountsRead before.faults after.faults r

@@ -1,13 +1,22 @@
 -- What the turns of loading by one seat do.
-use Rattle.std.specs.Prelude.{◌≡◌, ◌⊎◌, ℕ, ◌+◌, ◌<◌, ◌≤◌, List, [], ◌∷◌, Option, Some, None, true, false, Result, Ok, Err}
+use Rattle.std.specs.Prelude.{◌≡◌, ◌⊎◌, ℕ, suc, ◌+◌, ◌-◌, ◌<◌, ◌≤◌, List, [], ◌∷◌, map, length, Option, Some, None, true, false, Result, Ok, Err}
+use Rattle.std.specs.Map.{keys_of}
+use Rattle.std.specs.List.Sorted.{IsStrictlySortedBy}
+use Rattle.std.specs.Ordering.{nat_cmp}
+use Rattle.std.specs.Cmp.Lexicographic.{slice_cmp}
 use Rattle.gn_paths.specs.declared.place.Place.{Place}
 use Rattle.gn_outside.specs.Tree.{Tree, read_of}
 use Rattle.gn_outside.specs.States.{SourceState}
-use Rattle.gn_outside.specs.Lists.{Extends}
+use Rattle.gn_outside.specs.Lists.{Extends, Each}
 use Rattle.gn_outside.specs.Sources.{plain_reads}
 use Rattle.gn_runs.specs.Runs.{Question, Content}
+use Rattle.gn_values.specs.Tables.{at_name, with_name, without_name}
+use Rattle.gn_items.specs.declared.key.When.{When}
+use Rattle.gn_items.specs.declared.key.When.TheVariants.{Early, Usual}
+use Rattle.gn_closure.specs.Closure.{In}
 use Rattle.gn_closure.specs.Reach.{Unit_key}
-use Rattle.gn_core.specs.Keys.{Key, Read, Unit_of, Answer, found}
+use Rattle.gn_executions.specs.Base.{BaseState}
+use Rattle.gn_core.specs.Keys.{early, usual, Key, Read, Unit_of, Answer, found, Filed}
 use Rattle.gn_core.specs.Machine.{Block, File, Leads, read_limit}
 use Rattle.gn_book.specs.Keys.{key_of}
 use Rattle.gn_book.specs.Logs.{Log, state_of, with_key, with_event, IsFree}
@@ -15,8 +24,12 @@ use Rattle.gn_book.specs.declared.book.Claim.{Claim}
 use Rattle.gn_builds.specs.Worlds.{content_in}
 use Rattle.gn_builds.specs.Stacks.{MayWait}
 use Rattle.gn_builds.specs.Rest.{AreImports}
-use Rattle.gn_builds.specs.Working.{IsInNeed, AsksContent}
-use Rattle.gn_builds.specs.Driving.{IsClaim, with_claim, IsGoing, ReadsNumbered, FailsAt, HasTooMany, left_to_do, IsBegun}
+use Rattle.gn_builds.specs.Causes.{read_count}
+use Rattle.gn_builds.specs.Working.{IsInNeed, IsSeen, AsksContent}
+use Rattle.gn_builds.specs.Driving.{keys_of as claimed_keys, IsClaim, with_claim, IsGoing, ReadsNumbered, FailsAt, HasTooMany, left_to_do, IsBegun}
+use Rattle.gn_load.specs.Answers.{content_view}
+use Rattle.gn_load.specs.Bases.{AreBases}
+use Rattle.gn_load.specs.declared.answer.FileContent.{FileContent}
 use Rattle.gn_load.specs.declared.driver.Driver.{Driver}
 use Rattle.gn_load.specs.declared.driver.Stop.{Stop}
 use Rattle.gn_load.specs.declared.driver.Stop.TheVariants.{Failed, TooLarge, Memory}
@@ -29,21 +42,48 @@ TakesAs old new c on place None =
     (new ≡ with_event (with_key old on) (Block 0 (key_of c.key) on place true)) × Leads (state_of old).blocks on (key_of c.key)
 
 -- over what is filed the evaluation of the key of a claim needs another key, for a call at a place
-abbrev pub IsNeeded : Log → Claim → Key → Place → List Question → Type 0
-IsNeeded l c on place asked = IsInNeed (state_of l).filed (key_of c.key) on place asked × AsksContent on asked
+abbrev pub IsNeeded : BaseState → Log → Claim → Key → Place → List Question → Type 0
+IsNeeded start l c on place asked = IsInNeed start (state_of l).filed (key_of c.key) on place asked × AsksContent on asked
 
--- the driver goes on with these claims; it has the number of each import that has one
-pub record Goes (before now : SourceState) (d : Driver) (cs : List Claim) : Type 0 where
-  pub going : IsGoing before now d.book cs d.reads
-  pub imports : AreImports d.book d.imports.entries
+-- what was read before a build is loaded, as it is told
+abbrev pub known_paths : List (List ℕ × FileContent) → List (List ℕ)
+known_paths known = map (λ (e : List ℕ × FileContent). e.0) known
+
+-- of what was read before, this is left that isn't filed; where the source tells its tree, it is what stands there
+pub record KeepsKnown (known : List (List ℕ)) (before : SourceState) (left : List (List ℕ × FileContent)) (keys : List Key) : Type 0 where
+  pub all : (path : List ℕ) → In known path → In (known_paths left) path ⊎ In keys (Read path)
+  pub only : (path : List ℕ) → In (known_paths left) path → In known path
+  pub told : (tree : Tree) → before.tree ≡ Some tree → Each (λ (e : List ℕ × FileContent). content_view e.1 ≡ content_in (read_of tree e.0)) left
+
+-- what the evaluations of claims see of other units is filed
+abbrev pub AreSeen : Filed → List Claim → Type 0
+AreSeen filed cs = (k : Key) → In (claimed_keys cs) k → IsSeen filed k
+
+-- The driver goes on with these claims. It has the bases of its evaluations, what was read before and isn't filed, and the number of each import that has
+-- one; what is filed was read, or was read before
+pub record Goes (known : List (List ℕ)) (before now : SourceState) (d : Driver) (cs : List Claim) : Type 0 where
+  pub going : IsGoing d.bases.early known before now d.book cs d.reads
+  pub bases : AreBases d.bases (state_of d.book).filed
+  pub seen : AreSeen (state_of d.book).filed cs
+  pub kept : KeepsKnown known before d.known.entries d.book.keys
+  pub counted : d.reads + length known ≡ read_count d.book + length d.known.entries
+  pub early : AreImports (early []) d.book d.early.entries
+  pub imports : AreImports (usual []) d.book d.imports.entries
+
+-- the rest of the driver stays
+pub record IsStill (old new : Driver) : Type 0 where
+  pub known : new.known.entries ≡ old.known.entries
+  pub reads : new.reads ≡ old.reads
+  pub early : new.early ≡ old.early
+  pub imports : new.imports ≡ old.imports
 
 -- Where loading ends before all is loaded
 
 -- a read has failed, the build is too large, or memory was wanting
-abbrev pub IsStop : SourceState → SourceState → Stop → Type 0
-IsStop before now (Failed path) = ReadsNumbered before now × FailsAt path before now
-IsStop before now TooLarge = HasTooMany before now
-IsStop before now Memory = ReadsNumbered before now × (now.faults ≡ before.faults)
+abbrev pub IsStop : BaseState → List (List ℕ) → SourceState → SourceState → Stop → Type 0
+IsStop start known before now (Failed path) = ReadsNumbered start known before now × FailsAt path before now
+IsStop start known before now TooLarge = HasTooMany start known before now
+IsStop start known before now Memory = ReadsNumbered start known before now × (now.faults ≡ before.faults)
 
 -- Turns
 
@@ -51,7 +91,8 @@ IsStop before now Memory = ReadsNumbered before now × (now.faults ≡ before.fa
 pub record IsCounted (old new : Driver) (c : Claim) (v : Answer) : Type 0 where
   pub book : new.book ≡ with_event old.book (File 0 (key_of c.key) v)
   pub waiting : new.waiting ≡ old.waiting
-  pub imports : new.imports ≡ old.imports
+  pub imports : (new.early ≡ old.early) × (new.imports ≡ old.imports)
+  pub begins : (new.bases ≡ old.bases) × (new.known ≡ old.known)
   pub reads : new.reads ≡ old.reads + 1
 
 abbrev pub ReadsAs : Driver → Driver → Claim → Answer → Result (Unit {0}) Stop → Type 0
@@ -91,15 +132,88 @@ IsReadOf before after old new c path (Err Memory) = IsLostRead before after path
 abbrev pub IsRead : SourceState → SourceState → Driver → Driver → Claim → Result (Unit {0}) Stop → Type 0
 IsRead before after old new c r = (path : List ℕ) → key_of c.key ≡ Read path → IsReadOf before after old new c path r
 
+-- what was read before at a path is taken out
+pub record IsTakenFrom (path : List ℕ) (old new : Driver) : Type 0 where
+  pub known : new.known.entries ≡ without_name path old.known.entries
+  pub bases : new.bases ≡ old.bases
+  pub waiting : new.waiting ≡ old.waiting
+  pub reads : new.reads ≡ old.reads
+  pub early : new.early ≡ old.early
+  pub imports : new.imports ≡ old.imports
+
+abbrev pub IsTaken : List ℕ → Driver → Driver → Type 0
+IsTaken path old new = IsTakenFrom path old new × (new.book ≡ old.book)
+
+-- what was read before at the path of a key, if it was, and the rest of that
+abbrev pub IsKnownAt : Driver → Driver → Key → Option FileContent → Type 0
+IsKnownAt old new (Read path) content = (content ≡ at_name path old.known.entries) × IsTaken path old new
+IsKnownAt old new k content = (content ≡ None) × (new ≡ old)
+
+-- what was read before is filed
+pub record IsFiledFrom (old new : Driver) (c : Claim) (content : FileContent) : Type 0 where
+  pub book : new.book ≡ with_event old.book (File 0 (key_of c.key) (found (content_view content)))
+  pub bases : new.bases ≡ old.bases
+  pub known : new.known ≡ old.known
+  pub waiting : new.waiting ≡ old.waiting
+  pub reads : new.reads ≡ old.reads
+  pub early : new.early ≡ old.early
+  pub imports : new.imports ≡ old.imports
+
+-- the answer of a read that was known before is filed, and the source isn't asked
+pub record IsFiledKnown (before after : SourceState) (old new : Driver) (c : Claim) (path : List ℕ) (content : FileContent) : Type 0 where
+  pub middle : Driver
+  pub taken : IsTaken path old middle
+  pub filed : IsFiledFrom middle new c content
+  pub source : after ≡ before
+
+abbrev pub IsReadKnown : SourceState → SourceState → Driver → Driver → Claim → List ℕ → FileContent → Result (Unit {0}) Stop → Type 0
+IsReadKnown before after old new c path content (Ok u) = IsFiledKnown before after old new c path content
+IsReadKnown before after old new c path content (Err stop) = (stop ≡ Memory) × (after ≡ before)
+
+-- what the source has there is filed, which wasn't known before
+abbrev pub IsReadNew : SourceState → SourceState → Driver → Driver → Claim → List ℕ → Result (Unit {0}) Stop → Type 0
+IsReadNew before after old new c path r = (middle : Driver) × IsTaken path old middle × IsReadOf before after middle new c path r
+
+abbrev pub ReadsOnce : SourceState → SourceState → Driver → Driver → Claim → List ℕ → Option FileContent → Result (Unit {0}) Stop → Type 0
+ReadsOnce before after old new c path None r = IsReadNew before after old new c path r
+ReadsOnce before after old new c path (Some content) r = IsReadKnown before after old new c path content r
+
+abbrev pub IsReadOnce : SourceState → SourceState → Driver → Driver → Claim → Result (Unit {0}) Stop → Type 0
+IsReadOnce before after old new c r = (path : List ℕ) → key_of c.key ≡ Read path → ReadsOnce before after old new c path (at_name path old.known.entries) r
+
+-- the number of an import is put down, among those of the layer
+abbrev pub IsNumbered : List (List ℕ × ℕ) → List (List ℕ × ℕ) → List ℕ → ℕ → Type 0
+IsNumbered old new path number = (new ≡ with_name path number old) × IsStrictlySortedBy (slice_cmp nat_cmp) (keys_of new)
+
+abbrev pub NotedAmong : List (List ℕ × ℕ) → List (List ℕ × ℕ) → When → When → List ℕ → ℕ → Type 0
+NotedAmong old new Early Early path number = IsNumbered old new path number
+NotedAmong old new Early Usual path number = new ≡ old
+NotedAmong old new Usual Early path number = new ≡ old
+NotedAmong old new Usual Usual path number = IsNumbered old new path number
+
+pub record IsNoted (old new : Driver) (when : When) (path : List ℕ) (number : ℕ) : Type 0 where
+  pub early : NotedAmong old.early.entries new.early.entries Early when path number
+  pub imports : NotedAmong old.imports.entries new.imports.entries Usual when path number
+  pub book : new.book ≡ old.book
+  pub bases : new.bases ≡ old.bases
+  pub known : new.known ≡ old.known
+  pub waiting : new.waiting ≡ old.waiting
+  pub reads : new.reads ≡ old.reads
+
 -- nothing is left to go on with only where no claim waits
 abbrev pub IsNextOf : Option Claim → List Claim → Type 0
 IsNextOf None cs = cs ≡ []
 IsNextOf (Some c) cs = Unit {0}
 
+-- how many files it can still read, and take of those that were read before
+abbrev pub room_of : Driver → ℕ
+room_of d = (suc read_limit - d.reads) + length d.known.entries
+
 -- the driver goes on, and less is left to do; no key goes, and no unit is taken up
-pub record IsTurned (before now : SourceState) (old new : Driver) (cs : List Claim) : Type 0 where
-  pub goes : Goes before now new cs
-  pub less : left_to_do new.book < left_to_do old.book
+pub record IsTurned (known : List (List ℕ)) (before now : SourceState) (old new : Driver) (cs : List Claim) : Type 0 where
+  pub goes : Goes known before now new cs
+  pub start : new.bases.early ≡ old.bases.early
+  pub less : left_to_do (room_of new) new.book < left_to_do (room_of old) old.book
   pub begun : (k : Key) → IsBegun (state_of old.book) k → IsBegun (state_of new.book) k
   pub units : (u : Unit_key) → IsBegun (state_of new.book) (Unit_of u) → IsBegun (state_of old.book) (Unit_of u)
 
@@ -109,16 +223,16 @@ MayGoOn None = Unit {0}
 MayGoOn (Some c) = MayWait (key_of c.key)
 
 -- what one turn comes to
-abbrev pub IsTurn : SourceState → SourceState → Driver → Driver → Result (Option Claim) Stop → Type 0
-IsTurn before now old new (Ok next) = IsTurned before now old new (with_claim next new.waiting.items) × IsNextOf next new.waiting.items × MayGoOn next
-IsTurn before now old new (Err stop) = IsStop before now stop
+abbrev pub IsTurn : List (List ℕ) → SourceState → SourceState → Driver → Driver → Result (Option Claim) Stop → Type 0
+IsTurn known before now old new (Ok next) = IsTurned known before now old new (with_claim next new.waiting.items) × IsNextOf next new.waiting.items × MayGoOn next
+IsTurn known before now old new (Err stop) = IsStop old.bases.early known before now stop
 
 -- what the read of a file comes to, for which the key of a claim waits
-abbrev pub IsReadFor : SourceState → SourceState → Driver → Driver → Claim → Result (Unit {0}) Stop → Type 0
-IsReadFor before now old new c (Ok u) = IsTurned before now old new (c ∷ new.waiting.items) × (new.waiting ≡ old.waiting)
-IsReadFor before now old new c (Err stop) = IsStop before now stop
+abbrev pub IsReadFor : List (List ℕ) → SourceState → SourceState → Driver → Driver → Claim → Result (Unit {0}) Stop → Type 0
+IsReadFor known before now old new c (Ok u) = IsTurned known before now old new (c ∷ new.waiting.items) × (new.waiting ≡ old.waiting)
+IsReadFor known before now old new c (Err stop) = IsStop old.bases.early known before now stop
 
 -- what the work on a unit and on all that it needs comes to
-abbrev pub IsFinish : SourceState → SourceState → Driver → Driver → Result (Unit {0}) Stop → Type 0
-IsFinish before now old new (Ok u) = IsTurned before now old new [] × (new.waiting.items ≡ [])
-IsFinish before now old new (Err stop) = IsStop before now stop
+abbrev pub IsFinish : List (List ℕ) → SourceState → SourceState → Driver → Driver → Result (Unit {0}) Stop → Type 0
+IsFinish known before now old new (Ok u) = IsTurned known before now old new [] × (new.waiting.items ≡ [])
+IsFinish known before now old new (Err stop) = IsStop old.bases.early known before now stop

@@ -2,16 +2,16 @@
 
 ghost use Rattle.std.specs.Prelude.{◌≡◌, Some, option_map};
 ghost use Rattle.gn_graph.specs.Needs.{done_of};
-ghost use Rattle.gn_load.specs.Answers.{run_of, meaning_of, unit_run, left_in};
+ghost use Rattle.gn_load.specs.Answers.{run_of, unit_left, meaning_of, unit_run, left_in};
 ghost use Rattle.gn_builds.specs.Worlds.{nothing_needed};
 
 use crate::file_bytes::FileBytes;
 use gn_book::{Answer, Mentions};
+use gn_definitions::ImportValue;
 use gn_faults::Fault;
 use gn_graph::UnitNeeds;
 use gn_items::{Outcome, Question};
 use gn_paths::{Path, Place, Text};
-use gn_values::ImportValue;
 use std::alloc::{AllocError, Global};
 
 /// What there is at a path.
@@ -44,14 +44,14 @@ pub enum Filed {
     Content(FileContent),
     /// How the execution of an import has ended.
     Import(Executed<ImportValue>),
-    /// How that of a unit has.
-    Unit(Executed<()>),
+    /// How that of a unit has; a build configuration leaves what stands beneath the files behind it.
+    Unit(Executed<Option<ImportValue>>),
     /// An import has no value: the path of the first import without value that it asks for, the place of that call, and the
     /// questions asked, in order.
     NoValue(Path, Place, Vec<Question>),
 }
 
-// A unit that is done needs nothing: labels of other directories aren't followed yet.
+// A unit that is done needs nothing: labels of other directories aren't followed yet, nor is that of the default toolchain.
 fn nothing_needed(alloc: Global) -> UnitNeeds
     ensures { done_of result ≡ nothing_needed }
 {
@@ -78,8 +78,8 @@ impl Answer for Filed {
 }
 
 /// How the execution of a unit has ended. None comes exactly where this is no answer of a unit.
-pub(crate) fn unit_of(filed: &Filed) -> Option<&Executed<()>>
-    ensures { option_map (λ executed. run_of (λ value. nothing_needed) executed.now) result ≡ unit_run (Some (meaning_of filed.now)) }
+pub(crate) fn unit_of(filed: &Filed) -> Option<&Executed<Option<ImportValue>>>
+    ensures { option_map (λ executed. run_of unit_left executed.now) result ≡ unit_run (Some (meaning_of filed.now)) }
 {
     match filed {
         Filed::Unit(executed) => Some(executed),
@@ -90,8 +90,8 @@ pub(crate) fn unit_of(filed: &Filed) -> Option<&Executed<()>>
 }
 
 /// What the execution of a unit has left. None comes exactly where it is wrong or spoiled.
-pub(crate) fn left_of(executed: &Executed<()>) -> Option<&Outcome>
-    ensures { option_map (λ outcome. outcome.now) result ≡ left_in (run_of (λ value. nothing_needed) executed.now).end }
+pub(crate) fn left_of(executed: &Executed<Option<ImportValue>>) -> Option<&Outcome>
+    ensures { option_map (λ outcome. outcome.now) result ≡ left_in (run_of unit_left executed.now).end }
 {
     match executed {
         Executed::Left(_, outcome) => Some(outcome),

@@ -1,31 +1,34 @@
-// The work on the claim of a build file or of an import: its execution over some part of what is filed.
+// The work on the claim of a build configuration, of a build file or of an import: its execution over some part of what is filed.
 
 ghost use Rattle.std.specs.Prelude.{◌≡◌, IfOk, map, if◌then◌else◌};
-ghost use Rattle.gn_values.specs.Imported.{ImportState};
+ghost use Rattle.gn_definitions.specs.Imported.{ImportState};
 ghost use Rattle.gn_items.specs.Questions.{question_of};
 ghost use Rattle.gn_runs.specs.Runs.{Run, Answers, content_of, import_of};
 ghost use Rattle.gn_meaning.specs.Steps.{Left};
 ghost use Rattle.gn_core.specs.Keys.{Layer, Import, Unit_of, shown};
-ghost use Rattle.gn_closure.specs.Reach.{Load as load};
-ghost use Rattle.gn_executions.specs.Base.{BaseState, plain_base};
+ghost use Rattle.gn_closure.specs.Reach.{Load as load, Setup as setup};
+ghost use Rattle.gn_executions.specs.Base.{BaseState};
 ghost use Rattle.gn_items.specs.declared.key.Key.{Key as Named};
 ghost use Rattle.gn_unit.specs.Ends.{IsExecuted, IsImportOf, IsNeedOf, WhereStopped, asked_of};
 ghost use Rattle.gn_book.specs.Keys.{layer_at};
 ghost use Rattle.gn_builds.specs.Worlds.{left_run};
+ghost use Rattle.gn_builds.specs.Working.{IsSeen};
 ghost use Rattle.gn_load.specs.Answers.{run_of, meaning_of};
+ghost use Rattle.gn_load.specs.Bases.{base_among, AreBases};
 ghost use Rattle.gn_load.specs.Performing.{IsPerformed};
 ghost use Rattle.gn_load.specs.Told.{told_state, need_view};
-ghost use Rattle.gn_load.specs.Evaluating.{IsRan, IsBuildFile, IsImported, IsLoadExecuted, IsImportFiled, IsLacking};
+ghost use Rattle.gn_load.specs.Evaluating.{IsRan, IsBuildFile, IsConfiguration, IsImported, IsLoadExecuted, IsSetupExecuted, IsImportFiled, IsLacking};
 
 use crate::answer::{Executed, Filed};
-use crate::keys::{import_key, load_key};
+use crate::bases::Bases;
+use crate::keys::{import_key, load_key, setup_key};
 use crate::part::Part;
 use crate::told::{Needed, Told, has_no_value};
 use crate::work::Performed;
+use gn_definitions::ImportValue;
 use gn_items::{Claim, Key, Question, When};
 use gn_paths::{Path, Place, Text};
 use gn_unit::{Base, EvalStop, Unit, evaluate};
-use gn_values::ImportValue;
 use std::alloc::{AllocError, Global};
 
 /// What comes of an execution.
@@ -64,29 +67,44 @@ fn run_over<P: Part>(
     }
 }
 
-// The execution that a key names of the layer, over some part of what is filed. The build has no build configuration.
+// The execution that a key names of the layer, over some part of what is filed and the base of the layer.
 fn run_key<P: Part>(
     alloc: Global,
+    bases: &Bases,
     part: &P,
     when: When,
     toolchain: &Text,
     key: Key,
 ) -> Result<Ran, AllocError>
     requires { IsExecuted key }
-    ensures { IfOk result (IsRan plain_base key (shown (P.answers part.now) (layer_at when toolchain.now))) }
+    ensures { IfOk result (IsRan (base_among bases.now when) key (shown (P.answers part.now) (layer_at when toolchain.now))) }
 {
     let told = Told::new(alloc, part, when, toolchain)?;
-    let base = Base::plain(alloc)?;
-    run_over(alloc, &base, told, key)
+    run_over(alloc, bases.base(when), told, key)
 }
 
 // What is filed of the execution of a build file.
-fn load_executed(unit: Unit) -> Executed<()>
+fn load_executed(unit: Unit) -> Executed<Option<ImportValue>>
     requires { IsBuildFile unit }
     ensures { IsLoadExecuted unit result }
 {
     match unit {
-        Unit::Load(outcome) => Executed::Left((), outcome),
+        Unit::Load(outcome) => Executed::Left(None, outcome),
+        Unit::Setup(..) => unreachable!(),
+        Unit::Import(..) => unreachable!(),
+        Unit::Wrong(fault, asked) => Executed::Wrong(fault, asked),
+        Unit::Spoiled(path, place, asked) => Executed::Spoiled(path, place, asked),
+    }
+}
+
+// What is filed of the execution of a build configuration.
+fn setup_executed(unit: Unit) -> Executed<Option<ImportValue>>
+    requires { IsConfiguration unit }
+    ensures { IsSetupExecuted unit result }
+{
+    match unit {
+        Unit::Setup(value, outcome) => Executed::Left(Some(value), outcome),
+        Unit::Load(_) => unreachable!(),
         Unit::Import(..) => unreachable!(),
         Unit::Wrong(fault, asked) => Executed::Wrong(fault, asked),
         Unit::Spoiled(path, place, asked) => Executed::Spoiled(path, place, asked),
@@ -99,6 +117,7 @@ fn import_executed(unit: Unit) -> Executed<ImportValue>
     ensures { (run : Run (Left ImportState)) → IsImportOf unit run.end → run.asked ≡ asked_of unit → run_of (λ value. value) result ≡ left_run (λ value. value) run }
 {
     match unit {
+        Unit::Setup(..) => unreachable!(),
         Unit::Load(_) => unreachable!(),
         Unit::Import(value, outcome) => Executed::Left(value, outcome),
         Unit::Wrong(fault, asked) => Executed::Wrong(fault, asked),
@@ -185,17 +204,36 @@ fn needs(
     }
 }
 
+/// The work on the claim of a build configuration, over some part of what is filed.
+pub(crate) fn perform_setup<P: Part>(
+    alloc: Global,
+    bases: &Bases,
+    part: &P,
+    toolchain: &Text,
+) -> Result<Performed, AllocError>
+    ensures { IfOk result (IsPerformed bases.now.early (P.answers part.now) (Unit_of (setup toolchain.now))) }
+{
+    let key = setup_key(alloc, toolchain)?;
+    match run_key(alloc, bases, part, When::Early, toolchain, key)? {
+        Ran::Ended(unit) => Ok(Performed::Answered(Filed::Unit(setup_executed(unit)))),
+        Ran::Lacks(need, asked) => needs(alloc, When::Early, toolchain, need, asked),
+    }
+}
+
 /// The work on the claim of a build file, over some part of what is filed.
 pub(crate) fn perform_load<P: Part>(
     alloc: Global,
+    bases: &Bases,
     part: &P,
     directory: &Path,
     toolchain: &Text,
 ) -> Result<Performed, AllocError>
-    ensures { IfOk result (IsPerformed (P.answers part.now) (Unit_of (load directory.now toolchain.now))) }
+    requires { AreBases bases.now (P.answers part.now) }
+    ensures { IfOk result (λ done. IsSeen (P.answers part.now) (Unit_of (load directory.now toolchain.now))
+        → IsPerformed bases.now.early (P.answers part.now) (Unit_of (load directory.now toolchain.now)) done) }
 {
     let key = load_key(alloc, directory, toolchain)?;
-    match run_key(alloc, part, When::Usual, toolchain, key)? {
+    match run_key(alloc, bases, part, When::Usual, toolchain, key)? {
         Ran::Ended(unit) => Ok(Performed::Answered(Filed::Unit(load_executed(unit)))),
         Ran::Lacks(need, asked) => needs(alloc, When::Usual, toolchain, need, asked),
     }
@@ -204,15 +242,18 @@ pub(crate) fn perform_load<P: Part>(
 /// The work on the claim of an import of a layer, over some part of what is filed.
 pub(crate) fn perform_import<P: Part>(
     alloc: Global,
+    bases: &Bases,
     part: &P,
     when: When,
     toolchain: &Text,
     path: &Path,
 ) -> Result<Performed, AllocError>
-    ensures { IfOk result (IsPerformed (P.answers part.now) (Import (layer_at when toolchain.now) path.now)) }
+    requires { AreBases bases.now (P.answers part.now) }
+    ensures { IfOk result (λ done. IsSeen (P.answers part.now) (Import (layer_at when toolchain.now) path.now)
+        → IsPerformed bases.now.early (P.answers part.now) (Import (layer_at when toolchain.now) path.now) done) }
 {
     let key = import_key(alloc, when, toolchain, path)?;
-    match run_key(alloc, part, when, toolchain, key)? {
+    match run_key(alloc, bases, part, when, toolchain, key)? {
         Ran::Ended(unit) => Ok(Performed::Answered(import_filed(
             alloc,
             part,

@@ -1,8 +1,9 @@
 // Keys of executions.
 
-ghost use Rattle.std.specs.Prelude.{◌≡◌, IfOk};
+ghost use Rattle.std.specs.Prelude.{◌≡◌, [], IfOk};
 ghost use Rattle.gn_items.specs.declared.key.Key.TheVariants as variant;
 ghost use Rattle.gn_core.specs.Keys.{Unit_of};
+ghost use Rattle.gn_closure.specs.Reach.{Setup};
 ghost use Rattle.gn_book.specs.Keys.{key_of};
 ghost use Rattle.gn_builds.specs.Builds.{root};
 
@@ -16,6 +17,20 @@ pub(crate) fn root_key(alloc: Global) -> Result<Key, AllocError>
     ensures { IfOk result (λ key. key_of key ≡ Unit_of root) }
 {
     Ok(Key::Load(Path::root(alloc)?, Text::new(alloc)))
+}
+
+/// The key of the build configuration under the default toolchain.
+pub(crate) fn first_key(alloc: Global) -> Key
+    ensures { key_of result ≡ Unit_of (Setup []) }
+{
+    Key::Setup(Text::new(alloc))
+}
+
+/// The key of the build configuration under a toolchain.
+pub(crate) fn setup_key(alloc: Global, toolchain: &Text) -> Result<Key, AllocError>
+    ensures { IfOk result (λ key. key ≡ variant.Setup toolchain.now) }
+{
+    Ok(Key::Setup(toolchain.copy(alloc)?))
 }
 
 /// The key of the build file of a directory.

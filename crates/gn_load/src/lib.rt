@@ -2,6 +2,7 @@
 #![tactic(auto)]
 
 mod answer;
+mod bases;
 mod built;
 mod causes;
 mod driver;
@@ -15,8 +16,11 @@ mod told;
 mod work;
 
 pub use answer::{Executed, FileContent, Filed};
+pub use bases::{Bases, toolchain_text};
 pub use built::Built;
+pub use driver::Known;
 pub use file_bytes::{FileBytes, ReadAs};
 pub use part::Part;
 pub use plain::{LoadEnd, Plain, load_plain};
+pub use reading::read_content;
 pub use work::{PerformStop, Performed, perform};

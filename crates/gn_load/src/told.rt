@@ -9,13 +9,13 @@ ghost use Rattle.gn_load.specs.Told.{told_state, ImportedAs, has_no_value};
 use crate::answer::{Executed, FileContent, Filed};
 use crate::keys::import_key;
 use crate::part::Part;
+use gn_definitions::ImportValue;
 use gn_env::Env;
 use gn_eval::{DefineError, Definer, Found, Imported, LibStop, Library};
 use gn_items::{Item, ItemKind, Key, Question, When};
 use gn_paths::{Path, Place, Text};
 use gn_tree::Position;
 use gn_unit::define_item;
-use gn_values::ImportValue;
 use std::alloc::{AllocError, Global};
 
 /// An answer that is needed: the question, and the place of the call that asks.

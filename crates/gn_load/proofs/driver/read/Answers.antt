@@ -1,25 +1,26 @@
-use Rattle.std.proofs.Common.{subst, sym}
-use Rattle.gn_book.specs.Logs.{state_of}
-use Rattle.gn_load.specs.Performing.{HasWork}
-use Rattle.gn_load.specs.declared.work.Performed.TheVariants.{Needs}
-use Rattle.gn_load.proofs.WorkLemmas.{read_answered, read_failed, read_lost, reads_need_none}
+use Rattle.gn_load.proofs.ReadLemmas.{same_claim, same_bases, same_reads, filed_once, lost_once, new_once}
 use Rattle.gn_load.proofs.driver.read.Goals as goal
 
-pub perform-requires : goal.perform-requires
-perform-requires g c = subst HasWork (sym c.requires.read.1) tt
+pub file_known-requires : goal.file_known-requires
+file_known-requires g c = same_claim c.args.driver.now c.known_at.new.driver c.args.claim _ c.known_at.ensures c.requires.read c.requires.claim
 
-pub returns-in-Ok-Answered : goal.returns-in-Ok-Answered
-returns-in-Ok-Answered g c =
-    read_answered (g.S.Source.state c.args.source.now) (g.S.Source.state c.perform.new.source) c.args.driver.now c.read_done.new.driver c.args.claim (state_of c.args.driver.now.book).filed c.in-Ok-Answered.answer c.read_done.result
-    (rw c.in-Ok-Answered.field-0-is at c.in-Ok-Answered.ensures.done) (rw c.in-Ok-Answered.field-0-is at c.in-Ok-Answered.ensures.tree) (rw c.in-Ok-Answered.field-0-is at c.in-Ok-Answered.ensures.reads) c.read_done.ensures
+pub returns-in_ok-file_known-in-Some : goal.returns-in_ok-file_known-in-Some
+returns-in_ok-file_known-in-Some g c =
+    filed_once (g.S.Source.state c.args.source.now) c.args.driver.now c.known_at.new.driver c.args.claim c.in-Some.content (rw c.in-Some.is at c.known_at.ensures) c.file_known.new.driver c.in_ok-file_known-in-Some.ensures
 
-pub unreachable-requires : goal.unreachable-requires
-unreachable-requires g c = reads_need_none (state_of c.args.driver.now.book).filed _ c.requires.read.0 (Needs c.in-Ok-Needs.field-0-0 c.in-Ok-Needs.field-0-1 c.in-Ok-Needs.field-0-2) c.requires.read.1 (rw c.in-Ok-Needs.field-0-is at c.in-Ok-Needs.ensures.done)
+pub returns-in_err-file_known-in-Some : goal.returns-in_err-file_known-in-Some
+returns-in_err-file_known-in-Some g c =
+    lost_once (g.S.Source.state c.args.source.now) c.args.driver.now c.known_at.new.driver c.args.claim c.in-Some.content (rw c.in-Some.is at c.known_at.ensures) c.file_known.new.driver c.from_residual.result c.from_residual.ensures.1
 
-pub returns-in-Err-Failed : goal.returns-in-Err-Failed
-returns-in-Err-Failed g c =
-    read_failed (g.S.Source.state c.args.source.now) (g.S.Source.state c.perform.new.source) c.args.driver.now c.args.driver.now c.args.claim c.path_of.result c.path_of.ensures (rw c.in-Err-Failed.field-0-is at c.in-Err-Failed.ensures.reads)
+pub read_new-requires-clause-claim : goal.read_new-requires-clause-claim
+read_new-requires-clause-claim g c = same_claim c.args.driver.now c.known_at.new.driver c.args.claim _ c.known_at.ensures c.requires.read c.requires.claim
 
-pub returns-in-Err-Memory : goal.returns-in-Err-Memory
-returns-in-Err-Memory g c =
-    read_lost (g.S.Source.state c.args.source.now) (g.S.Source.state c.perform.new.source) c.args.driver.now c.args.driver.now c.args.claim (rw c.in-Err-Memory.field-0-is at c.in-Err-Memory.ensures.reads)
+pub read_new-requires-clause-bases : goal.read_new-requires-clause-bases
+read_new-requires-clause-bases g c = same_bases c.args.driver.now c.known_at.new.driver c.args.claim _ c.known_at.ensures c.requires.read c.requires.bases
+
+pub read_new-requires-clause-few : goal.read_new-requires-clause-few
+read_new-requires-clause-few g c = same_reads c.args.driver.now c.known_at.new.driver c.args.claim _ c.known_at.ensures c.requires.read c.requires.few
+
+pub returns-in-None : goal.returns-in-None
+returns-in-None g c =
+    new_once (g.S.Source.state c.args.source.now) (g.S.Source.state c.read_new.new.source) c.args.driver.now c.known_at.new.driver c.read_new.new.driver c.args.claim c.read_new.result (rw c.in-None.is at c.known_at.ensures) c.read_new.ensures

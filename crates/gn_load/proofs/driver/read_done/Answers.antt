@@ -7,4 +7,4 @@ returns-in_err-file c = reads_lost c.args.driver.now _ c.args.claim (meaning_of 
 
 pub returns : goal.returns
 returns c =
-    reads_as c.args.driver.now c.count.new.driver c.args.claim (meaning_of c.args.answer) c.file.new.book c.in_ok-file.ensures.ok c.count.result c.count.ensures.book c.count.ensures.waiting c.count.ensures.imports c.count.ensures.reads c.count.ensures.few c.count.ensures.many
+    reads_as c.args.driver.now c.count.new.driver c.args.claim (meaning_of c.args.answer) c.file.new.book c.in_ok-file.ensures.ok c.count.result c.count.ensures.book c.count.ensures.waiting c.count.ensures.imports c.count.ensures.begins c.count.ensures.reads c.count.ensures.few c.count.ensures.many

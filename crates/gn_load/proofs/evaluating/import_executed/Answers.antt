@@ -2,7 +2,10 @@ use Rattle.gn_load.proofs.Evaluations.{left_as, wrong_as, spoiled_run}
 use Rattle.gn_load.proofs.evaluating.import_executed.Goals as goal
 
 pub unreachable-requires : goal.unreachable-requires
-unreachable-requires c = rw c.in-Load.is at c.requires
+unreachable-requires c = rw c.in-Setup.is at c.requires
+
+pub unreachable-requires-in-Load : goal.unreachable-requires-in-Load
+unreachable-requires-in-Load c = rw c.in-Load.is at c.requires
 
 pub returns-in-Import : goal.returns-in-Import
 returns-in-Import c = λ run ends asked. left_as (λ value. value) run c.in-Import.value c.in-Import.outcome (rw c.in-Import.is at ends) (rw c.in-Import.is at asked)

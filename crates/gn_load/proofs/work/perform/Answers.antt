@@ -3,11 +3,11 @@ use Rattle.gn_core.specs.Keys.{Read}
 use Rattle.gn_items.specs.declared.key.Key.{Key}
 use Rattle.gn_book.specs.Keys.{key_of}
 use Rattle.gn_builds.specs.Stacks.{MayWait}
-use Rattle.gn_load.proofs.WorkLemmas.{at_part, evaluated_done, evaluated_tree, evaluated_work, done_work, of_no_read}
+use Rattle.gn_load.proofs.WorkLemmas.{at_part, as_seen, evaluated_done, evaluated_tree, evaluated_work}
 use Rattle.gn_load.proofs.work.perform.Goals as goal
 
 pub returns-in-Read-clause-done : goal.returns-in-Read-clause-done
-returns-in-Read-clause-done g c = rw c.in-Read.is (at_part (g.P.Part.answers c.args.part.now) (Read c.in-Read.path) c.perform_read.result c.perform_read.ensures.done)
+returns-in-Read-clause-done g c = rw c.in-Read.is (at_part c.args.bases.now.early (g.P.Part.answers c.args.part.now) (Read c.in-Read.path) c.perform_read.result c.perform_read.ensures.done)
 
 pub returns-in-Read-clause-tree : goal.returns-in-Read-clause-tree
 returns-in-Read-clause-tree g c = rw c.in-Read.is c.perform_read.ensures.tree
@@ -26,13 +26,14 @@ returns-in-Import-clause-reads g c =
     evaluated_work (key_of c.args.key.now) (g.S.Source.state c.args.source.now) c.perform_import.result c.evaluated.result (subst (λ (k : Key). MayWait (key_of k)) (sym c.in-Import.is) tt) c.evaluated.ensures
 
 pub returns-in-Setup-clause-done : goal.returns-in-Setup-clause-done
-returns-in-Setup-clause-done g c = rw c.in-Setup.is (c.perform_setup.ensures (g.P.Part.answers c.args.part.now) _)
+returns-in-Setup-clause-done g c = rw c.in-Setup.is (evaluated_done _ c.perform_setup.result c.evaluated-in-Setup.result (as_seen _ _ c.perform_setup.result c.perform_setup.ensures) c.evaluated-in-Setup.ensures)
 
 pub returns-in-Setup-clause-tree : goal.returns-in-Setup-clause-tree
-returns-in-Setup-clause-tree g c = λ tree told. of_no_read tree (key_of c.args.key.now) c.perform_setup.result (subst (λ (k : Key). MayWait (key_of k)) (sym c.in-Setup.is) tt)
+returns-in-Setup-clause-tree g c = evaluated_tree (key_of c.args.key.now) (g.S.Source.state c.args.source.now).tree c.evaluated-in-Setup.result (subst (λ (k : Key). MayWait (key_of k)) (sym c.in-Setup.is) tt)
 
 pub returns-in-Setup-clause-reads : goal.returns-in-Setup-clause-reads
-returns-in-Setup-clause-reads g c = done_work (key_of c.args.key.now) (g.S.Source.state c.args.source.now) c.perform_setup.result (subst (λ (k : Key). MayWait (key_of k)) (sym c.in-Setup.is) tt)
+returns-in-Setup-clause-reads g c =
+    evaluated_work (key_of c.args.key.now) (g.S.Source.state c.args.source.now) c.perform_setup.result c.evaluated-in-Setup.result (subst (λ (k : Key). MayWait (key_of k)) (sym c.in-Setup.is) tt) c.evaluated-in-Setup.ensures
 
 pub returns-in-Load-clause-done : goal.returns-in-Load-clause-done
 returns-in-Load-clause-done g c = rw c.in-Load.is (evaluated_done _ c.perform_load.result c.evaluated-in-Load.result c.perform_load.ensures c.evaluated-in-Load.ensures)
@@ -45,4 +46,4 @@ returns-in-Load-clause-reads g c =
     evaluated_work (key_of c.args.key.now) (g.S.Source.state c.args.source.now) c.perform_load.result c.evaluated-in-Load.result (subst (λ (k : Key). MayWait (key_of k)) (sym c.in-Load.is) tt) c.evaluated-in-Load.ensures
 
 pub unreachable-requires : goal.unreachable-requires
-unreachable-requires g c = rw c.in-Resolve.is at c.requires
+unreachable-requires g c = rw c.in-Resolve.is at c.requires.work
