@@ -1,5 +1,10 @@
-pub mod CommandLemmas
-pub mod OrderLemmas
-pub mod RunLemmas
 pub mod AnswerLemmas
-mod EndingLemmas
+pub mod CommandLemmas
+pub mod FirstLemmas
+pub mod JoinedReads
+pub mod KnownPaths
+pub mod OrderLemmas
+pub mod PartReads
+pub mod RepeatedLemmas
+pub mod RunLemmas
+pub mod StageLemmas

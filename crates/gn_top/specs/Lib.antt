@@ -3,7 +3,10 @@ pub mod Words
 pub mod Commands
 pub mod Texts
 pub mod Labels
-pub mod Said
+pub mod Repeated
 pub mod Hosts
+pub mod Stages
+pub mod Said
 pub mod Run
 pub mod Steps
+pub mod Building

@@ -4,7 +4,8 @@ use Rattle.gn_outside.specs.States.{SourceState, SinkState, SinkEvent, SaidPiece
 use Rattle.gn_outside.specs.Lists.{EachPair, Extends}
 use Rattle.gn_outside.specs.Sources.{AllTellReads, total_faults, FailedAt, IsLeastFailure}
 use Rattle.gn_top.specs.Texts.{usage_line, cannot_read_line}
-use Rattle.gn_top.specs.Said.{Said, UnitCount, Exactly, AtMost}
+use Rattle.gn_builds.specs.Loaded.{UnitCount, Exactly, AtMost}
+use Rattle.gn_top.specs.Said.{Said}
 
 -- what this meaning tells the sink: its files in their order, and then its text in one piece
 abbrev pub events_of : Said → List SinkEvent

@@ -1,28 +1,30 @@
 -- The sequential meaning of a command line over a tree.
-use Rattle.std.specs.Prelude.{ℕ, List, [], ◌++◌, Option, None, Some, Result, Ok, Err, map, string_bytes}
+use Rattle.std.specs.Prelude.{ℕ, List, [], ◌++◌, Option, None, Some, Result, Ok, Err, map, string_bytes, codes}
 use Rattle.std.specs.List.{flat_map}
 use Rattle.std.specs.declared.string.String.{String}
 use Rattle.std.specs.declared.alloc.Global.{Global}
 use Rattle.gn_outside.specs.Tree.{Tree}
 use Rattle.gn_outside.specs.States.{PutFile}
 use Rattle.gn_faults.specs.declared.code.Code.{Code}
-use Rattle.gn_faults.specs.declared.code.Code.TheVariants.{TooLarge}
+use Rattle.gn_faults.specs.declared.code.Code.TheVariants.{BadPattern, AboveRoot, BadPath}
+use Rattle.gn_faults.specs.declared.stage.Stage.TheVariants.{Question}
+use Rattle.gn_paths.specs.declared.error.PathFault.TheVariants as no_path
+use Rattle.gn_labels.specs.declared.error.PatternFault.{PatternFault}
+use Rattle.gn_labels.specs.declared.error.PatternFault.TheVariants as no_pattern
+use Rattle.gn_labels.specs.declared.pattern.Pattern.{Pattern}
+use Rattle.gn_labels.specs.Patterns.{pattern_read}
 use Rattle.gn_faults.specs.declared.fault.Fault.{Fault}
 use Rattle.gn_faults.specs.Printed.{printed}
 use Rattle.gn_top.specs.Exported.{Exported}
-use Rattle.gn_top.specs.Words.{Command, Ls, command_of}
-use Rattle.gn_top.specs.Texts.{usage_line}
-use Rattle.gn_imports.specs.Asked.{contents_asked}
-use Rattle.gn_builds.specs.Worlds.{files_of}
-use Rattle.gn_builds.specs.Builds.{questions}
-use Rattle.gn_builds.specs.Loaded.{Build, lines, loaded}
+use Rattle.gn_top.specs.Words.{Options, Command, Ls, Line, line_said}
+use Rattle.gn_top.specs.Texts.{line, usage_line}
+use Rattle.gn_items.specs.declared.declaration.Declaration.{Declaration}
+use Rattle.gn_args.specs.Arguments.{unused_names}
+use Rattle.gn_builds.specs.Worlds.{toolchain_text}
+use Rattle.gn_builds.specs.Loaded.{UnitCount, Exactly, Failure, lines_of_build, declared_by_build}
+use Rattle.gn_top.specs.Stages.{Request, Build, loaded, paths_read}
 use Rattle.gn_top.specs.Labels.{listing}
 use Rattle.gn_top.specs.Hosts.{HostTexts}
-
--- how many build files a run loads: so many, or no more than so many
-pub data UnitCount : Type 0 where
-  Exactly : ℕ → UnitCount
-  AtMost : ℕ → UnitCount
 
 -- a status, a text, the files in the order in which they are put, and the number of build files loaded
 pub record Said : Type 0 where
@@ -39,42 +41,90 @@ texts words = map string_bytes words
 abbrev pub usage_said : Said
 usage_said = record { status = 2; text = usage_line; files = []; units = Exactly 0 }
 
--- how many build files are loaded before this error: of one that is larger than a limit perhaps none
-abbrev pub units_before : Code → UnitCount
-units_before TooLarge = AtMost 1
-units_before _ = Exactly 1
+-- the line of an error, once so many build files are loaded
+abbrev pub failure_said : Failure → Said
+failure_said failure = record { status = 1; text = printed failure.fault; files = []; units = failure.units }
 
--- the line of an error that was found while the build was loaded
-abbrev pub fault_said : Fault → Said
-fault_said fault = record { status = 1; text = printed fault; files = []; units = units_before fault.code }
+-- the lines that the first stage has printed, and then those of the build configuration, of the imports that it needs, in the order of their paths, of the
+-- other imports, in that order, and of the build file
+abbrev pub lines_of : Build → List ℕ
+lines_of build = flat_map (λ text. text) build.first.prints ++ lines_of_build build.loaded
 
--- the lines printed by the imports, in the order of their paths, then those of the build file, then the labels of the items in label order, one a line
-abbrev pub answer_text : Build → List ℕ
-answer_text build = flat_map lines build.imports ++ (lines build.file ++ listing build.file.items)
+-- the text of the default toolchain
+abbrev pub default_of : Build → List ℕ
+default_of build = toolchain_text build.loaded.configuration.default_toolchain
+
+-- a build argument that was given to no effect
+unfoldable pub warning : List ℕ → List ℕ
+warning name = line (codes "WARNING: The build argument \"" ++ (name ++ codes "\" has no effect."))
+
+abbrev pub declared_names : Build → List (List ℕ)
+declared_names build = map (λ (d : Declaration). d.name) (declared_by_build build.loaded)
+
+abbrev pub warnings_of : Build → List ℕ
+warnings_of build = flat_map warning (unused_names build.first.arguments (declared_names build))
+
+-- the lines printed, the warnings in the order of the names, and then the labels of the items in label order, one a line: with a pattern those that it
+-- matches
+abbrev pub answer_text : Option Pattern → Build → List ℕ
+answer_text pattern build = lines_of build ++ (warnings_of build ++ listing (default_of build) pattern build.loaded.file.items)
 
 -- the answer of a build that was loaded
-abbrev pub answer_said : Build → Said
-answer_said build = record { status = 0; text = answer_text build; files = []; units = Exactly 1 }
+abbrev pub answer_said : Option Pattern → Build → Said
+answer_said pattern build = record { status = 0; text = answer_text pattern build; files = []; units = Exactly 1 }
 
--- what is said of what a build leaves, or of its error
-abbrev pub loaded_said : Result Build Fault → Said
-loaded_said (Ok build) = answer_said build
-loaded_said (Err fault) = fault_said fault
+-- the pattern of a command, if it has one: what its text means at the source root
+abbrev pub pattern_meant : Result Pattern PatternFault → Result (Option Pattern) PatternFault
+pattern_meant (Ok pattern) = Ok (Some pattern)
+pattern_meant (Err fault) = Err fault
 
--- what a command says over a tree
-abbrev pub command_said : Option Command → Tree → Said
-command_said None tree = usage_said
-command_said (Some (Ls name)) tree = loaded_said (loaded (files_of tree))
+abbrev pub pattern_asked : Option (List ℕ) → Result (Option Pattern) PatternFault
+pattern_asked None = Ok None
+pattern_asked (Some text) = pattern_meant (pattern_read (codes "//") text)
+
+-- a text that means no pattern is a fault of the question, without a place
+abbrev pub pattern_code : PatternFault → Code
+pattern_code no_pattern.BadPattern = BadPattern
+pattern_code (no_pattern.Path no_path.AboveRoot) = AboveRoot
+pattern_code (no_pattern.Path no_path.BadPath) = BadPath
+
+abbrev pub question_fault : PatternFault → Fault
+question_fault fault = record { stage = Question; place = None; toolchain = []; code = pattern_code fault; detail = [] }
+
+-- what is said of a build to which a pattern is put
+abbrev pub build_said : Result (Option Pattern) PatternFault → Build → Said
+build_said (Ok pattern) build = answer_said pattern build
+build_said (Err fault) build = failure_said (record { fault = question_fault fault; units = Exactly 1 })
+
+-- what is said of what a build leaves, or of its error, which comes first
+abbrev pub loaded_said : Option (List ℕ) → Result Build Failure → Said
+loaded_said pattern (Ok build) = build_said (pattern_asked pattern) build
+loaded_said pattern (Err failure) = failure_said failure
+
+-- what a build is made from, by a command and the switches of its line
+abbrev pub request_of : List ℕ → Options → Request
+request_of directory options = record { directory = directory; arguments = options.arguments }
+
+-- what a command says over a tree. The number of workers doesn't count
+abbrev pub command_said : Command → Options → HostTexts → Tree → Said
+command_said (Ls directory pattern) options host tree = loaded_said pattern (loaded host (request_of directory options) tree)
+
+abbrev pub line_means : Option Line → HostTexts → Tree → Said
+line_means None host tree = usage_said
+line_means (Some line) host tree = command_said line.command line.options host tree
 
 -- the meaning of words: what a run over this tree says and puts
 unfoldable pub said : List (List ℕ) → HostTexts → List Exported → Tree → Said
-said words host exporters tree = command_said (command_of words) tree
+said words host exporters tree = line_means (line_said words) host tree
 
 -- the paths that a command reads
-abbrev pub command_asked : Option Command → Tree → List (List ℕ)
-command_asked None tree = []
-command_asked (Some (Ls name)) tree = contents_asked (questions (files_of tree))
+abbrev pub command_asked : Command → Options → HostTexts → Tree → List (List ℕ)
+command_asked (Ls directory pattern) options host tree = paths_read host (request_of directory options) tree
+
+abbrev pub line_asks : Option Line → HostTexts → Tree → List (List ℕ)
+line_asks None host tree = []
+line_asks (Some line) host tree = command_asked line.command line.options host tree
 
 -- the paths that the meaning of words reads
 unfoldable pub asked : List (List ℕ) → HostTexts → List Exported → Tree → List (List ℕ)
-asked words host exporters tree = command_asked (command_of words) tree
+asked words host exporters tree = line_asks (line_said words) host tree

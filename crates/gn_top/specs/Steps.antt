@@ -2,8 +2,6 @@
 use Rattle.std.specs.Prelude.{◌≡◌, ℕ, ◌<◌, ◌≤◌, List, [], Result, Ok, Err}
 use Rattle.gn_outside.specs.States.{SourceState, SinkState, piece_of}
 use Rattle.gn_outside.specs.Lists.{Extends}
-use Rattle.gn_load.specs.declared.plain.LoadEnd.{LoadEnd}
-use Rattle.gn_load.specs.declared.plain.LoadEnd.TheVariants as end
 use Rattle.gn_top.specs.declared.answered.Answered.{Answered}
 use Rattle.gn_top.specs.declared.answered.RunStop.{RunStop}
 use Rattle.gn_top.specs.declared.answered.RunStop.TheVariants.{CannotRead, Memory}
@@ -35,13 +33,6 @@ pub record SaysUnder (before after : SinkState) (text : List ℕ) (wanted status
   pub whole : status ≤ 3 → (status ≡ wanted) × Extends before.events after.events (piece_of text) × (after.faults ≡ before.faults)
   pub failed : status ≡ 4 → before.faults < after.faults
   pub part : 4 ≤ status → SaysPart before after text
-
--- there is no answer where the read of a file has failed, and where memory was wanting
-abbrev pub AnswersEnd : LoadEnd → Result Answered RunStop → Type 0
-AnswersEnd (end.Failed path) r = r ≡ Err (CannotRead path)
-AnswersEnd end.Memory r = r ≡ Err Memory
-AnswersEnd (end.Built built) r = IfCannotRead r (λ path. ⊥)
-AnswersEnd (end.Wrong fault) r = IfCannotRead r (λ path. ⊥)
 
 -- the usage line, or want of memory, and nothing was read
 abbrev pub AnswersUsage : SourceState → SourceState → Result Answered RunStop → Type 0

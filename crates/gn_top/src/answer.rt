@@ -1,48 +1,133 @@
 // What a run is to say.
-ghost use Rattle.std.specs.Prelude.{◌≡◌, ◌≤◌, [], ◌∷◌, IfOk, Some};
+ghost use Rattle.std.specs.Prelude.{◌≡◌, ◌≤◌, [], ◌∷◌, ◌++◌, map, option_map, IfOk, OnOk, Some};
+ghost use Rattle.std.specs.List.{flat_map};
 ghost use Rattle.gn_outside.specs.Tree.{Tree};
 ghost use Rattle.gn_outside.specs.Lists.{AllDiffer, Each, EachPair, OneOf};
 ghost use Rattle.gn_outside.specs.Sources.{AllTell, AllTellReads, ReadsOn, IsLeastFailure, joined_reads};
-ghost use Rattle.gn_top.specs.Words.{HasNoForm};
-ghost use Rattle.gn_top.specs.Hosts.{host_texts};
-ghost use Rattle.gn_builds.specs.Worlds.{files_of};
 ghost use Rattle.gn_builds.specs.Driving.{FailsAt};
-ghost use Rattle.gn_builds.specs.Loaded.{loaded};
-ghost use Rattle.gn_builds.specs.Rest.{ReadsAsked};
-ghost use Rattle.gn_load.specs.Ends.{build_of, IsEndOf};
-ghost use Rattle.gn_top.specs.Said.{said, asked, texts, fault_said, answer_said, loaded_said};
-ghost use Rattle.gn_top.specs.Run.{IsCount};
-ghost use Rattle.gn_top.specs.Steps.{IsSaying, IfCannotRead, CountsFault, AnswersEnd, AnswersUsage};
+ghost use Rattle.gn_top.specs.Words.{AreShort, HasNoForm};
+ghost use Rattle.gn_top.specs.Hosts.{host_texts};
+ghost use Rattle.gn_top.specs.Stages.{loaded};
+ghost use Rattle.gn_top.specs.Said.{said, asked, texts, lines_of, warning, declared_names, warnings_of, answer_said, line_means, line_asks, pattern_asked, pattern_code, question_fault, build_said, loaded_said};
+ghost use Rattle.gn_top.specs.Steps.{IsSaying, IfCannotRead, CountsFault, AnswersUsage};
+ghost use Rattle.gn_top.specs.Building.{request_view, outer_view, build_view, SaysFault, SaysEnd, ReadsOf, ReadsBuild};
+ghost use Rattle.gn_top.specs.Commands.{line_view};
 
 use crate::answered::{Answered, RunStop};
+use crate::building::{Build, BuildEnd, make_build};
+use crate::first::{Outer, Request};
 use crate::host::Host;
 use crate::labels::append_labels;
-use crate::texts::USAGE;
-use crate::words::{Command, read_words};
-use gn_faults::Fault;
-use gn_load::{Built, LoadEnd, load_plain};
+use crate::texts::{HAS_NO_EFFECT, USAGE, WARNING};
+use crate::words::{Command, Line, read_words};
+use gn_args::unused;
+use gn_executions::HostNames;
+use gn_faults::{Code, Fault, Stage};
+use gn_items::Declaration;
+use gn_labels::{Pattern, PatternFault, pattern_meant};
+use gn_load::toolchain_text;
 use gn_outside::Source;
+use gn_paths::{Path, PathFault, Text, Texts};
 use std::alloc::{AllocError, Global};
 
-// The line of a fault that was found while the build was loaded.
-fn fault_answer(alloc: Global, fault: &Fault) -> Result<Answered, AllocError>
-    ensures { IfOk result (λ a. IsSaying a (fault_said fault.now)) }
+// The line of a fault, once so many build files are loaded.
+fn fault_answer(alloc: Global, fault: &Fault, units: u64) -> Result<Answered, AllocError>
+    ensures { IfOk result (λ a. SaysFault a fault.now units) }
 {
     let text = fault.print(alloc)?;
     Ok(Answered {
         status: 1,
         text: text.into_vec(),
-        units: 1,
+        units,
     })
 }
 
-// The lines printed, and the labels of the items.
-fn built_answer(alloc: Global, built: &Built) -> Result<Answered, AllocError>
-    ensures { IfOk result (λ a. IsSaying a (answer_said (build_of built.now))) }
+// Puts lines at the end.
+fn append_lines(text: &mut Vec<u8>, lines: &[Text]) -> Result<(), AllocError>
+    ensures { OnOk result (text.new.items ≡ text.old.items ++ flat_map (λ line. line) lines.now) }
+{
+    for line in lines {
+        text.extend_from_slice(line.as_bytes())?;
+    }
+    Ok(())
+}
+
+// Puts all lines of a build at the end.
+fn append_printed(text: &mut Vec<u8>, build: &Build) -> Result<(), AllocError>
+    ensures { OnOk result (text.new.items ≡ text.old.items ++ lines_of (build_view build.now)) }
+{
+    append_lines(text, build.first.dotfile.prints.as_slice())?;
+    append_lines(text, build.first.prints.as_slice())?;
+    build.loaded.append_prints(text)
+}
+
+// The names of declarations, in their order.
+fn names_of(alloc: Global, declarations: &[&Declaration]) -> Result<Texts, AllocError>
+    ensures { IfOk result (λ names. names ≡ map (λ d. d.name) (map (λ d. d.now) declarations.now)) }
+{
+    let mut names = Texts::new(alloc);
+    for declaration in declarations {
+        names.push(declaration.name.copy(alloc)?)?;
+    }
+    Ok(names)
+}
+
+// The names of the arguments that a build declares.
+fn declared_names(alloc: Global, build: &Build) -> Result<Texts, AllocError>
+    ensures { IfOk result (λ names. names ≡ declared_names (build_view build.now)) }
+{
+    names_of(alloc, &build.loaded.declarations(alloc)?)
+}
+
+// Puts the warning of an argument at the end that was given to no effect.
+fn append_warning(text: &mut Vec<u8>, name: &Text) -> Result<(), AllocError>
+    ensures { OnOk result (text.new.items ≡ text.old.items ++ warning name.now) }
+{
+    text.extend_from_slice(WARNING.as_bytes())?;
+    text.extend_from_slice(name.as_bytes())?;
+    text.extend_from_slice(HAS_NO_EFFECT.as_bytes())?;
+    text.push(b'\n')?;
+    Ok(())
+}
+
+// The same of all these arguments.
+fn append_all(text: &mut Vec<u8>, names: &[Text]) -> Result<(), AllocError>
+    ensures { OnOk result (text.new.items ≡ text.old.items ++ flat_map warning names.now) }
+{
+    for name in names {
+        append_warning(text, name)?;
+    }
+    Ok(())
+}
+
+// Puts the warnings of the arguments at the end that were given to no effect.
+fn append_warnings(alloc: Global, text: &mut Vec<u8>, build: &Build) -> Result<(), AllocError>
+    ensures { OnOk result (text.new.items ≡ text.old.items ++ warnings_of (build_view build.now)) }
+{
+    let declared = declared_names(alloc, build)?;
+    let names = unused(alloc, &build.first.arguments, &declared)?;
+    append_all(text, names.as_slice())
+}
+
+// The lines printed, the warnings, and the labels of the items; with a pattern, those that it matches.
+fn listed_answer(
+    alloc: Global,
+    pattern: Option<&Pattern>,
+    build: &Build,
+) -> Result<Answered, AllocError>
+    ensures { IfOk result (λ a. IsSaying a (answer_said (option_map (λ p. p.now) pattern.entry) (build_view build.now))) }
 {
     let mut text = Vec::new(alloc);
-    built.append_prints(&mut text)?;
-    append_labels(alloc, &mut text, built.file().items())?;
+    append_printed(&mut text, build)?;
+    append_warnings(alloc, &mut text, build)?;
+    let default = toolchain_text(alloc, build.loaded.configuration())?;
+    append_labels(
+        alloc,
+        &mut text,
+        &default,
+        pattern,
+        build.loaded.file().items(),
+    )?;
     Ok(Answered {
         status: 0,
         text,
@@ -50,30 +135,127 @@ fn built_answer(alloc: Global, built: &Built) -> Result<Answered, AllocError>
     })
 }
 
-// The answer for the end of loading, or why there is none.
-fn end_answer(alloc: Global, end: LoadEnd) -> Result<Answered, RunStop>
-    ensures meaning { IfOk result (λ a. (tree : Tree) → IsEndOf tree end → IsSaying a (loaded_said (loaded (files_of tree)))) }
-    ensures range { IfOk result (λ a. a.status ≤ 1) }
-    ensures failure { AnswersEnd end result }
+// The pattern that a text means at the source root, if there is a text, or what keeps it from being one.
+fn pattern_asked(
+    alloc: Global,
+    text: Option<&[u8]>,
+) -> Result<Result<Option<Pattern>, PatternFault>, AllocError>
+    ensures { IfOk result (λ found. found ≡ pattern_asked (option_map (λ t. t.now) text.entry)) }
 {
-    match end {
-        LoadEnd::Built(built) => Ok(built_answer(alloc, &built)?),
-        LoadEnd::Wrong(fault) => Ok(fault_answer(alloc, &fault)?),
-        LoadEnd::Failed(path) => Err(RunStop::CannotRead(path)),
-        LoadEnd::Memory => Err(RunStop::Memory),
+    let Some(text) = text else {
+        return Ok(Ok(None));
+    };
+    match pattern_meant(alloc, text, &Path::root(alloc)?)? {
+        Ok(pattern) => Ok(Ok(Some(pattern))),
+        Err(fault) => Ok(Err(fault)),
     }
 }
 
+// The code of a text that means no pattern.
+fn pattern_code(fault: PatternFault) -> Code
+    ensures { result ≡ pattern_code fault }
+{
+    match fault {
+        PatternFault::BadPattern => Code::BadPattern,
+        PatternFault::Path(PathFault::AboveRoot) => Code::AboveRoot,
+        PatternFault::Path(PathFault::BadPath) => Code::BadPath,
+    }
+}
+
+// The fault of a question whose pattern is none.
+fn question_fault(alloc: Global, fault: PatternFault) -> Fault
+    ensures { result ≡ question_fault fault }
+{
+    Fault {
+        stage: Stage::Question,
+        place: None,
+        toolchain: Text::new(alloc),
+        code: pattern_code(fault),
+        detail: Texts::new(alloc),
+    }
+}
+
+// The answer for a build to which a pattern is put, if there is one.
+fn build_answer(
+    alloc: Global,
+    pattern: Option<&[u8]>,
+    build: &Build,
+) -> Result<Answered, AllocError>
+    ensures { IfOk result (λ a. IsSaying a (build_said (pattern_asked (option_map (λ t. t.now) pattern.entry)) (build_view build.now))) }
+{
+    match pattern_asked(alloc, pattern)? {
+        Ok(pattern) => listed_answer(alloc, pattern.as_ref(), build),
+        Err(fault) => fault_answer(alloc, &question_fault(alloc, fault), 1),
+    }
+}
+
+// The answer for a build, or for its fault.
+fn end_answer(alloc: Global, pattern: Option<&[u8]>, end: &BuildEnd) -> Result<Answered, AllocError>
+    ensures { IfOk result (λ a. SaysEnd a (option_map (λ t. t.now) pattern.entry) end.now) }
+{
+    match end {
+        BuildEnd::Built(build) => build_answer(alloc, pattern, build),
+        BuildEnd::Failed(failure) => fault_answer(alloc, &failure.fault, failure.units),
+    }
+}
+
+// The host's texts.
+fn outer_of(alloc: Global, host: &Host) -> Result<Outer, AllocError>
+    ensures { IfOk result (λ outer. outer_view outer ≡ host_texts host.now) }
+{
+    let os = Text::from_bytes(alloc, host.os.as_bytes())?;
+    let cpu = Text::from_bytes(alloc, host.cpu.as_bytes())?;
+    let root = Text::from_bytes(alloc, host.root.as_bytes())?;
+    Ok(Outer {
+        names: HostNames { os, cpu },
+        root,
+    })
+}
+
 // The answer for the build of a source.
-fn read_build<S: Source>(alloc: Global, source: &mut S) -> Result<Answered, RunStop>
-    ensures meaning { IfOk result (λ a. (tree : Tree) → (S.state source.old).tree ≡ Some tree → IsSaying a (loaded_said (loaded (files_of tree)))) }
+fn read_build<S: Source>(
+    alloc: Global,
+    host: &Host,
+    pattern: Option<&[u8]>,
+    request: &Request<'_>,
+    source: &mut S,
+) -> Result<Answered, RunStop>
+    requires { AreShort (request_view request.now).arguments }
+    ensures meaning { IfOk result (λ a. (tree : Tree) → (S.state source.old).tree ≡ Some tree → IsSaying a (loaded_said (option_map (λ t. t.now) pattern.entry) (loaded (host_texts host.now) (request_view request.now) tree))) }
     ensures range { IfOk result (λ a. a.status ≤ 1) }
-    ensures reads { ReadsAsked (S.state source.old) (S.state source.new) }
+    ensures reads { ReadsBuild (host_texts host.now) (request_view request.now) (S.state source.old) (S.state source.new) }
     ensures faults { CountsFault (S.state source.old).faults (S.state source.new).faults result }
     ensures failure { IfCannotRead result (λ path. FailsAt path (S.state source.old) (S.state source.new)) }
 {
-    let plain = load_plain(alloc, source);
-    end_answer(alloc, plain.end)
+    let outer = outer_of(alloc, host)?;
+    let end = make_build(alloc, &outer, request, source)?;
+    Ok(end_answer(alloc, pattern, &end)?)
+}
+
+// What a line says over the source's tree.
+fn line_answer<S: Source>(
+    alloc: Global,
+    line: Line<'_>,
+    host: &Host,
+    source: &mut S,
+) -> Result<Answered, RunStop>
+    requires { AreShort (line_view line).options.arguments }
+    ensures meaning { IfOk result (λ a. (tree : Tree) → (S.state source.old).tree ≡ Some tree → IsSaying a (line_means (Some (line_view line.entry)) (host_texts host.now) tree)) }
+    ensures range { IfOk result (λ a. a.status ≤ 1) }
+    ensures reads { ReadsOf (line_asks (Some (line_view line.entry)) (host_texts host.now)) (S.state source.old) (S.state source.new) }
+    ensures faults { CountsFault (S.state source.old).faults (S.state source.new).faults result }
+    ensures failure { IfCannotRead result (λ path. FailsAt path (S.state source.old) (S.state source.new)) }
+{
+    let arguments = line.options.arguments;
+    match line.command {
+        Command::Ls { directory, pattern } => {
+            let request = Request {
+                directory,
+                arguments,
+            };
+            read_build(alloc, host, pattern, &request, source)
+        }
+    }
 }
 
 /// What these words say over the source's tree, or why nothing can be said.
@@ -88,7 +270,6 @@ pub fn answer<S: Source>(
     ensures range { IfOk result (λ a. a.status ≤ 2) }
     ensures usage { IfOk result (λ a. a.status ≡ 2 → HasNoForm (texts words.now) []) }
     ensures no_form { HasNoForm (texts words.now) [] → AnswersUsage (S.state source.old) (S.state source.new) result }
-    ensures failed_units { IfCannotRead result (λ path. (tree : Tree) → IsCount 1 (said (texts words.now) (host_texts host.now) [] tree).units) }
     ensures faults { CountsFault (S.state source.old).faults (S.state source.new).faults result }
     ensures failure { IfCannotRead result (λ path. AllTellReads (S.state source.old ∷ []) →
         IsLeastFailure (S.state source.old ∷ []) (S.state source.new ∷ []) path) }
@@ -98,12 +279,12 @@ pub fn answer<S: Source>(
         Each (OneOf (asked (texts words.now) (host_texts host.now) [] tree)) (joined_reads (S.state source.old ∷ []) (S.state source.new ∷ [])) }
     ensures sources { EachPair ReadsOn (S.state source.old ∷ []) (S.state source.new ∷ []) }
 {
-    match read_words(words) {
+    match read_words(alloc, words)? {
         None => Ok(Answered {
             status: 2,
             text: USAGE.as_bytes().to_vec(alloc)?,
             units: 0,
         }),
-        Some(Command::Ls(_)) => read_build(alloc, source),
+        Some(line) => line_answer(alloc, line, host, source),
     }
 }

@@ -1,32 +1,69 @@
 // The labels of targets, as they are listed.
 
-ghost use Rattle.std.specs.Prelude.{◌≡◌, ◌++◌, OnOk, IfOk};
-ghost use Rattle.gn_top.specs.Labels.{in_label_order, labels_of, with_target, label_line, listing};
+ghost use Rattle.std.specs.Prelude.{◌≡◌, ◌++◌, OnOk, IfOk, option_map};
+ghost use Rattle.gn_top.specs.Labels.{in_label_order, labels_of, with_target, label_line, is_listed, listed_line, listing};
 
 use gn_items::Item;
-use gn_labels::Label;
+use gn_labels::{Label, Pattern};
 use gn_paths::Text;
 use std::alloc::{AllocError, Global};
 use std::collections::BTreeSet;
 
-/// Puts the labels of the targets among items at the end, each once, in label order, one a line.
+/// Puts the labels of the targets among items at the end, each once, in label order, one a line; with a pattern, those that it matches.
 #[tactic(auto, unfolding(crate::specs::Labels::listing))]
-pub fn append_labels(alloc: Global, text: &mut Vec<u8>, items: &[Item]) -> Result<(), AllocError>
-    ensures { OnOk result (text.new.items ≡ text.old.items ++ listing items.now) }
+pub fn append_labels(
+    alloc: Global,
+    text: &mut Vec<u8>,
+    default: &Text,
+    pattern: Option<&Pattern>,
+    items: &[Item],
+) -> Result<(), AllocError>
+    ensures { OnOk result (text.new.items ≡ text.old.items ++ listing default.now (option_map (λ p. p.now) pattern.entry) items.now) }
 {
     let labels = labels_of(alloc, items)?;
     for label in &labels {
-        append_label(alloc, text, label)?;
+        append_listed(alloc, text, default, pattern, label)?;
     }
     Ok(())
 }
 
-// Puts a label and a newline at the end.
-fn append_label(alloc: Global, text: &mut Vec<u8>, label: &Label) -> Result<(), AllocError>
-    ensures { OnOk result (text.new.items ≡ text.old.items ++ label_line label.now) }
+// Whether a label is listed.
+fn is_listed(pattern: Option<&Pattern>, label: &Label) -> bool
+    ensures { result ≡ is_listed (option_map (λ p. p.now) pattern.entry) label.now }
 {
-    let default = Text::new(alloc);
-    text.extend_from_slice(label.print(alloc, &default)?.as_bytes())?;
+    match pattern {
+        Some(pattern) => pattern.matches(label),
+        None => true,
+    }
+}
+
+// Puts a label and a newline at the end, if it is listed.
+fn append_listed(
+    alloc: Global,
+    text: &mut Vec<u8>,
+    default: &Text,
+    pattern: Option<&Pattern>,
+    label: &Label,
+) -> Result<(), AllocError>
+    ensures { OnOk result (text.new.items ≡ text.old.items ++ listed_line default.now (option_map (λ p. p.now) pattern.entry) label.now) }
+{
+    if is_listed(pattern, label) {
+        append_label(alloc, text, default, label)
+    } else {
+        Ok(())
+    }
+}
+
+// Puts a label and a newline at the end.
+fn append_label(
+    alloc: Global,
+    text: &mut Vec<u8>,
+    default: &Text,
+    label: &Label,
+) -> Result<(), AllocError>
+    ensures { OnOk result (text.new.items ≡ text.old.items ++ label_line default.now label.now) }
+{
+    text.extend_from_slice(label.print(alloc, default)?.as_bytes())?;
     text.push(b'\n')?;
     Ok(())
 }

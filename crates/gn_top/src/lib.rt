@@ -3,10 +3,14 @@
 
 mod answer;
 mod answered;
+mod building;
+mod first;
 mod host;
 mod labels;
 mod many;
 mod one;
+mod repeated;
+mod switches;
 mod texts;
 mod words;
 

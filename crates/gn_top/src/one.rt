@@ -106,7 +106,7 @@ pub fn run_one<R: Threads + Sync, S: Source, K: Sink>(
         },
         Err(RunStop::CannotRead(path)) => One {
             status: say_failure(alloc, sink, &path),
-            units: 1,
+            units: 0,
         },
         Err(RunStop::Memory) => One {
             status: 5,

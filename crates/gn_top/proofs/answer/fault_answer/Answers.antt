@@ -1,6 +1,5 @@
 use Rattle.std.proofs.Common.{refl, ◌∙◌}
-use Rattle.gn_top.proofs.CommandLemmas.{one_before}
 use Rattle.gn_top.proofs.answer.fault_answer.Goals as goal
 
 pub returns : goal.returns
-returns c = record { status = refl; text = c.into_vec.ensures ∙ c.in_ok-text.ensures; files = refl; units = one_before c.args.fault.now.code }
+returns c = λ units is. record { status = refl; text = c.into_vec.ensures ∙ c.in_ok-text.ensures; files = refl; units = is }

@@ -1,15 +1,26 @@
-use Rattle.gn_outside.specs.Tree.{Tree}
-use Rattle.gn_builds.specs.Worlds.{files_of}
-use Rattle.gn_builds.specs.Loaded.{loaded}
-use Rattle.gn_top.specs.Said.{loaded_said}
-use Rattle.gn_top.proofs.EndingLemmas.{says_tree, end_faults, end_failure}
+use Rattle.std.proofs.Common.{subst}
+use Rattle.gn_top.specs.Hosts.{HostTexts}
+use Rattle.gn_top.specs.Stages.{loaded}
+use Rattle.gn_top.specs.Building.{request_view, IsBuild}
+use Rattle.gn_top.proofs.AnswerLemmas.{end_range}
+use Rattle.gn_top.proofs.PartReads.{reads_nothing}
 use Rattle.gn_top.proofs.answer.read_build.Goals as goal
 
+pub returns-in_err-outer-clause-reads : goal.returns-in_err-outer-clause-reads
+returns-in_err-outer-clause-reads g c = reads_nothing _ _
+
+pub returns-in_err-end-clause-reads : goal.returns-in_err-end-clause-reads
+returns-in_err-end-clause-reads g c = rw (← c.in_ok-outer.ensures) c.in_err-end.ensures.reads
+
+pub returns-in_err-end_answer-clause-reads : goal.returns-in_err-end_answer-clause-reads
+returns-in_err-end_answer-clause-reads g c = rw (← c.in_ok-outer.ensures) c.in_ok-end.ensures.reads
+
 pub returns-clause-meaning : goal.returns-clause-meaning
-returns-clause-meaning g c = says_tree c.end_answer.result (g.S.Source.state c.args.source.now).tree c.load_plain-plain.result.end (λ (tree : Tree). loaded_said (loaded (files_of tree))) c.end_answer.ensures.meaning c.load_plain-plain.ensures.end
+returns-clause-meaning g c = λ tree told.
+    c.in_ok-end_answer.ensures _ (subst (λ (h : HostTexts). IsBuild c.in_ok-end.end (loaded h (request_view c.args.request.now) tree)) c.in_ok-outer.ensures (c.in_ok-end.ensures.meaning tree told))
 
-pub returns-clause-faults : goal.returns-clause-faults
-returns-clause-faults g c = end_faults (g.S.Source.state c.args.source.now) (g.S.Source.state c.load_plain-plain.new.source) c.load_plain-plain.result.end c.end_answer.result c.load_plain-plain.ensures.faults c.end_answer.ensures.failure
+pub returns-clause-range : goal.returns-clause-range
+returns-clause-range g c = end_range _ _ _ c.in_ok-end_answer.ensures
 
-pub returns-clause-failure : goal.returns-clause-failure
-returns-clause-failure g c = end_failure (g.S.Source.state c.args.source.now) (g.S.Source.state c.load_plain-plain.new.source) c.load_plain-plain.result.end c.end_answer.result c.load_plain-plain.ensures.faults c.end_answer.ensures.failure
+pub returns-clause-reads : goal.returns-clause-reads
+returns-clause-reads g c = rw (← c.in_ok-outer.ensures) c.in_ok-end.ensures.reads

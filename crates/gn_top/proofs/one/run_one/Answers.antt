@@ -1,4 +1,5 @@
 use Rattle.std.proofs.Common.{arith}
+use Rattle.gn_top.proofs.AnswerLemmas.{none_within, count_within}
 use Rattle.gn_top.proofs.RunLemmas.{cut_at_once, cut_answer, cut_failure, one_failed}
 use Rattle.gn_top.proofs.one.run_one.Goals as goal
 
@@ -18,3 +19,15 @@ returns-in-Err-CannotRead-clause-cut_short g c = λ tree told stopped.
 
 pub returns-in-Err-Memory-clause-cut_short : goal.returns-in-Err-Memory-clause-cut_short
 returns-in-Err-Memory-clause-cut_short g c = λ tree told stopped. cut_at_once _ _ _ _
+
+pub returns-in-Ok-clause-units : goal.returns-in-Ok-clause-units
+returns-in-Ok-clause-units g c = λ tree told. let says = c.in-Ok.ensures.meaning tree told in record { whole = λ few. says.units; bound = count_within _ _ says.units }
+
+pub returns-in-Err-CannotRead-clause-units : goal.returns-in-Err-CannotRead-clause-units
+returns-in-Err-CannotRead-clause-units g c = λ tree told. record {
+  whole = λ few. let three = (c.say_failure.ensures.whole (omega (arith, few))).0 in absurd (omega (arith, few, three));
+  bound = none_within _;
+}
+
+pub returns-in-Err-Memory-clause-units : goal.returns-in-Err-Memory-clause-units
+returns-in-Err-Memory-clause-units g c = λ tree told. record { whole = λ few. absurd (omega (arith, few)); bound = none_within _ }
