@@ -42,11 +42,21 @@ run() {
   out=${out%x}
 }
 
+# project FOLDER..: folders with a dotfile and a build configuration
+project() {
+  for each in "$@"; do
+    mkdir -p "$folder/$each"
+    printf 'buildconfig = "//c.gn"\n' >"$folder/$each/.gn"
+    printf 'set_default_toolchain("//:t")\n' >"$folder/$each/c.gn"
+  done
+}
+
 usage=$'usage: gn gen|ls|desc|refs|path|check|args|sample ...\n'
 cannot_read=$'gn: cannot read //BUILD.gn\n'
 absent=$'ERROR at //BUILD.gn:1:1: No such file "//BUILD.gn".\n'
 
-mkdir -p "$folder/groups" "$folder/empty" "$folder/unread" "$folder/unfinished" "$folder/bytes" "$folder/returns" "$folder/folder/BUILD.gn" "$folder/dangling" "$folder/big" "$folder/limit"
+project groups empty unread unfinished bytes returns folder dangling big limit imports import_folder import_root pipe
+mkdir -p "$folder/folder/BUILD.gn" "$folder/bare"
 printf 'group("b") {\n}\ngroup("a") {\n}\n' >"$folder/groups/BUILD.gn"
 printf 'x = 1\n' >"$folder/unread/BUILD.gn"
 printf 'print("before")\nx = [\n' >"$folder/unfinished/BUILD.gn"
@@ -58,12 +68,13 @@ printf 'import("a/b/c.gni")\nimport("//d.gni")\nt(x) {\n}\n' >"$folder/imports/B
 printf 'import("../../d.gni")\nx = d\nprint("c")\n' >"$folder/imports/a/b/c.gni"
 printf 'd = "e"\ntemplate("t") {\n  group(target_name) {\n  }\n}\nprint("d")\n' >"$folder/imports/d.gni"
 printf 'import("a.gni")\n' >"$folder/import_folder/BUILD.gn"
-mkdir -p "$folder/import_root" "$folder/pipe"
 printf 'import("//")\n' >"$folder/import_root/BUILD.gn"
 mkfifo "$folder/pipe/BUILD.gn"
 head -c 16777217 /dev/zero | tr '\0' ' ' >"$folder/big/BUILD.gn"
 head -c 16777216 /dev/zero | tr '\0' ' ' >"$folder/limit/BUILD.gn"
 
+run "$folder/bare" ls out
+expect "no dotfile" 1 $'ERROR at //.gn:1:1: No such file "//.gn".\n'
 run "$folder/groups" ls out
 expect "two groups" 0 $'//:a\n//:b\n'
 run "$folder/empty" ls out
@@ -92,6 +103,51 @@ run "$folder/import_root" ls out
 expect "the source root in an import's place" 3 $'gn: cannot read //\n'
 run "$folder/pipe" ls out
 expect "a named pipe in the file's place" 3 "$cannot_read"
+project dotfile_folder dotfile_big no_configuration secondary itself toolchain arguments arguments_folder pattern no_text
+rm "$folder/dotfile_folder/.gn" && mkdir "$folder/dotfile_folder/.gn"
+head -c 16777217 /dev/zero | tr '\0' ' ' >"$folder/dotfile_big/.gn"
+rm "$folder/no_configuration/c.gn"
+mkdir -p "$folder/secondary/s" "$folder/arguments/out/deep" "$folder/arguments_folder/out/args.gn"
+printf 'buildconfig = "//c.gn"\nsecondary_source = "//s/"\n' >"$folder/secondary/.gn"
+mv "$folder/secondary/c.gn" "$folder/secondary/s/c.gn"
+printf 'print(default_toolchain, target_gen_dir)\n' >"$folder/secondary/BUILD.gn"
+printf 'import("//c.gn")\nset_default_toolchain("//:t")\n' >"$folder/itself/c.gn"
+: >"$folder/toolchain/c.gn"
+printf 'declare_args() {\n  a = 1\n}\nprint(a)\n' >"$folder/arguments/BUILD.gn"
+printf 'a = 2\nb = 3\n' >"$folder/arguments/out/deep/args.gn"
+printf 'group("a") {\n}\ngroup("b") {\n}\n' >"$folder/pattern/BUILD.gn"
+printf 'print(read_file("//\377", "string"))\n' >"$folder/no_text/BUILD.gn"
+
+run "$folder/dotfile_folder" ls out
+expect "a folder in the dotfile's place" 3 $'gn: cannot read //.gn\n'
+run "$folder/dotfile_big" ls out
+expect "a dotfile beyond the limit" 1 $'ERROR at //.gn:1:1: File "//.gn" is too big.\n'
+run "$folder/no_configuration" ls out
+expect "no build configuration" 1 $'ERROR at //c.gn:1:1: No such file "//c.gn".\n'
+run "$folder/secondary" ls out
+expect "a build configuration below the secondary source tree" 0 $'//:t //out/gen\n'
+run "$folder/itself" ls out
+expect "a build configuration that imports itself" 1 $'ERROR at //c.gn:1:1: Import cycle.\n'
+run "$folder/toolchain" ls out
+expect "a build configuration without default toolchain" 1 $'ERROR at //c.gn:1:1: "set_default_toolchain" is missing.\n'
+run "$folder/arguments" ls out
+expect "no arguments" 0 $'1\n'
+run "$folder/arguments" ls out/deep
+expect "arguments that are kept" 0 $'2\nWARNING: The build argument "b" has no effect.\n'
+run "$folder/arguments" ls out/deep "--args=a = 4"
+expect "arguments of the command line" 0 $'4\n'
+run "$folder/arguments" ls out --args=a
+expect "arguments that are no file" 1 $'ERROR at --args:1:2: Unexpected token.\n'
+run "$folder/arguments_folder" ls out
+expect "a folder in the place of the kept arguments" 3 $'gn: cannot read //out/args.gn\n'
+run "$folder/pattern" ls out //:b
+expect "a pattern" 0 $'//:b\n'
+run "$folder/pattern" ls out b
+expect "a bad pattern" 1 $'ERROR: Invalid pattern.\n'
+run "$folder/no_text" ls out
+expect "a path that is no text" 1 $'ERROR at //BUILD.gn:1:17: Invalid path.\n'
+run "$folder/groups" ls .
+expect "the source root as build directory" 2 "$usage"
 run "$folder/groups"
 expect "no words" 2 "$usage"
 run "$folder/groups" frob
@@ -107,7 +163,7 @@ expect "the root of the host" 2 "$usage"
 
 # Permissions bind everyone but root, so these run as nobody where that can be had.
 if [ "$(id -u)" -eq 0 ] && command -v setpriv >/dev/null 2>&1; then
-  mkdir "$folder/closed"
+  project closed
   cp "$folder/groups/BUILD.gn" "$folder/closed/BUILD.gn"
   chmod 755 "$folder"
   cp "$gn" "$folder/gn"
