@@ -1,7 +1,8 @@
 // Overrides, which the program doesn't set yet, and what is left of definitions once those that were added are taken out.
 
+use gn_definitions::{Definitions, MadeBy};
 use gn_paths::Text;
-use gn_values::{Definitions, MadeBy, Overrides, Value};
+use gn_values::{Overrides, Value};
 use std::alloc::{AllocError, Global};
 use std::sync::Arc;
 use std::test::Fail;

@@ -6,7 +6,7 @@ use std::alloc::{AllocError, Global};
 use std::test::Fail;
 use std::thread::Threads;
 
-// A command line, the build file, the status, the text, and how many files are read, each of which is a build file.
+// A command line, the build file, the status, the text, and how many build files are read.
 macro_rules! runs {
     ($($line:literal, $($file:literal)? => $status:literal $text:literal, $reads:literal;)+) => {
         concat!($($line, "\x1c", $("//BUILD.gn\x1f", $file, "\x1d",)? "\x1c", $reads, $status, $text, "\x1e"),+)
@@ -23,15 +23,36 @@ const RUNS: &str = runs! {
     "gen out --threads=0", "group(\"b\") {\n}\ngroup(\"a\") {\n}\n"
         => 2 "usage: gn gen|ls|desc|refs|path|check|args|sample ...\n", 0;
     "ls", => 2 "usage: gn gen|ls|desc|refs|path|check|args|sample ...\n", 0;
-    "ls a-b", "group(\"b\") {\n}\ngroup(\"a\") {\n}\n" => 2 "usage: gn gen|ls|desc|refs|path|check|args|sample ...\n", 0;
-    "ls out --threads=1", "group(\"b\") {\n}\ngroup(\"a\") {\n}\n"
-        => 2 "usage: gn gen|ls|desc|refs|path|check|args|sample ...\n", 0;
+    "ls a-b", "group(\"b\") {\n}\ngroup(\"a\") {\n}\n" => 0 "//:a\n//:b\n", 1;
+    "ls //out/x/", "group(\"a\") {\n}\n" => 0 "//:a\n", 1;
+    "ls out/../y", "group(\"a\") {\n}\n" => 0 "//:a\n", 1;
+    "ls .", "" => 2 "usage: gn gen|ls|desc|refs|path|check|args|sample ...\n", 0;
+    "ls //", "" => 2 "usage: gn gen|ls|desc|refs|path|check|args|sample ...\n", 0;
+    "ls /x", "" => 2 "usage: gn gen|ls|desc|refs|path|check|args|sample ...\n", 0;
+    "ls ../x", "" => 2 "usage: gn gen|ls|desc|refs|path|check|args|sample ...\n", 0;
+    "ls out --threads=1", "group(\"b\") {\n}\ngroup(\"a\") {\n}\n" => 0 "//:a\n//:b\n", 1;
+    "ls --threads=64 out --threads=9", "" => 0 "", 1;
+    "ls --threads=0 --threads=2 out", "" => 2 "usage: gn gen|ls|desc|refs|path|check|args|sample ...\n", 0;
+    "ls out --threads=65", "" => 2 "usage: gn gen|ls|desc|refs|path|check|args|sample ...\n", 0;
+    "ls out --threads=08", "" => 2 "usage: gn gen|ls|desc|refs|path|check|args|sample ...\n", 0;
+    "ls out --threads", "" => 2 "usage: gn gen|ls|desc|refs|path|check|args|sample ...\n", 0;
+    "ls out --all", "" => 2 "usage: gn gen|ls|desc|refs|path|check|args|sample ...\n", 0;
+    "ls out --", "" => 2 "usage: gn gen|ls|desc|refs|path|check|args|sample ...\n", 0;
+    "--threads=1 ls out", "" => 2 "usage: gn gen|ls|desc|refs|path|check|args|sample ...\n", 0;
+    "ls out a b", "" => 2 "usage: gn gen|ls|desc|refs|path|check|args|sample ...\n", 0;
+    "ls out :b", "print(1)\ngroup(\"b\") {\n}\ngroup(\"a\") {\n}\n" => 0 "1\n//:b\n", 1;
+    "ls out //*", "group(\"b\") {\n}\ngroup(\"a\") {\n}\n" => 0 "//:a\n//:b\n", 1;
+    "ls out //x:*", "group(\"b\") {\n}\n" => 0 "", 1;
+    "ls out //a*", "group(\"b\") {\n}\n" => 1 "ERROR: Invalid pattern.\n", 1;
+    "ls out //..", "" => 1 "ERROR: Path is above the source root.\n", 1;
+    "ls out a", "" => 1 "ERROR: Invalid pattern.\n", 1;
+    "ls out //a*", "x = 1\n" => 1 "ERROR at //BUILD.gn:1:3: Assignment had no effect: \"x\".\n", 1;
 };
 
-// Whether so many files have been read, at most one, and none was put.
+// Whether so many build files have been read, at most one, behind three other files, and none was put.
 fn has_read(source: &TreeSource, sink: &TreeSink, reads: u64) -> bool {
-    source.read_path(0).is_some() == (reads == 1)
-        && source.read_path(1).is_none()
+    source.read_path(3).is_some() == (reads == 1)
+        && source.read_path(4).is_none()
         && sink.file(0).is_none()
 }
 

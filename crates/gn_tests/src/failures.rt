@@ -14,16 +14,19 @@ const IMPORTS: &str =
 const NOTHING: &str = "//BUILD.gn\x1f\x1d";
 
 // The number of the read that fails over the imports, and the end.
-const READS: [(u64, &str); 3] = [
-    (1, "3gn: cannot read //BUILD.gn\n"),
-    (2, "3gn: cannot read //z.gni\n"),
-    (3, "3gn: cannot read //d.gni\n"),
+const READS: [(u64, &str); 6] = [
+    (1, "3gn: cannot read //.gn\n"),
+    (2, "3gn: cannot read //out/args.gn\n"),
+    (3, "3gn: cannot read //b.gn\n"),
+    (4, "3gn: cannot read //BUILD.gn\n"),
+    (5, "3gn: cannot read //z.gni\n"),
+    (6, "3gn: cannot read //d.gni\n"),
 ];
 
 // A command line over a tree, the number of the read that fails or 0, and the end where the sink says half of a piece and fails.
 const HALVES: [(&str, &str, u64, &str); 4] = [
     ("ls out", GROUPS, 0, "4//:a\n"),
-    ("ls out", GROUPS, 1, "4gn: cannot re"),
+    ("ls out", GROUPS, 1, "4gn: cannot "),
     ("frob", GROUPS, 0, "4usage: gn gen|ls|desc|refs|"),
     ("ls out", NOTHING, 0, "0"),
 ];

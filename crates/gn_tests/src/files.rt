@@ -29,15 +29,15 @@ const SAID: &str = said! {
     "executable(\"e\") {\n  sources = [ \"a.cc\" ]\n  defines = [ \"X=1\" ]\n  deps = [ \":s\" ]\n}\nsource_set(\"s\") {\n}\n" => "//:e\n//:s\n";
     "target(\"static_library\", \"l\") {\n  cflags = [ \"-g\" ]\n}\nshared_library(\"d\") {\n}\nloadable_module(\"m\") {\n}\n"
         => "//:d\n//:l\n//:m\n";
-    "action(\"a\") {\n  script = \"s.py\"\n  outputs = [ \"x\" ]\n  args = [ \"{{response_file_name}}\" ]\n}\n" => "//:a\n";
+    "action(\"a\") {\n  script = \"s.py\"\n  outputs = [ \"//out/x\" ]\n  args = [ \"{{response_file_name}}\" ]\n}\n" => "//:a\n";
     "action_foreach(\"f\") {\n  script = \"s.py\"\n  sources = [ \"a.c\" ]\n  outputs = [ \"{{source_gen_dir}}/{{source_name_part}}.o\" ]\n}\n" => "//:f\n";
-    "copy(\"c\") {\n  sources = [ \"a\", \"b\" ]\n  outputs = [ \"x/{{source_file_part}}\" ]\n}\n" => "//:c\n";
+    "copy(\"c\") {\n  sources = [ \"a\", \"b\" ]\n  outputs = [ \"out/x/{{source_file_part}}\" ]\n}\n" => "//:c\n";
     "config(\"c\") {\n  cflags = [ \"-g\" ]\n  visibility = [ \"*\" ]\n}\npool(\"p\") {\n  depth = 0\n}\ngroup(\"g\") {\n  configs = [ \":c\" ]\n  pool = \":p\"\n}\n" => "//:g\n";
     "set_defaults(\"config\") {\n  target_name = 1\n}\nconfig(\"c\") {\n  print(target_name)\n}\n" => "1\n";
     "toolchain(\"t\") {\n  x = \"touch\"\n  tool(\"stamp\") {\n    command = \"$x {{output}}\"\n  }\n  tool(\"cc\") {\n    command = \"cc\"\n    outputs = [ \"{{source_name_part}}.o\" ]\n  }\n  toolchain_args = { a = 1 }\n}\ntoolchain(\"u\") {\n  command = \"c\"\n  tool(\"copy\") {\n  }\n}\n" => "";
     "template(\"t\") {\n  tool(target_name) {\n    command = invoker.c\n  }\n}\ntoolchain(\"t\") {\n  t(\"stamp\") {\n    c = \"x\"\n  }\n}\ngroup(\"stamp\") {\n}\n" => "//:stamp\n";
-    "action(\"a\") {\n  script = \"s.py\"\n  outputs = [ \"x\", \"y\", \"x\" ]\n}\nprint(get_target_outputs(\":a\"))\n" => "[\"//x\", \"//y\"]\n//:a\n";
-    "copy(\"c\") {\n  sources = [ \"a/b.c\", \"d.h\" ]\n  outputs = [ \"o/{{source_name_part}}\" ]\n}\nprint(get_target_outputs(\"//:c\"))\n" => "[\"//o/b\", \"//o/d\"]\n//:c\n";
+    "action(\"a\") {\n  script = \"s.py\"\n  outputs = [ \"out/x\", \"//out/y\", \"out/x\" ]\n}\nprint(get_target_outputs(\":a\"))\n" => "[\"//out/x\", \"//out/y\"]\n//:a\n";
+    "copy(\"c\") {\n  sources = [ \"a/b.c\", \"d.h\" ]\n  outputs = [ \"$root_out_dir/o/{{source_name_part}}\" ]\n}\nprint(get_target_outputs(\"//:c\"))\n" => "[\"//out/o/b\", \"//out/o/d\"]\n//:c\n";
     "testonly = true\ngroup(\"g\") {\n  friend = [ 1 ]\n  metadata = { a = 1 }\n}\n" => "//:g\n";
     "template(\"executable\") {\n  target(\"executable\", target_name) {\n    forward_variables_from(invoker, \"*\")\n  }\n}\nexecutable(\"e\") {\n  ldflags = [ \"-s\" ]\n}\n" => "//:e\n";
     "group(\"z\") {\n}\ngroup(\"a/b\") {\n}\ngroup(\"Z\") {\n}\n" => "//:Z\n//:a/b\n//:z\n";
@@ -71,6 +71,16 @@ const SAID: &str = said! {
     "template(\"t\") {\n  print(target_name)\n}\ntarget(\"t\", \"n\") {\n}\ntarget(\"group\", \"g\") {\n}"
         => "n\n//:g\n";
     "set_defaults(\"group\") {\n  a = 1\n}\ngroup(\"g\") {\n  print(a)\n}\nprint(defined(a))" => "1\nfalse\n//:g\n";
+    // Names that a block declares aren't read in it, and are set around it.
+    "declare_args() {\n  x = 1\n}\nprint(x)" => "1\n";
+    "declare_args() {\n  x = 1\n  y = 2\n}\nprint(defined(y))" => "true\n";
+    "declare_args() {\n  x = [ 1 ]\n  x += [ 2 ]\n  print(defined(x))\n}\nprint(x)" => "false\n[1, 2]\n";
+    "o = 5\ndeclare_args() {\n  x = o\n}\nprint(x, o)" => "5 5\n";
+    "declare_args() {\n  foreach(i, [ 1, 2 ]) {\n    print(i)\n  }\n}" => "1\n2\n";
+    "declare_args() {\n  declare_args() {\n    x = 1\n  }\n  print(defined(x))\n}\nprint(x)" => "false\n1\n";
+    "declare_args() {\n  group(\"g\") {\n  }\n}" => "//:g\n";
+    "template(\"t\") {\n  declare_args() {\n    x = 1\n  }\n  print(x)\n}\nt(\"n\") {\n}" => "1\n";
+    "s = {\n  declare_args() {\n    x = 1\n  }\n}\nprint(s.x, defined(x))" => "1 false\n";
     "s = {\n  a = 1\n  b = 2\n}\nforward_variables_from(s, [ \"a\", \"c\" ])\nprint(a, defined(b))" => "1 false\n";
     "a = 0\ns = {\n  a = 1\n  b = 2\n}\nforward_variables_from(s, \"*\", [ \"b\" ])\nprint(a, defined(b))"
         => "1 false\n";
@@ -165,7 +175,7 @@ const SAID: &str = said! {
     "print(process_file_template([ \"a/b.cc\" ], \"{{source_root_relative_dir}}/{{source_file_part}}\"))"
         => "[\"a/b.cc\"]\n";
     "template(\"t\") {\n  print(rebase_path(\"x\", \"//a\"))\n}\nt(\"n\") {\n}" => "../x\n";
-    "write_file(\"x\", \"a\")\nwrite_file(\"x\", [ \"a\", \"b\" ])\nwrite_file(\"y/\", [])" => "";
+    "write_file(\"out/x\", \"a\")\nwrite_file(\"//out/x\", [ \"a\", \"b\" ])\nwrite_file(\"out/y/\", [])" => "";
 };
 
 // Faults of tokens, operators and calls.
@@ -204,8 +214,9 @@ const FAULTS: &str = faults! {
     "group(\"a\") {\n  deps = [ \":b\", \"b:\" ]\n}\n" => "1:1", "Invalid label.";
     "executable(\"a\") {\n  sources = [ \"../x\" ]\n}\n" => "1:1", "Path is above the source root.";
     "group(\"a\") {\n  visibility = [ \":b\", \"b\" ]\n  sources = 1\n}\n" => "1:1", "Invalid pattern.";
-    "action(\"a\") {\n  outputs = [ \"x\" ]\n}\n" => "1:1", "\"script\" is missing.";
-    "copy(\"a\") {\n  sources = [ \"x\" ]\n  outputs = [ \"y\", \"z\" ]\n}\n" => "1:1", "Wrong arguments to \"copy\".";
+    "action(\"a\") {\n  outputs = [ \"x\" ]\n}\n" => "1:1", "Invalid path.";
+    "action(\"a\") {\n  outputs = [ \"out/x\" ]\n}\n" => "1:1", "\"script\" is missing.";
+    "copy(\"a\") {\n  sources = [ \"x\" ]\n  outputs = [ \"out/y\", \"out/z\" ]\n}\n" => "1:1", "Wrong arguments to \"copy\".";
     "action_foreach(\"a\") {\n  script = \"s.py\"\n  sources = [ \"x\" ]\n  outputs = [ \"{{y}}\" ]\n}\n" => "1:1", "Unknown substitution.";
     "source_set(\"a\") {\n  junk = 1\n}\n" => "2:8", "Assignment had no effect: \"junk\".";
     "source_set(\"a\") {\n}\ngroup(\"a\") {\n}\n" => "3:1", "Duplicate item \"//:a\".";
@@ -225,7 +236,7 @@ const FAULTS: &str = faults! {
     "toolchain(\"t\") {\n}\nconfig(\"t\") {\n}\n" => "3:1", "Duplicate item \"//:t\".";
     "toolchain(\"t\") {\n  toolchain_args = 1\n}\n" => "1:1", "Wrong type for \"toolchain_args\".";
     "group(\"g\") {\n}\nprint(get_target_outputs(\":g\"))\n" => "3:7", "Wrong arguments to \"get_target_outputs\".";
-    "print(get_target_outputs(\":a\"))\naction(\"a\") {\n  script = \"s.py\"\n  outputs = [ \"x\" ]\n}\n" => "1:7", "Wrong arguments to \"get_target_outputs\".";
+    "print(get_target_outputs(\":a\"))\naction(\"a\") {\n  script = \"s.py\"\n  outputs = [ \"out/x\" ]\n}\n" => "1:7", "Wrong arguments to \"get_target_outputs\".";
     "print(get_target_outputs(1))\n" => "1:26", "Wrong type of value.";
     "print(get_target_outputs(\"b:\"))\n" => "1:26", "Invalid label.";
     "group(\"g\") {\n  executable(\"e\") {\n  }\n}\n" => "2:3", "\"executable\" is not allowed here.";
@@ -328,7 +339,8 @@ const FAULTS: &str = faults! {
     "write_file(\"../x\", \"\")" => "1:12", "Path is above the source root.";
     "write_file(\"//\", \"\")" => "1:12", "Invalid path.";
     "write_file(\"/x\", \"\")" => "1:12", "Invalid path.";
-    "x = write_file(\"y\", \"\")" => "1:5", "Wrong type of value.";
+    "x = write_file(\"out/y\", \"\")" => "1:5", "Wrong type of value.";
+    "write_file(\"y\", \"\")" => "1:12", "Invalid path.";
     "read_file(q)" => "1:1", "Wrong arguments to \"read_file\".";
     "read_file(1, 1)" => "1:11", "Wrong type of value.";
     "read_file(\"\", 1)" => "1:15", "Wrong type of value.";
@@ -347,6 +359,19 @@ const SCOPE_FAULTS: &str = faults! {
     "template(\"t\") {\n}\ntemplate(\"t\") {\n}" => "3:1", "\"t\" is already set.";
     "template(\"t\") {\n  t(\"m\") {\n  }\n}\nt(\"n\") {\n}" => "2:3", "Unknown function \"t\".";
     "template(\"w\") {\n  y = 1\n}\nw(\"x\") {\n  junk = 1\n}" => "5:8", "Assignment had no effect: \"junk\".";
+    // Declared arguments.
+    "declare_args() {\n  x = 1\n  y = x\n}" => "3:7", "Undefined identifier \"x\".";
+    "declare_args() {\n  x = 1\n  s = {\n    y = x\n  }\n}" => "4:9", "Undefined identifier \"x\".";
+    "o = 5\ndeclare_args() {\n  o += 1\n  x = o\n}" => "4:7", "Undefined identifier \"o\".";
+    "a = 1\nb = 1\nprint(a, b)\ndeclare_args() {\n  b = 2\n  a = 2\n}" => "4:1", "\"a\" is already set.";
+    "template(\"t\") {\n  declare_args() {\n    invoker = 1\n  }\n}\nt(\"n\") {\n}" => "2:3", "\"invoker\" is already set.";
+    "group(\"g\") {\n  declare_args() {\n  }\n}" => "2:3", "\"declare_args\" is not allowed here.";
+    "group(\"g\") {\n  declare_args(1)\n}" => "2:3", "\"declare_args\" is not allowed here.";
+    "declare_args(q) {\n}" => "1:1", "Wrong arguments to \"declare_args\".";
+    "declare_args()" => "1:1", "Wrong arguments to \"declare_args\".";
+    // The build configuration alone names the default toolchain.
+    "set_default_toolchain(\"//t:t\")" => "1:1", "\"set_default_toolchain\" is not allowed here.";
+    "set_default_toolchain()" => "1:1", "\"set_default_toolchain\" is not allowed here.";
     "template(\"w\") {\n  y = 1\n}\nw(\"x\") {\n}" => "2:5", "Assignment had no effect: \"y\".";
     "template(\"w\") {\n  not_needed(invoker, [ \"a\" ])\n}\nw(\"x\") {\n  a = 1\n  b = 1\n}"
         => "6:5", "Assignment had no effect: \"b\".";

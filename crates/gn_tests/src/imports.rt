@@ -45,6 +45,20 @@ const TREES: &str = trees! {
     "//d/b.gni": "print(\"b\")\n",
     "//z.gni": "print(\"z\")\n",
     => 0 "a\nb\nz\nbuild\n";
+    // What an import and a scope bring into a block that declares arguments is declared there.
+    "//BUILD.gn": "declare_args() {\n  import(\"//d.gni\")\n  print(defined(p))\n  y = p\n}\n",
+    "//d.gni": "p = 1\n",
+    => 1 "ERROR at //BUILD.gn:4:7: Undefined identifier \"p\".\n";
+    "//BUILD.gn": "s = { a = 1 b = 2 }\ndeclare_args() {\n  forward_variables_from(s, [ \"a\" ])\n  import(\"//d.gni\")\n  forward_variables_from(s, \"*\")\n  print(defined(a), defined(b), defined(p))\n}\nprint(a, b, p)\n",
+    "//d.gni": "p = 3\n",
+    => 0 "false false false\n1 2 3\n";
+    "//BUILD.gn": "p = 1\nprint(p)\ndeclare_args() {\n  import(\"//d.gni\")\n}\n",
+    "//d.gni": "p = 1\n",
+    => 1 "ERROR at //BUILD.gn:3:1: \"p\" is already set.\n";
+    // A file that is imported declares arguments.
+    "//BUILD.gn": "import(\"//d.gni\")\nprint(p)\n",
+    "//d.gni": "declare_args() {\n  p = 1\n}\n",
+    => 0 "1\n";
     // A file that two others import is run once.
     "//BUILD.gn": "import(\"//b.gni\")\nimport(\"//a.gni\")\nprint(x)\n",
     "//a.gni": "import(\"//c.gni\")\nprint(\"a\", x)\n",
@@ -106,9 +120,12 @@ const TREES: &str = trees! {
     => 0 "y false\n";
     "//BUILD.gn": "read_file(\"//no.txt\", \"\")\n",
     => 1 "ERROR at //BUILD.gn:1:11: No such file \"//no.txt\".\n";
-    "//BUILD.gn": "write_file(\"d.txt\", \"b\")\nprint(read_file(\"d.txt\", \"string\"))\nread_file(\"d.txt/\", \"string\")\n",
+    "//BUILD.gn": "write_file(\"out/d.txt\", \"b\")\nprint(read_file(\"out/d.txt\", \"string\"))\n",
+    "//out/d.txt": "a",
+    => 0 "a\n";
+    "//BUILD.gn": "read_file(\"d.txt/\", \"string\")\n",
     "//d.txt": "a",
-    => 1 "ERROR at //BUILD.gn:3:11: No such file \"//d.txt/\".\n";
+    => 1 "ERROR at //BUILD.gn:1:11: No such file \"//d.txt/\".\n";
     "//BUILD.gn": "import(\"//a.gni\")\nprint(nope)\n",
     "//a.gni": "\nread_file(\"no.txt\", \"string\")\n",
     => 1 "ERROR at //a.gni:2:11: No such file \"//no.txt\".\n";
@@ -283,7 +300,15 @@ fn tree_reads<R: Threads + Sync>(
 #[test]
 fn a_file_that_is_imported_twice_is_read_once(rt: HostRuntime) -> Result<(), Fail> {
     let tree = tree_of(rt.alloc(), TWICE)?;
-    let read = ["//BUILD.gn", "//b.gni", "//c.gni", "//a.gni"];
+    let read = [
+        "//.gn",
+        "//out/args.gn",
+        "//b.gn",
+        "//BUILD.gn",
+        "//b.gni",
+        "//c.gni",
+        "//a.gni",
+    ];
     assert!(rt; tree_reads(&rt, rt.alloc(), tree, &read)?);
     Ok(())
 }

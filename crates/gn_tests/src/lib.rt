@@ -2,7 +2,11 @@
 #![tactic(auto)]
 
 #[cfg(test)]
+mod builds;
+#[cfg(test)]
 mod commands;
+#[cfg(test)]
+mod dotfiles;
 #[cfg(test)]
 mod failures;
 #[cfg(test)]

@@ -4,7 +4,7 @@ use gn_functions::{Changing, Function, Named, Opening, Plain, target_kind};
 use gn_items::ItemKind;
 use std::test::Fail;
 
-static FUNCTIONS: [(&[u8], Named); 23] = [
+static FUNCTIONS: [(&[u8], Named); 25] = [
     (b"assert", Named::Function(Function::Plain(Plain::Assert))),
     (b"defined", Named::Function(Function::Defined)),
     (b"foreach", Named::Function(Function::Foreach)),
@@ -25,6 +25,14 @@ static FUNCTIONS: [(&[u8], Named); 23] = [
     (
         b"set_defaults",
         Named::Function(Function::Opening(Opening::SetDefaults)),
+    ),
+    (
+        b"set_default_toolchain",
+        Named::Function(Function::Changing(Changing::SetDefaultToolchain)),
+    ),
+    (
+        b"declare_args",
+        Named::Function(Function::Opening(Opening::DeclareArguments)),
     ),
     (
         b"target",

@@ -37,9 +37,17 @@ fn put(tree: &mut Tree, file: &str) -> Result<(), AllocError> {
     }
 }
 
-/// The tree of a row's files.
-pub(crate) fn tree_of(alloc: Global, files: &str) -> Result<Tree, AllocError> {
+/// A tree with a dotfile, and a build configuration that names its default toolchain and nothing else.
+pub(crate) fn base_tree(alloc: Global) -> Result<Tree, AllocError> {
     let mut tree = Tree::new(alloc);
+    tree.put("//.gn", b"buildconfig = \"//b.gn\"\n")?;
+    tree.put("//b.gn", b"set_default_toolchain(\"//t:t\")\n")?;
+    Ok(tree)
+}
+
+/// The tree of a row's files, over that tree.
+pub(crate) fn tree_of(alloc: Global, files: &str) -> Result<Tree, AllocError> {
+    let mut tree = base_tree(alloc)?;
     for file in files.split_terminator('\x1d') {
         put(&mut tree, file)?;
     }
@@ -67,17 +75,28 @@ pub(crate) fn is_end(status: u8, said: &[u8], end: &str) -> bool {
     }
 }
 
-/// Whether `ls out` over a tree ends so, says this text, and loads one build file.
+/// Whether `ls out` over a tree ends so, says this text, and loads so many build files.
+pub(crate) fn tree_loads<R: Threads + Sync>(
+    rt: &R,
+    alloc: Global,
+    tree: Tree,
+    units: u64,
+    end: &str,
+) -> Result<bool, AllocError> {
+    let mut source = TreeSource::new(alloc, tree, Vec::new(alloc));
+    let mut sink = TreeSink::new(alloc, Vec::new(alloc));
+    let one = run(rt, alloc, "ls out", &mut source, &mut sink)?;
+    Ok(one.units == units && is_end(one.status, sink.said(), end))
+}
+
+/// The same with one build file.
 pub(crate) fn tree_says<R: Threads + Sync>(
     rt: &R,
     alloc: Global,
     tree: Tree,
     end: &str,
 ) -> Result<bool, AllocError> {
-    let mut source = TreeSource::new(alloc, tree, Vec::new(alloc));
-    let mut sink = TreeSink::new(alloc, Vec::new(alloc));
-    let one = run(rt, alloc, "ls out", &mut source, &mut sink)?;
-    Ok(one.units == 1 && is_end(one.status, sink.said(), end))
+    tree_loads(rt, alloc, tree, 1, end)
 }
 
 /// Whether `ls out` over this build file alone ends so, says this text, and loads one build file.
@@ -87,7 +106,7 @@ pub(crate) fn file_says<R: Threads + Sync>(
     file: &[u8],
     end: &str,
 ) -> Result<bool, AllocError> {
-    let mut tree = Tree::new(alloc);
+    let mut tree = base_tree(alloc)?;
     tree.put("//BUILD.gn", file)?;
     tree_says(rt, alloc, tree, end)
 }

@@ -1,5 +1,6 @@
 // Scopes and environments by themselves: the calls that the program doesn't make, or never to their good end.
 
+use gn_definitions::MadeBy;
 use gn_env::Env;
 use gn_environment::Context;
 use gn_faults::{FileKind, Stage};
@@ -7,7 +8,7 @@ use gn_paths::{Path, Text};
 use gn_scopes::{ScopeError, Scopes};
 use gn_text::Names;
 use gn_tree::{AssignOp, Position};
-use gn_values::{MadeBy, Overrides, Value};
+use gn_values::{Overrides, Value};
 use std::alloc::{AllocError, Global};
 use std::sync::Arc;
 use std::test::Fail;

@@ -1,6 +1,6 @@
 // The greatest size of a file and of a string.
 
-use crate::runs::file_says;
+use crate::runs::{base_tree, file_says, tree_loads};
 use std::alloc::{AllocError, Global};
 use std::test::Fail;
 use std::thread::Threads;
@@ -55,5 +55,52 @@ fn a_file_of_the_limit_is_read_and_a_longer_one_is_too_big(rt: HostRuntime) -> R
     let too_big = "1ERROR at //BUILD.gn:1:1: File \"//BUILD.gn\" is too big.\n";
     assert!(rt; spaces_say(&rt, rt.alloc(), 16_777_216, "0")?);
     assert!(rt; spaces_say(&rt, rt.alloc(), 16_777_217, too_big)?);
+    Ok(())
+}
+
+// Whether `ls out` ends so, with so many build files loaded, over an empty build file and so many spaces at a path.
+fn spaces_end<R: Threads + Sync>(
+    rt: &R,
+    alloc: Global,
+    path: &str,
+    size: usize,
+    units: u64,
+    end: &str,
+) -> Result<bool, AllocError> {
+    let mut spaces = Vec::new(alloc);
+    spaces.resize(size, b' ')?;
+    let mut tree = base_tree(alloc)?;
+    tree.put("//BUILD.gn", b"")?;
+    tree.put(path, &spaces)?;
+    tree_loads(rt, alloc, tree, units, end)
+}
+
+#[test]
+fn a_dotfile_of_the_limit_is_read_and_a_longer_one_is_too_big(rt: HostRuntime) -> Result<(), Fail> {
+    let empty = "1ERROR at //.gn:1:1: \"buildconfig\" is missing.\n";
+    let too_big = "1ERROR at //.gn:1:1: File \"//.gn\" is too big.\n";
+    assert!(rt; spaces_end(&rt, rt.alloc(), "//.gn", 16_777_216, 0, empty)?);
+    assert!(rt; spaces_end(&rt, rt.alloc(), "//.gn", 16_777_217, 0, too_big)?);
+    Ok(())
+}
+
+#[test]
+fn build_arguments_of_the_limit_are_read_and_longer_ones_are_too_big(
+    rt: HostRuntime,
+) -> Result<(), Fail> {
+    let too_big = "1ERROR at //out/args.gn:1:1: File \"//out/args.gn\" is too big.\n";
+    assert!(rt; spaces_end(&rt, rt.alloc(), "//out/args.gn", 16_777_216, 1, "0")?);
+    assert!(rt; spaces_end(&rt, rt.alloc(), "//out/args.gn", 16_777_217, 0, too_big)?);
+    Ok(())
+}
+
+#[test]
+fn a_build_configuration_of_the_limit_is_read_and_a_longer_one_is_too_big(
+    rt: HostRuntime,
+) -> Result<(), Fail> {
+    let empty = "1ERROR at //b.gn:1:1: \"set_default_toolchain\" is missing.\n";
+    let too_big = "1ERROR at //b.gn:1:1: File \"//b.gn\" is too big.\n";
+    assert!(rt; spaces_end(&rt, rt.alloc(), "//b.gn", 16_777_216, 0, empty)?);
+    assert!(rt; spaces_end(&rt, rt.alloc(), "//b.gn", 16_777_217, 0, too_big)?);
     Ok(())
 }

@@ -28,11 +28,11 @@ fn sources(alloc: Global) -> Result<Vec<TreeSource>, AllocError>
     Ok(sources)
 }
 
-// Whether there are three sources, the first of which has read the build file, and no other one anything.
+// Whether there are three sources, the first of which has read the build file last, and no other one anything.
 fn the_first_is_read(sources: &[TreeSource]) -> bool {
     match sources {
         [first, second, third] => {
-            first.read_path(0) == Some("//BUILD.gn")
+            first.read_path(3) == Some("//BUILD.gn")
                 && second.read_path(0).is_none()
                 && third.read_path(0).is_none()
         }

@@ -3,11 +3,12 @@
 
 use crate::units::{Done, File, OneFile};
 use gn_environment::Context;
+use gn_executions::HostNames;
 use gn_faults::{Code, Stage};
 use gn_items::{Claim, Key, Outcome, Written};
 use gn_paths::{Path, PathError, Text, resolve};
 use gn_unit::{Base, Unit, evaluate};
-use gn_values::{Bindings, MadeBy};
+use gn_values::Bindings;
 use std::alloc::{AllocError, Global};
 use std::sync::Arc;
 use std::test::Fail;
@@ -22,6 +23,11 @@ macro_rules! left {
 const LEFT: &str = left! {
     "print(rebase_path(\"//.\"), rebase_path(\"//\"), rebase_path(\"x\"), rebase_path(\"/src/b/x\", \"//c\"), rebase_path(\"/u/x\", \"//\"))"
         => "/src /src/ /src/a/x ../b/x ../u/x\n";
+    "print(host_os, host_cpu, \"$current_os$current_cpu$target_os$target_cpu\", current_toolchain, default_toolchain, root_build_dir)"
+        => "linux x64  //t:u //t:t //out\n";
+    "print(root_out_dir, root_gen_dir, target_out_dir, target_gen_dir)"
+        => "//out/u //out/u/gen //out/u/obj/a //out/u/gen/a\n";
+    "host_os = \"x\"\nprint(host_os)\ntemplate(\"t\") {\n  print(host_cpu)\n}\nt(\"n\") {\n}" => "x\nx64\n";
     "print(get_path_info(\"x/y.c\", \"out_dir\"), get_path_info(\"//y.c\", \"gen_dir\"))"
         => "//out/u/obj/a/x //out/u/gen\n";
     "print(get_label_info(\":b\", \"label_with_toolchain\"), get_label_info(\":b\", \"toolchain\"), get_label_info(\"//c(//t:t)\", \"target_out_dir\"))"
@@ -66,9 +72,17 @@ fn shared(alloc: Global, context: Context) -> Result<Arc<Context>, AllocError> {
     Ok(Arc::new(alloc, context)?)
 }
 
+fn host(alloc: Global) -> Result<HostNames, AllocError> {
+    let os = Text::from_bytes(alloc, b"linux")?;
+    let cpu = Text::from_bytes(alloc, b"x64")?;
+    Ok(HostNames { os, cpu })
+}
+
 fn base(alloc: Global) -> Result<Base, PathError> {
     let context = shared(alloc, context(alloc)?)?;
-    Ok(Base::new(context, Vec::new(alloc), MadeBy::new(alloc)))
+    let root = Path::root(alloc)?;
+    let configuration = resolve(alloc, &root, b"//c.gn")?;
+    Ok(Base::of_configuration(alloc, context, host(alloc)?, configuration, None))
 }
 
 // The execution of a build file.

@@ -106,11 +106,21 @@ fn import(alloc: Global, path: &[u8], file: File<'_>) -> Result<Done, Fail> {
     Ok(evaluate(alloc, Claim::issue(key, 0, 0), &base, &mut library))
 }
 
+// The execution of the build configuration.
+fn set_up(alloc: Global, file: File<'_>) -> Result<Done, Fail> {
+    let key = Key::Setup(Text::new(alloc));
+    let base = Base::plain(alloc)?;
+    let mut library = OneFile { file, stops: 0 };
+    Ok(evaluate(alloc, Claim::issue(key, 0, 0), &base, &mut library))
+}
+
 // What is expected of an execution.
 #[derive(Clone, Copy)]
 enum Expected<'a> {
     // So many lines of a build file.
     Built(usize),
+    // So many lines of a build configuration.
+    Configured(usize),
     // So many lines of a file that is imported.
     Imported(usize),
     // A fault with this code in this file, in this line.
@@ -146,6 +156,9 @@ fn has_lines(outcome: &Outcome, lines: usize) -> bool {
 fn is_so(done: &Done, expected: Expected<'_>) -> bool {
     match (done, expected) {
         (Ok((_, Unit::Load(outcome))), Expected::Built(lines)) => has_lines(outcome, lines),
+        (Ok((_, Unit::Setup(_, outcome))), Expected::Configured(lines)) => has_lines(
+            outcome, lines,
+        ),
         (Ok((_, Unit::Import(_, outcome))), Expected::Imported(lines)) => has_lines(outcome, lines),
         (Ok((_, Unit::Wrong(fault, asked))), Expected::Wrong(code, file, line)) => {
             is_fault(fault, code, file, line) && is_own(asked.as_slice(), file)
@@ -173,12 +186,22 @@ fn imports(alloc: Global, file: File<'_>, expected: Expected<'_>) -> Result<bool
     Ok(is_so(&done, expected))
 }
 
+// Whether a build configuration ends so.
+fn sets_up(alloc: Global, file: File<'_>, expected: Expected<'_>) -> Result<bool, Fail> {
+    let done = set_up(alloc, file)?;
+    Ok(is_so(&done, expected))
+}
+
 #[test]
 fn files_are_executed_by_their_keys(rt: HostRuntime) -> Result<(), Fail> {
     let alloc = rt.alloc();
     let lines = File::Bytes(b"print(\"a\")\n");
     assert!(rt; loads(alloc, b"//", lines, Expected::Built(1))?);
     assert!(rt; imports(alloc, lines, Expected::Imported(1))?);
+    let named = File::Bytes(b"set_default_toolchain(\":t\")\nprint(\"a\")\n");
+    assert!(rt; sets_up(alloc, named, Expected::Configured(1))?);
+    let unnamed = Expected::Wrong(Code::Missing, b"//", 1);
+    assert!(rt; sets_up(alloc, lines, unnamed)?);
     Ok(())
 }
 
