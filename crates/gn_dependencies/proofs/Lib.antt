@@ -1,0 +1,14 @@
+pub mod Same
+pub mod Kept
+pub mod Firsts
+pub mod Has
+pub mod Merge
+pub mod AllPaths
+pub mod Finite
+pub mod Local
+pub mod OneRecord
+pub mod OrderLaws
+pub mod Inheriting
+pub mod Drops
+pub mod Joins
+pub mod SameLabel
