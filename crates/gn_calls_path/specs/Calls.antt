@@ -4,7 +4,7 @@
 use Rattle.std.specs.Prelude.{ℕ, List, [], ◌∷◌, Option, Some, None, Result, Ok, Err}
 use Rattle.gn_faults.specs.declared.code.Code.{Code}
 use Rattle.gn_paths.specs.Components.{dot}
-use Rattle.gn_paths.specs.Directory.{directory_of, obj_directory_of, gen_directory_of}
+use Rattle.gn_paths.specs.Directory.{directory_of, obj, gen}
 use Rattle.gn_paths.specs.Parts.{part_of}
 use Rattle.gn_values.specs.Val.{Val, vbool}
 use Rattle.gn_calls_text.specs.Answers.{Settled, gives, bad_arguments, text_answer, text_in, texts_in, typed}
@@ -15,7 +15,7 @@ use Rattle.gn_calls_path.specs.declared.call.PathCall.{PathCall}
 use Rattle.gn_calls_path.specs.declared.call.PathCall.TheVariants.{GetLabelInfo, GetPathInfo, LabelMatches, ProcessFileTemplate, RebasePath}
 use Rattle.gn_calls_path.specs.Found.{each, read_at}
 use Rattle.gn_calls_path.specs.Names.{path_info_of, label_info_of}
-use Rattle.gn_calls_path.specs.Directories.{path_at, root_out}
+use Rattle.gn_calls_path.specs.Directories.{path_at, root_out, directory_for_outputs}
 use Rattle.gn_calls_path.specs.Labels.{label_at, pattern_at, label_info, some_matches}
 use Rattle.gn_calls_path.specs.Templates.{template_at, expanded_all}
 use Rattle.gn_calls_path.specs.Each.{one_or_list, texts_of, texts_answer, answer_each}
@@ -30,8 +30,8 @@ taken None answer = bad_arguments
 -- the current toolchain
 abbrev pub path_info : Where → PathInfo → List ℕ → List ℕ → List ℕ
 path_info w (Part part) text path = part_of part text
-path_info w OutDir text path = obj_directory_of (root_out w) (directory_of path)
-path_info w GenDir text path = gen_directory_of (root_out w) (directory_of path)
+path_info w OutDir text path = directory_for_outputs obj (root_out w) (directory_of path)
+path_info w GenDir text path = directory_for_outputs gen (root_out w) (directory_of path)
 path_info w AbsPath text path = path
 
 -- the same where the text is a path, whatever is asked of it

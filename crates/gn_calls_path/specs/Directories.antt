@@ -1,10 +1,12 @@
 -- Where a call stands, and the directories of outputs there.
-use Rattle.std.specs.Prelude.{ℕ, List, Option, Some, None, Result, Ok, Err, if◌then◌else◌}
+use Rattle.std.specs.Prelude.{ℕ, List, [], ◌++◌, Option, Some, None, Result, Ok, Err, if◌then◌else◌}
 use Rattle.std.specs.Str.{bytes_eq}
 use Rattle.gn_faults.specs.declared.code.Code.{Code}
 use Rattle.gn_labels.specs.declared.named.Named.{Named}
 use Rattle.gn_labels.specs.Toolchains.{toolchain_named}
 use Rattle.gn_paths.specs.declared.error.PathFault.{PathFault}
+use Rattle.gn_paths.specs.Components.{slash, two_slashes, is_system}
+use Rattle.gn_paths.specs.Directory.{output_directory}
 use Rattle.gn_paths.specs.Resolve.{path_meant}
 use Rattle.gn_calls_path.specs.Found.{path_code, coded}
 use Rattle.gn_calls_path.specs.declared.place.Where.{Where}
@@ -36,3 +38,16 @@ root_out_of w toolchain = out_directory w.build w.default_toolchain toolchain
 -- that of the current toolchain
 abbrev pub root_out : Where → List ℕ
 root_out w = root_out_of w w.toolchain
+
+-- the directory of the source tree in whose place outputs stand: the source root for a directory of the system
+abbrev pub source_part : List ℕ → List ℕ
+source_part directory = if is_system directory then two_slashes else directory
+
+-- what stands behind it for a directory of the system: its text as it stands, and nothing for `/`
+abbrev pub system_part : List ℕ → List ℕ
+system_part directory = if is_system directory then (if bytes_eq directory slash then [] else directory) else []
+
+-- where the outputs of a directory stand in the directory `name`, `obj` or `gen`, of an output directory: `//out/obj/a` for `//a`. The
+-- text of a directory of the system stands there as it is: `//out/obj/usr/..` for `/usr/..`, and `//out/obj` for `/`
+abbrev pub directory_for_outputs : (name out directory : List ℕ) → List ℕ
+directory_for_outputs name out directory = output_directory name out (source_part directory) ++ system_part directory

@@ -1,11 +1,11 @@
 // Calls that make a text of each string of their first argument.
 
-ghost use Rattle.std.specs.Prelude.{◌≡◌, IfOk, map};
-ghost use Rattle.gn_paths.specs.Directory.{directory_of, obj_directory_of, gen_directory_of};
+ghost use Rattle.std.specs.Prelude.{◌≡◌, ◌++◌, IfOk, map};
+ghost use Rattle.gn_paths.specs.Directory.{directory_of, obj, gen};
 ghost use Rattle.gn_values.specs.View.{val_of};
 ghost use Rattle.gn_calls_text.specs.Views.{Settles, bytes_in};
 ghost use Rattle.gn_calls_path.specs.Calls.{path_info, path_info_at, path_info_answer};
-ghost use Rattle.gn_calls_path.specs.Directories.{root_out};
+ghost use Rattle.gn_calls_path.specs.Directories.{root_out, source_part, system_part, directory_for_outputs};
 ghost use Rattle.gn_calls_path.specs.Each.{one, listed, answer_each};
 ghost use Rattle.gn_calls_path.specs.Found.{each};
 ghost use Rattle.gn_calls_path.specs.Views.{IsFound, made_at, given_of};
@@ -32,21 +32,52 @@ pub(crate) enum Making<'a> {
 }
 
 fn out_dir(alloc: Global, at: &Where, path: &Path) -> Result<Text, AllocError>
-    ensures { IfOk result (λ t. t ≡ obj_directory_of (root_out at.now) (directory_of path.now)) }
+    ensures { IfOk result (λ t. t ≡ directory_for_outputs obj (root_out at.now) (directory_of path.now)) }
 {
     let out = at.root_out_of(alloc, &at.toolchain)?;
     let directory = directory(alloc, path)?;
-    let made = obj_directory(alloc, &out, &directory)?;
-    made.as_text().copy(alloc)
+    let made = obj_directory(alloc, &out, &source_part(alloc, &directory)?)?;
+    with_system_part(alloc, &made, &directory)
 }
 
 fn gen_dir(alloc: Global, at: &Where, path: &Path) -> Result<Text, AllocError>
-    ensures { IfOk result (λ t. t ≡ gen_directory_of (root_out at.now) (directory_of path.now)) }
+    ensures { IfOk result (λ t. t ≡ directory_for_outputs gen (root_out at.now) (directory_of path.now)) }
 {
     let out = at.root_out_of(alloc, &at.toolchain)?;
     let directory = directory(alloc, path)?;
-    let made = gen_directory(alloc, &out, &directory)?;
-    made.as_text().copy(alloc)
+    let made = gen_directory(alloc, &out, &source_part(alloc, &directory)?)?;
+    with_system_part(alloc, &made, &directory)
+}
+
+/// The directory of the source tree in whose place outputs stand: the source root for a directory of the system.
+fn source_part(alloc: Global, directory: &Path) -> Result<Path, AllocError>
+    ensures { IfOk result (λ d. d ≡ source_part directory.now) }
+{
+    if directory.is_system() {
+        Path::root(alloc)
+    } else {
+        directory.copy(alloc)
+    }
+}
+
+/// A directory of outputs, and behind it the text of a directory of the system as it stands.
+fn with_system_part(alloc: Global, made: &Path, directory: &Path) -> Result<Text, AllocError>
+    ensures { IfOk result (λ t. t ≡ made.now ++ system_part directory.now) }
+{
+    let mut text = made.as_text().copy(alloc)?;
+    text.append(system_part(directory))?;
+    Ok(text)
+}
+
+/// The text of a directory of the system, and nothing for `/` and for a directory of the source tree.
+fn system_part(directory: &Path) -> &[u8]
+    ensures { result.now ≡ system_part directory.now }
+{
+    if directory.is_system() && directory.as_bytes() != b"/".as_slice() {
+        directory.as_bytes()
+    } else {
+        b""
+    }
 }
 
 /// What is asked of a text and its path.
