@@ -22,7 +22,7 @@ use gn_calls_text::{CallError, TextCall, call_text};
 use gn_env::Env;
 use gn_faults::Code;
 use gn_functions::Plain;
-use gn_items::{Item, Outcome, Written};
+use gn_items::{Outcome, Written};
 use gn_paths::{Path, Text, Texts};
 use gn_steps::{StepEnd, argument_position, place_here, refuse, where_here};
 use gn_tree::{Call, Position};
@@ -165,32 +165,32 @@ fn answer_path_here(
     answer_path(alloc, call, values, &at)
 }
 
-// What `get_target_outputs` answers to these values, where these items have been defined.
+// What `get_target_outputs` answers to these values, where the outcome's items have been defined.
 fn answer_outputs(
     alloc: Global,
     values: &[Value],
     env: &Env,
-    items: &[Item],
+    out: &Outcome,
 ) -> Result<Settled, AllocError>
-    ensures { IfOk result (λ s. settled_view s ≡ settled_of (target_outputs env.now.setting items.now (map val_of values.now))) }
+    ensures { IfOk result (λ s. settled_view s ≡ settled_of (target_outputs env.now.setting out.now.items (map val_of values.now))) }
 {
-    match get_target_outputs(alloc, values, env, items) {
+    match get_target_outputs(alloc, values, env, out) {
         Ok(value) => Ok(Settled::Value(value)),
         Err(CallError::Refused { code, argument }) => Ok(refusal(alloc, code, argument)),
         Err(CallError::Memory) => Err(AllocError),
     }
 }
 
-// What the call answers to these values where it stands, and where these items have been defined.
+// What the call answers to these values where it stands, and where the outcome's items have been defined.
 #[tactic(auto, unfolding(gn_meaning::specs::PlainCalls::answer))]
 fn answer_plain(
     alloc: Global,
     plain: Plain,
     values: &[Value],
     env: &Env,
-    items: &[Item],
+    out: &Outcome,
 ) -> Result<Settled, AllocError>
-    ensures { IfOk result (λ s. settled_view s ≡ answer plain env.now.setting items.now (map val_of values.now)) }
+    ensures { IfOk result (λ s. settled_view s ≡ answer plain env.now.setting out.now.items (map val_of values.now)) }
 {
     match plain {
         Plain::Assert => answer_assert(alloc, values),
@@ -198,7 +198,7 @@ fn answer_plain(
         Plain::WriteFile => answer_write(alloc, values, env),
         Plain::Text(call) => answer_text(alloc, call, values),
         Plain::Path(call) => answer_path_here(alloc, call, values, env),
-        Plain::TargetOutputs => answer_outputs(alloc, values, env, items),
+        Plain::TargetOutputs => answer_outputs(alloc, values, env, out),
     }
 }
 
@@ -285,6 +285,6 @@ pub fn apply_plain(
 ) -> Result<Option<Value>, StepEnd>
     ensures { IsStep (option_map val_of) result env.now out.new (plain_runs plain (map val_of values.now) call.now env.now out.old) }
 {
-    let settled = answer_plain(alloc, plain, values, env, out.items())?;
+    let settled = answer_plain(alloc, plain, values, env, out)?;
     settle(alloc, settled, call, env, out)
 }

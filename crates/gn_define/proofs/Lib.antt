@@ -1,3 +1,4 @@
 pub mod Lists
 pub mod FoldLemmas
 pub mod FileLemmas
+pub mod OnceLemmas

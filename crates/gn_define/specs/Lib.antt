@@ -8,4 +8,5 @@ pub mod Fields
 pub mod Demands
 pub mod Defining
 pub mod Outputs
+pub mod Known
 pub mod Laws

@@ -1,7 +1,8 @@
 //! Laws of what blocks define, each as a call that does nothing and whose contract is the law.
 
-ghost use Rattle.std.specs.Prelude.{◌≡◌, ℕ, List, [], ◌++◌, Option, Ok};
-ghost use Rattle.std.specs.List.{filter};
+ghost use Rattle.std.specs.Prelude.{◌≡◌, ℕ, List, [], ◌++◌, map, Option, Ok};
+ghost use Rattle.std.specs.List.{filter, list_any, IsDistinct};
+ghost use Rattle.std.specs.Str.{bytes_eq};
 ghost use Rattle.gn_rows.specs.declared.row.Row.{Row};
 ghost use Rattle.gn_rows.specs.declared.variable.Variable.{Variable};
 ghost use Rattle.gn_rows.specs.Tables.{demands_of};
@@ -14,6 +15,7 @@ ghost use Rattle.gn_define.specs.Fields.{filled};
 ghost use Rattle.gn_define.specs.Files.{file_in};
 ghost use Rattle.gn_define.specs.Held.{Held};
 ghost use Rattle.gn_define.specs.Laws.{is_set, AreFieldsOf, file_texts, StandBelow, AreMet};
+ghost use Rattle.gn_define.specs.Outputs.{paths_behind};
 ghost use Rattle.gn_define.specs.Reading.{then_do};
 
 /// The first rows are judged before the others: their fault stands, and else the others go on from their fields.
@@ -39,4 +41,11 @@ pub fn demands_are_met()
 #[tactic(auto, using(crate::proofs::FileLemmas::outputs_below))]
 pub fn outputs_stand_below_the_build_directory()
     ensures { (w : Where) (sources : List (List ℕ)) (text : List ℕ) (subst : Subst) → file_in w Output sources text ≡ Ok subst → StandBelow w (file_texts w Output sources subst) }
+{}
+
+/// What texts make at once stands once each, and is just what each of them makes.
+#[tactic(auto, using(crate::proofs::OnceLemmas::stand_once, crate::proofs::OnceLemmas::are_all))]
+pub fn outputs_stand_once_each()
+    ensures once { (path : Subst → List ℕ) (substs : List Subst) → IsDistinct bytes_eq (paths_behind path [] substs) }
+    ensures all { (path : Subst → List ℕ) (p : List ℕ) (substs : List Subst) → list_any (bytes_eq p) (paths_behind path [] substs) ≡ list_any (bytes_eq p) (map path substs) }
 {}

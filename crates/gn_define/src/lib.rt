@@ -5,6 +5,7 @@ mod block;
 mod checking;
 mod defining;
 mod demands;
+mod distinct;
 mod fault;
 mod field;
 mod fields;
@@ -24,7 +25,7 @@ pub use field::Field;
 pub use fields::{Entry, Fields};
 pub use laws::{
     demands_are_met, fields_are_of_the_block, first_rows_come_first,
-    outputs_stand_below_the_build_directory,
+    outputs_stand_below_the_build_directory, outputs_stand_once_each,
 };
 pub use outputs::{has_outputs, outputs_of};
 pub use place::Where;

@@ -1,10 +1,10 @@
 // The files that an item makes by its own texts.
 
 ghost use Rattle.std.specs.Prelude.{◌≡◌, ◌++◌, [], IfOk, OnOk};
-ghost use Rattle.std.specs.List.{list_any, flat_map};
-ghost use Rattle.std.specs.Str.{bytes_eq};
-ghost use Rattle.gn_define.specs.Outputs.{has_outputs, output_path, with_new, paths_behind, alone_path, source_path, outputs_for, outputs_of};
+ghost use Rattle.std.specs.List.{flat_map};
+ghost use Rattle.gn_define.specs.Outputs.{has_outputs, output_path, paths_behind, alone_path, source_path, outputs_for, outputs_of};
 
+use crate::distinct::DistinctPaths;
 use crate::fields::Fields;
 use crate::files::{file_position, has_names, text_alone, text_of_source};
 use crate::forms::FileRole;
@@ -56,27 +56,6 @@ fn source_path(
     )
 }
 
-fn is_among(paths: &[Text], path: &Text) -> bool
-    ensures { result ≡ list_any (bytes_eq path.now) paths.now }
-{
-    for other in paths {
-        if *path == *other {
-            return true;
-        }
-    }
-    false
-}
-
-// Puts a path behind the others, if it isn't there yet.
-fn push_new(paths: &mut Vec<Text>, path: Text) -> Result<(), AllocError>
-    ensures { OnOk result (paths.new.items ≡ with_new paths.old.items path) }
-{
-    if !is_among(paths.as_slice(), &path) {
-        paths.push(path)?;
-    }
-    Ok(())
-}
-
 // What is made of the texts for one source.
 fn outputs_for(
     alloc: Global,
@@ -86,11 +65,11 @@ fn outputs_for(
 ) -> Result<Vec<Text>, AllocError>
     ensures { IfOk result (λ ps. ps.items ≡ outputs_for place.now substs.now source.now) }
 {
-    let mut paths = Vec::new(alloc);
+    let mut paths = DistinctPaths::new(alloc);
     for subst in substs {
-        push_new(&mut paths, source_path(alloc, place, source, subst)?)?;
+        paths.put(source_path(alloc, place, source, subst)?)?;
     }
-    Ok(paths)
+    Ok(paths.into_vec())
 }
 
 // What is made of the texts for each source.
@@ -126,11 +105,11 @@ fn append_outputs(
 fn outputs_alone(alloc: Global, place: &Where, substs: &[Subst]) -> Result<Vec<Text>, AllocError>
     ensures { IfOk result (λ ps. ps.items ≡ paths_behind (alone_path place.now) [] substs.now) }
 {
-    let mut paths = Vec::new(alloc);
+    let mut paths = DistinctPaths::new(alloc);
     for subst in substs {
-        push_new(&mut paths, alone_path(alloc, place, subst)?)?;
+        paths.put(alone_path(alloc, place, subst)?)?;
     }
-    Ok(paths)
+    Ok(paths.into_vec())
 }
 
 /// The paths of an item's outputs, where it is defined: for each source those of its texts in order, where the kind takes its

@@ -1,2 +1,2 @@
-mod LabelLemmas
+pub mod LabelLemmas
 mod NameLemmas

@@ -1,5 +1,5 @@
 -- What an execution leaves beside its variables.
-use Rattle.std.specs.Prelude.{ℕ, Bool, List, [], ◌∷◌, ◌++◌, Option, Some, None}
+use Rattle.std.specs.Prelude.{ℕ, Bool, List, [], ◌∷◌, ◌++◌, Option, Some, None, if◌then◌else◌}
 use Rattle.std.specs.List.{list_any}
 use Rattle.std.specs.Str.{bytes_eq}
 use Rattle.std.specs.Prelude.{◌&&◌}
@@ -36,6 +36,11 @@ same_label a b = bytes_eq a.dir b.dir && (bytes_eq a.name b.name && bytes_eq a.t
 -- whether an item has the label
 unfoldable pub is_defined : Label → Effects → Bool
 is_defined label effects = list_any (λ (item : Item). same_label label item.label) effects.items
+
+-- the first of these items that has the label
+abbrev pub item_at : Label → List Item → Option Item
+item_at label [] = None
+item_at label (item ∷ items) = if same_label label item.label then Some item else item_at label items
 
 -- one more item
 unfoldable pub with_item : Item → Effects → Effects

@@ -8,6 +8,7 @@ mod key;
 mod laws;
 mod names;
 mod outcome;
+mod places;
 mod question;
 mod tool;
 mod tools;

@@ -1,7 +1,7 @@
 // What an execution leaves beside its variables.
 
 ghost use Rattle.std.specs.Prelude.{◌≡◌, [], OnOk, OnErr, map, option_map};
-ghost use Rattle.gn_items.specs.Effects.{no_effects, is_defined, with_item, with_tool, with_toolchain, with_print, with_written, with_asked, with_declarations, with_default_toolchain};
+ghost use Rattle.gn_items.specs.Effects.{no_effects, is_defined, item_at, with_item, with_tool, with_toolchain, with_print, with_written, with_asked, with_declarations, with_default_toolchain};
 ghost use Rattle.gn_items.specs.Tools.{has_name};
 ghost use Rattle.gn_items.specs.Questions.{question_of};
 ghost use Rattle.gn_runs.specs.Runs.{content_of, import_of};
@@ -9,6 +9,7 @@ ghost use Rattle.gn_runs.specs.Runs.{content_of, import_of};
 use crate::declaration::Declaration;
 use crate::default_toolchain::DefaultToolchain;
 use crate::item::Item;
+use crate::places::note_place;
 use crate::question::Question;
 use crate::tool::Tool;
 use crate::tools::Tools;
@@ -16,20 +17,21 @@ use crate::written::Written;
 use gn_labels::Label;
 use gn_paths::{Path, Text, Texts};
 use std::alloc::{AllocError, Global};
-use std::collections::BTreeSet;
+use std::collections::BTreeMap;
 use std::marker::Model;
 use std::mem;
 
 /// What an execution leaves beside its variables: the items that it defines, toolchains with their tools, the lines that it
 /// prints, the files that it writes, the questions that it asks and the arguments that it declares, each in order, and the
-/// default toolchain that it names. Items of one label may stand in it twice; `has` tells in time whether a label is new. So may
+/// default toolchain that it names. Items of one label may stand in it twice; `has` tells in time whether a label is new, and
+/// `item` finds the first of them. So may
 /// files of one path, of which the last counts.
 #[derive(Drop)]
 pub struct Outcome {
     alloc: Global,
     items: Vec<Item>,
-    // The labels of the items.
-    labels: BTreeSet<Label>,
+    // Of each label that an item has, how many items stand before the first one that has it.
+    places: BTreeMap<Label, usize>,
     // The tools of the toolchain whose block is open.
     tools: Tools,
     prints: Vec<Text>,
@@ -49,12 +51,12 @@ impl Model for Outcome {
 
     ghost use Rattle.gn_labels.specs.declared.label.Label.{Label};
     ghost use Rattle.std.specs.Prelude.{map};
-    ghost use Rattle.gn_items.specs.Labels.{HasLabels};
+    ghost use Rattle.gn_items.specs.Labels.{HasPlaces};
     ghost use Rattle.gn_items.specs.Questions.{question_of};
 
     ghost view = { λ o. record { items = o.items.items; tools = o.tools; prints = o.prints.items; written = o.written.items; asked = map question_of o.asked.items; declared = o.declared.items; default_toolchain = o.default_toolchain } };
 
-    ghost invariant = { λ o. HasLabels ⟦<Label as Ord>⟧.cmp o.labels o.items.items };
+    ghost invariant = { λ o. HasPlaces ⟦<Label as Ord>⟧.cmp o.places o.items.items };
 }
 
 impl Outcome {
@@ -65,7 +67,7 @@ impl Outcome {
         Outcome {
             alloc,
             items: Vec::new(alloc),
-            labels: BTreeSet::new(alloc),
+            places: BTreeMap::new(alloc),
             tools: Tools::new(alloc),
             prints: Vec::new(alloc),
             written: Vec::new(alloc),
@@ -79,7 +81,17 @@ impl Outcome {
     pub fn has(&self, label: &Label) -> bool
         ensures { result ≡ is_defined label.now self.now }
     {
-        self.labels.contains(label)
+        self.places.contains_key(label)
+    }
+
+    /// The first item that has the label, if one has it. It takes no memory, and looks at logarithmically many labels.
+    pub fn item(&self, label: &Label) -> Option<&Item>
+        ensures { option_map (λ i. i.now) result ≡ item_at label.now self.now.items }
+    {
+        match self.places.get(label) {
+            Some(place) => self.items.get(*place),
+            None => None,
+        }
     }
 
     /// Puts an item behind the others. After want of memory nothing is changed, and the item is dropped.
@@ -88,9 +100,9 @@ impl Outcome {
         ensures ok { OnOk result (self.new ≡ with_item item self.old) }
         ensures err { OnErr result (self.new ≡ self.old) }
     {
-        let label = item.label.copy(self.alloc)?;
         self.items.reserve(1)?;
-        self.labels.insert(label)?;
+        let place = self.items.as_slice().len();
+        note_place(self.alloc, &mut self.places, &item.label, place)?;
         self.items.push(item)?;
         Ok(())
     }

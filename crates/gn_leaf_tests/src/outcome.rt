@@ -15,12 +15,12 @@ const ADDED: &str = table! {
     "k", 3;
 };
 
-// A name, a toolchain, and whether the label is known.
+// A name, a toolchain, whether the label is known, and the line of the first item that has it, 0 where none has.
 const KNOWN: &str = table! {
-    "k", "", "true";
-    "g", "", "true";
-    "k", "//t:t", "false";
-    "h", "", "false";
+    "k", "", "true", 1;
+    "g", "", "true", 2;
+    "k", "//t:t", "false", 0;
+    "h", "", "false", 0;
 };
 
 // What is asked for, the content of a file or what its import leaves, and the path.
@@ -75,9 +75,18 @@ fn outcome(alloc: Global) -> Result<Outcome, AllocError> {
     Ok(outcome)
 }
 
+// The line of the first item that has the label, 0 where none has.
+fn first_line(outcome: &Outcome, label: &Label) -> u32 {
+    match outcome.item(label) {
+        Some(item) => item.place.line,
+        None => 0,
+    }
+}
+
 fn has(alloc: Global, outcome: &Outcome, row: &str) -> Result<bool, AllocError> {
     let label = label(alloc, field(row, 0), field(row, 1))?;
-    is_shown(alloc, outcome.has(&label), field(row, 2))
+    let known = is_shown(alloc, outcome.has(&label), field(row, 2))?;
+    Ok(known && is_shown(alloc, first_line(outcome, &label), field(row, 3))?)
 }
 
 fn is_known(alloc: Global, row: &str) -> Result<bool, AllocError> {

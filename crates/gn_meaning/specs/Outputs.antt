@@ -1,21 +1,15 @@
 -- `get_target_outputs`: the outputs of a target that has been defined before.
 use Rattle.std.specs.Prelude.{List, [], ◌∷◌, Option, Some, None, if◌then◌else◌}
 use Rattle.gn_values.specs.Val.{Val}
-use Rattle.gn_labels.specs.declared.label.Label.{Label}
 use Rattle.gn_calls_text.specs.Answers.{Settled, bad_arguments, text_in, typed}
 use Rattle.gn_calls_path.specs.Each.{texts_answer}
 use Rattle.gn_calls_path.specs.Found.{read_at}
 use Rattle.gn_calls_path.specs.Labels.{label_at}
 use Rattle.gn_define.specs.Outputs.{has_outputs, outputs_of}
 use Rattle.gn_items.specs.declared.item.Item.{Item}
-use Rattle.gn_items.specs.Effects.{same_label}
+use Rattle.gn_items.specs.Effects.{item_at}
 use Rattle.gn_environment.specs.Environment.{Setting}
 use Rattle.gn_meaning.specs.Items.{context_here, where_here}
-
--- the first of these items that has the label
-abbrev pub item_at : Label → List Item → Option Item
-item_at label [] = None
-item_at label (item ∷ items) = if same_label label item.label then Some item else item_at label items
 
 -- the outputs of an item of a kind that has outputs of its own
 abbrev pub known_outputs : Setting → Option Item → Settled
