@@ -99,4 +99,5 @@ pub data ElementRefusal : Type 0 where
 
 -- `a[i] = v`, `a.b = v` and their kin are assignments of `a`, and need a value
 unfoldable pub element_changed : List ℕ → Val → AssignOp → Val → Position → Option Val → ChainState → Result ChainState ElementRefusal
-element_changed name at op value position beneath chain = changed_by base_has_no_value element_refuses (λ old. element_assigned old at op value) name position beneath chain
+element_changed name at op value position beneath chain =
+    changed_by base_has_no_value element_refuses (λ old. element_assigned old at op value) name position beneath chain

@@ -30,15 +30,24 @@ position_code =
 
 abbrev pub variable_code : Coded VariableState
 variable_code =
-    code_by (Val × (Option Position × Option Position)) (coded× val_code (coded× (coded_option position_code) (coded_option position_code))) (λ v. (v.value, (v.unread, v.declared))) (λ p. record { value = p.0; unread = p.1.0; declared = p.1.1 }) (λ _. refl)
+    code_by (Val × (Option Position × Option Position))
+    (coded× val_code (coded× (coded_option position_code) (coded_option position_code)))
+    (λ v. (v.value, (v.unread, v.declared)))
+    (λ p. record { value = p.0; unread = p.1.0; declared = p.1.1 }) (λ _. refl)
 
 abbrev pub layer_code : Coded LayerState
 layer_code =
-    code_by ((Table VariableState × (Bool × Bool)) × (Table DefinitionName × Table (Table Val))) (coded× (coded× (table_code variable_code) (coded× coded_bool coded_bool)) (coded× (table_code name_code) (table_code (table_code val_code)))) (λ l. ((l.variables, (l.checked, l.declares)), (l.templates, l.defaults))) (λ p. record { variables = p.0.0; templates = p.1.0; defaults = p.1.1; checked = p.0.1.0; declares = p.0.1.1 }) (λ _. refl)
+    code_by ((Table VariableState × (Bool × Bool)) × (Table DefinitionName × Table (Table Val)))
+    (coded× (coded× (table_code variable_code) (coded× coded_bool coded_bool)) (coded× (table_code name_code) (table_code (table_code val_code))))
+    (λ l. ((l.variables, (l.checked, l.declares)), (l.templates, l.defaults)))
+    (λ p. record { variables = p.0.0; templates = p.1.0; defaults = p.1.1; checked = p.0.1.0; declares = p.0.1.1 }) (λ _. refl)
 
 abbrev pub chain_code : Coded ChainState
 chain_code =
-    code_by (LayerState × List LayerState) (coded× layer_code (coded_list layer_code)) (λ c. (c.inner, c.outer)) (λ p. record { inner = p.0; outer = p.1 }) (λ _. refl)
+    code_by (LayerState × List LayerState)
+    (coded× layer_code (coded_list layer_code))
+    (λ c. (c.inner, c.outer))
+    (λ p. record { inner = p.0; outer = p.1 }) (λ _. refl)
 
 abbrev stage_index : Stage → ℕ
 stage_index Arguments = 1
@@ -112,16 +121,47 @@ open_code = code_by ℕ coded_ℕ open_index open_at open_back
 
 abbrev pub context_code : Coded Context
 context_code =
-    code_by (((Stage × List ℕ) × (List ℕ × List ℕ)) × ((List ℕ × List ℕ) × Table Val)) (coded× (coded× (coded× stage_code text_code) (coded× text_code text_code)) (coded× (coded× text_code text_code) (table_code val_code))) (λ c. (((c.stage, c.toolchain), (c.fault_toolchain, c.default_toolchain)), ((c.build_directory, c.source_root), c.overrides))) (λ p. record { stage = p.0.0.0; toolchain = p.0.0.1; fault_toolchain = p.0.1.0; default_toolchain = p.0.1.1; build_directory = p.1.0.0; source_root = p.1.0.1; overrides = p.1.1 }) (λ _. refl)
+    code_by (((Stage × List ℕ) × (List ℕ × List ℕ)) × ((List ℕ × List ℕ) × Table Val))
+    (coded× (coded× (coded× stage_code text_code) (coded× text_code text_code)) (coded× (coded× text_code text_code) (table_code val_code)))
+    (λ c. (((c.stage, c.toolchain), (c.fault_toolchain, c.default_toolchain)), ((c.build_directory, c.source_root), c.overrides)))
+    (λ p. record {
+      stage = p.0.0.0;
+      toolchain = p.0.0.1;
+      fault_toolchain = p.0.1.0;
+      default_toolchain = p.0.1.1;
+      build_directory = p.1.0.0;
+      source_root = p.1.0.1;
+      overrides = p.1.1;
+    }) (λ _. refl)
 
 abbrev pub setting_code : Coded Setting
 setting_code =
-    code_by (((Context × FileKind) × OpenBlock) × (List ℕ × List ℕ)) (coded× (coded× (coded× context_code kind_code) open_code) (coded× text_code text_code)) (λ s. (((s.context, s.kind), s.inside), (s.file, s.directory))) (λ p. record { context = p.0.0.0; kind = p.0.0.1; file = p.1.0; directory = p.1.1; inside = p.0.1 }) (λ _. refl)
+    code_by (((Context × FileKind) × OpenBlock) × (List ℕ × List ℕ))
+    (coded× (coded× (coded× context_code kind_code) open_code) (coded× text_code text_code))
+    (λ s. (((s.context, s.kind), s.inside), (s.file, s.directory)))
+    (λ p. record { context = p.0.0.0; kind = p.0.0.1; file = p.1.0; directory = p.1.1; inside = p.0.1 }) (λ _. refl)
 
 abbrev pub caller_code : Coded Caller
 caller_code =
-    code_by (ChainState × (Option DefinitionState × List ℕ)) (coded× chain_code (coded× (coded_option definition_code) text_code)) (λ c. (c.chain, (c.body, c.file))) (λ p. record { chain = p.0; body = p.1.0; file = p.1.1 }) (λ _. refl)
+    code_by (ChainState × (Option DefinitionState × List ℕ))
+    (coded× chain_code (coded× (coded_option definition_code) text_code))
+    (λ c. (c.chain, (c.body, c.file)))
+    (λ p. record { chain = p.0; body = p.1.0; file = p.1.1 }) (λ _. refl)
 
 abbrev pub environment_code : Coded Environment
 environment_code =
-    code_by (((Setting × ChainState) × (Option DefinitionState × List Caller)) × ((List ScopeState × List ℕ) × ((List DefinitionState × MadeBy) × ℕ))) (coded× (coded× (coded× setting_code chain_code) (coded× (coded_option definition_code) (coded_list caller_code))) (coded× (coded× (coded_list scope_code) text_code) (coded× (coded× (coded_list definition_code) made_code) coded_ℕ))) (λ e. (((e.setting, e.chain), (e.body, e.callers)), ((e.beneath, e.execution), ((e.made, e.definitions), e.depth)))) (λ p. record { setting = p.0.0.0; chain = p.0.0.1; body = p.0.1.0; callers = p.0.1.1; beneath = p.1.0.0; execution = p.1.0.1; made = p.1.1.0.0; definitions = p.1.1.0.1; depth = p.1.1.1 }) (λ _. refl)
+    code_by (((Setting × ChainState) × (Option DefinitionState × List Caller)) × ((List ScopeState × List ℕ) × ((List DefinitionState × MadeBy) × ℕ)))
+    (coded× (coded× (coded× setting_code chain_code) (coded× (coded_option definition_code) (coded_list caller_code)))
+    (coded× (coded× (coded_list scope_code) text_code) (coded× (coded× (coded_list definition_code) made_code) coded_ℕ)))
+    (λ e. (((e.setting, e.chain), (e.body, e.callers)), ((e.beneath, e.execution), ((e.made, e.definitions), e.depth))))
+    (λ p. record {
+      setting = p.0.0.0;
+      chain = p.0.0.1;
+      body = p.0.1.0;
+      callers = p.0.1.1;
+      beneath = p.1.0.0;
+      execution = p.1.0.1;
+      made = p.1.1.0.0;
+      definitions = p.1.1.0.1;
+      depth = p.1.1.1;
+    }) (λ _. refl)

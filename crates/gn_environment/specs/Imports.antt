@@ -113,7 +113,9 @@ abbrev pub with_imported : ScopeState → LayerState → LayerState
 with_imported scope layer = with_imported_calls scope (all_given scope.variables layer)
 
 abbrev pub with_import : ImportState → Environment → Environment
-with_import value env = record (values_given value.scope.variables env) { chain = in_block (with_imported_calls value.scope) (values_given value.scope.variables env).chain }
+with_import value env = record (values_given value.scope.variables env) {
+  chain = in_block (with_imported_calls value.scope) (values_given value.scope.variables env).chain;
+}
 
 abbrev pub merged_unless : Option (List ℕ) → Environment → Result Environment (List ℕ)
 merged_unless (Some name) env = Err name

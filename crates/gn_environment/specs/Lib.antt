@@ -12,6 +12,7 @@ pub mod Declaring
 pub mod Surroundings
 pub mod Shown
 pub mod Within
+pub mod Laws
 pub mod Faults
 pub mod Codes
 pub mod Lending

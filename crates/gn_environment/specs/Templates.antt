@@ -1,5 +1,6 @@
 -- Templates: what a definition keeps, which one a name means, and the scopes in which a call's block and its body run.
-use Rattle.std.specs.Prelude.{ℕ, Bool, ◌&&◌, not, true, nat_eq, if◌then◌else◌, List, [], ◌∷◌, ◌++◌, filter, map, length, Option, Some, None, Result, Ok, Err, is_some, slice_get, codes}
+use Rattle.std.specs.Prelude.{ℕ, Bool, ◌&&◌, not, true, nat_eq, if◌then◌else◌, List, [], ◌∷◌, ◌++◌, filter, map, length}
+use Rattle.std.specs.Prelude.{Option, Some, None, Result, Ok, Err, is_some, slice_get, codes}
 use Rattle.std.specs.List.{list_any}
 use Rattle.std.specs.Str.{bytes_eq}
 use Rattle.gn_paths.specs.declared.place.Place.{Place}

@@ -11,7 +11,8 @@ use Rattle.gn_environment.specs.Shown.{IsInOrder}
 -- a definition itself, and each that is made while the body of such a one runs, however deep
 pub data IsWithin (outermost : DefinitionState) : DefinitionState → Type 0 where
   itself : IsWithin outermost outermost
-  made_inside : (body : DefinitionState) (position : Position) (nesting : ℕ) (block : BlockTree) (env : Environment) → IsWithin outermost body → env.body ≡ Some body → IsWithin outermost (new_definition position nesting block env)
+  made_inside : (body : DefinitionState) (position : Position) (nesting : ℕ) (block : BlockTree) (env : Environment)
+      → IsWithin outermost body → env.body ≡ Some body → IsWithin outermost (new_definition position nesting block env)
 
 -- the tables of variables and of defaults of each of the layers are in order
 abbrev pub AreInOrder : List LayerState → Type 0
