@@ -5,9 +5,21 @@ use Rattle.gn_values.specs.Tables.{Table}
 use Rattle.gn_environment.specs.Chains.{is_one_of, chain_read}
 use Rattle.gn_environment.specs.Environment.{Environment, restored, given}
 use Rattle.gn_environment.specs.Templates.{with_caller, in_block}
-use Rattle.gn_environment.specs.Invoker.{entries_by, invoker_entries, after_invoker_read, after_caller_read}
-use Rattle.gn_environment.specs.Forwarding.{Origin, from_entries, from_invoker, given_if, names_given, entries_given, target_name, all_forwarded}
+use Rattle.gn_environment.specs.Invoker.{caller_value, entries_by, invoker_entries, after_invoker_read, after_caller_read}
+use Rattle.gn_environment.specs.Forwarding.{Origin, from_entries, from_invoker, origin_value, forwarded_names, given_if, names_given, entries_given, target_name, all_forwarded}
+use Rattle.gn_callers.specs.Origins.{value_from, names_there}
 use Rattle.gn_environment.specs.Giving.{all_given, entries_but, found_before, entries_at, origin_entries, read_at, read_at_origin, read_all_at}
+
+-- what a name has from where variables are forwarded
+pub value_there : (origin : Origin) (env : Environment) (name : List ℕ) → value_from origin env.callers name ≡ origin_value origin env name
+unfolding caller_value
+value_there (from_entries entries) env name = refl
+value_there (from_invoker outer) env name = refl
+
+-- the names that are there
+pub names_are_there : (origin : Origin) (names except : List (List ℕ)) (env : Environment) → names_there (value_from origin env.callers) names except ≡ forwarded_names origin names except env
+names_are_there origin names except env =
+    λ i. names_there (λ n. value_there origin env n i) names except
 
 -- the environment with these names given their values in the innermost scope
 abbrev pub giving : Table Val → Environment → Environment

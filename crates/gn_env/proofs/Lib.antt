@@ -2,4 +2,3 @@ pub mod Forwarded
 pub mod Merging
 pub mod InScope
 pub mod Searched
-pub mod OuterInvoker

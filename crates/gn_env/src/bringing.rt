@@ -2,14 +2,16 @@
 
 ghost use Rattle.std.specs.Prelude.{◌≡◌, ◌++◌, IfOk, OnOk, OnErr, IfErr, IfSome, Ok, Err, map};
 ghost use Rattle.gn_values.specs.View.{entry_of};
-ghost use Rattle.gn_environment.specs.Declaring.{place_brought, places_brought, brought, import_brought, names_brought, all_brought};
+ghost use Rattle.gn_environment.specs.Declaring.{place_brought, places_brought, brought, import_brought, names_brought, names_of_all, all_brought};
+ghost use Rattle.gn_environment.specs.Forwarding.{forwarded_names};
 ghost use Rattle.gn_env.specs.Arguments.{brought_state};
 ghost use Rattle.gn_env.specs.Conflicts.{conflict_of};
 ghost use Rattle.gn_env.specs.Origins.{origin_of, name_set};
 
 use crate::env::Env;
-use crate::forwarding::{ForwardError, Origin, copies_but};
+use crate::forwarding::ForwardError;
 use crate::imports::MergeError;
+use gn_callers::Origin;
 use gn_definitions::ImportValue;
 use gn_paths::{Text, Texts};
 use gn_tree::Position;
@@ -39,11 +41,7 @@ impl Env {
             (λ name. import_brought position value.now self.old ≡ Err name)) }
         ensures err { OnErr result (self.new ≡ self.old) }
     {
-        if !self.declares() {
-            return self.merge(alloc, value);
-        }
-        let names = names_of(alloc, value.scope().variables().as_slice())?;
-        let places = self.places_brought(alloc, position, &names)?;
+        let places = self.import_places(alloc, value, position)?;
         self.merge(alloc, value)?;
         self.declare_brought(&places);
         Ok(())
@@ -69,11 +67,7 @@ impl Env {
             ≡ Err name)) }
         ensures err { OnErr result (self.new ≡ self.old) }
     {
-        if !self.declares() {
-            return self.forward_names(alloc, from, names, except);
-        }
-        let chosen = self.chosen(alloc, from, names, except)?;
-        let places = self.places_brought(alloc, position, &chosen)?;
+        let places = self.name_places(alloc, from, names, except, position)?;
         self.forward_names(alloc, from, names, except)?;
         self.declare_brought(&places);
         Ok(())
@@ -93,12 +87,7 @@ impl Env {
             (self.new ≡ all_brought position (origin_of from.entry) except.now self.old) }
         ensures err { OnErr result (self.new ≡ self.old) }
     {
-        if !self.declares() {
-            return self.forward_all(alloc, from, except);
-        }
-        let copies = copies_but(alloc, &self.callers, from, except)?;
-        let names = names_of(alloc, &copies)?;
-        let places = self.places_brought(alloc, position, &names)?;
+        let places = self.all_places(alloc, from, except, position)?;
         self.forward_all(alloc, from, except)?;
         self.declare_brought(&places);
         Ok(())
@@ -146,22 +135,73 @@ impl Env {
         Ok(places)
     }
 
-    // Where the names are declared that a call at the position brings into the innermost scope, if that declares names.
-    fn places_brought(
+    // Where the variables of an import are declared that a call at the position brings into the innermost scope, if that declares
+    // names.
+    fn import_places(
         &self,
         alloc: Global,
+        value: &ImportValue,
         position: Position,
-        names: &[&Text],
     ) -> Result<Vec<Brought>, AllocError>
-        ensures { IfOk result
-            (λ places. map brought_state places.items
-            ≡ places_brought position self.now (map (λ n. n.now) names.now)) }
+        ensures { IfOk result (λ places. map brought_state places.items
+            ≡ places_brought position self.now (map (λ v. v.0) value.now.scope.variables)) }
     {
-        if self.declares() {
-            self.each_brought(alloc, position, names)
-        } else {
-            Ok(Vec::new(alloc))
+        if !self.declares() {
+            return Ok(Vec::new(alloc));
         }
+        self.entry_places(alloc, value.scope().variables().as_slice(), position)
+    }
+
+    // The same of the names of a list that are forwarded.
+    fn name_places(
+        &self,
+        alloc: Global,
+        from: Origin<'_>,
+        names: &Texts,
+        except: &Texts,
+        position: Position,
+    ) -> Result<Vec<Brought>, AllocError>
+        ensures { IfOk result (λ places. map brought_state places.items
+            ≡ places_brought position self.now
+            (forwarded_names (origin_of from.entry) names.now except.now self.now)) }
+    {
+        if !self.declares() {
+            return Ok(Vec::new(alloc));
+        }
+        let chosen = self.chosen(alloc, from, names, except)?;
+        self.each_brought(alloc, position, &chosen)
+    }
+
+    // The same of all names that are forwarded.
+    fn all_places(
+        &self,
+        alloc: Global,
+        from: Origin<'_>,
+        except: &Texts,
+        position: Position,
+    ) -> Result<Vec<Brought>, AllocError>
+        ensures { IfOk result (λ places. map brought_state places.items
+            ≡ places_brought position self.now (names_of_all (origin_of from.entry) except.now self.now)) }
+    {
+        if !self.declares() {
+            return Ok(Vec::new(alloc));
+        }
+        let entries = self.callers.entries_from(alloc, from, except)?;
+        self.entry_places(alloc, &entries, position)
+    }
+
+    // Where the names of entries are declared that a call at the position brings into the innermost scope, which declares names.
+    fn entry_places(
+        &self,
+        alloc: Global,
+        entries: &[Entry],
+        position: Position,
+    ) -> Result<Vec<Brought>, AllocError>
+        ensures { IfOk result (λ places. map brought_state places.items
+            ≡ map (place_brought position self.now) (map (λ e. e.0) (map entry_of entries.now))) }
+    {
+        let names = names_of(alloc, entries)?;
+        self.each_brought(alloc, position, &names)
     }
 
     // Declares names of the innermost scope at these places.

@@ -5,7 +5,9 @@ ghost use Rattle.std.specs.Prelude.{◌≡◌, ◌≢◌, [], ◌++◌, OnOk, On
 ghost use Rattle.gn_values.specs.Limits.{scope_fits};
 ghost use Rattle.gn_values.specs.View.{val_of};
 ghost use Rattle.gn_environment.specs.Chains.{shown_or};
-ghost use Rattle.gn_environment.specs.Environment.{new_environment, fixed_value, kept_by, value_of, after_read, after_assignment, after_assignment_over, after_element_assignment, after_element_assignment_over, entered, left, entries_here, reported_here, variable_here, restored, given, with_open};
+ghost use Rattle.gn_environment.specs.Environment.{new_environment, fixed_value, kept_by, value_of, after_read, after_assignment};
+ghost use Rattle.gn_environment.specs.Environment.{after_assignment_over, after_element_assignment, after_element_assignment_over, entered, left};
+ghost use Rattle.gn_environment.specs.Environment.{entries_here, reported_here, variable_here, restored, given, with_open};
 ghost use Rattle.gn_environment.specs.Declaring.{declaring_entered, name_declared, declared_here};
 ghost use Rattle.gn_environment.specs.Faults.{fault_in};
 ghost use Rattle.gn_layers.specs.Errors.{refusal_of, element_refusal_of};
@@ -13,7 +15,7 @@ ghost use Rattle.gn_environment.specs.Lending.{Ends};
 ghost use Rattle.gn_layers.specs.View.{variable_state};
 ghost use Rattle.gn_env.specs.contracts.env.Env.{the_row};
 
-use crate::caller::Caller;
+use gn_callers::Callers;
 use gn_definitions::{Definition, Definitions, KeptScope, MadeBy};
 use gn_environment::{Context, OpenBlock};
 use gn_faults::{Code, Fault, FileKind};
@@ -24,7 +26,6 @@ use gn_scopes::NamedScopes;
 use gn_tree::{AssignOp, Position};
 use gn_values::{Bindings, Entries, Value, ValueError};
 use std::alloc::{AllocError, Global};
-use std::collections::VecDeque;
 use std::marker::Model;
 use std::sync::Arc;
 
@@ -42,7 +43,7 @@ pub struct Env {
     pub(crate) inside: OpenBlock,
     pub(crate) scopes: NamedScopes,
     pub(crate) body: Option<Arc<Definition>>,
-    pub(crate) callers: VecDeque<Caller>,
+    pub(crate) callers: Callers,
     pub(crate) beneath: Vec<Arc<KeptScope>>,
     pub(crate) execution: Text,
     pub(crate) made: Definitions,
@@ -63,7 +64,7 @@ impl Model for Env {
       setting = record { context = a.context.value; kind = a.kind; file = a.file; directory = a.directory; inside = a.inside };
       chain = a.scopes;
       body = option_map (λ d. d.value) a.body;
-      callers = a.callers.items;
+      callers = a.callers;
       beneath = map (λ f. f.value) a.beneath.items;
       execution = a.execution;
       made = a.made;
@@ -121,7 +122,7 @@ impl Env {
             inside: OpenBlock::Nothing,
             scopes: NamedScopes::new(alloc, checked),
             body: None,
-            callers: VecDeque::new(alloc),
+            callers: Callers::new(alloc),
             beneath,
             execution,
             made: Definitions::new(alloc),
@@ -150,7 +151,7 @@ impl Env {
             inside: self.inside,
             scopes: NamedScopes::new(alloc, false),
             body: None,
-            callers: VecDeque::new(alloc),
+            callers: Callers::new(alloc),
             beneath: Vec::new(alloc),
             execution,
             made: Definitions::new(alloc),

@@ -1,33 +1,16 @@
 // Forwarding variables, and names that count as read.
 
-ghost use Rattle.std.specs.Prelude.{◌≡◌, ◌∷◌, ◌++◌, ◌&&◌, not, is_some, IfOk, OnOk, OnErr, IfErr, IfSome, Err, Ok, map, option_map};
+ghost use Rattle.std.specs.Prelude.{◌≡◌, IfOk, OnOk, OnErr, IfErr, IfSome, Err, Ok, map, option_map};
 ghost use Rattle.std.specs.List.{find};
-ghost use Rattle.gn_values.specs.View.{val_of, entry_of};
-ghost use Rattle.gn_environment.specs.Chains.{is_one_of};
-ghost use Rattle.gn_environment.specs.Invoker.{entries_by};
-ghost use Rattle.gn_environment.specs.Forwarding.{origin_value, forwarded_names, names_given, is_set_here, forwarded_unless, names_forwarded, all_forwarded, after_names_read_here, after_all_read_here, target_name};
-ghost use Rattle.gn_environment.specs.Giving.{entries_but, entries_at, origin_entries, read_at, read_at_origin, read_all_at};
+ghost use Rattle.gn_environment.specs.Forwarding.{origin_value, forwarded_names, names_given, is_set_here, forwarded_unless};
+ghost use Rattle.gn_environment.specs.Forwarding.{names_forwarded, all_forwarded, after_names_read_here, after_all_read_here};
 ghost use Rattle.gn_env.specs.Origins.{origin_of, name_set};
 
-use crate::caller::Caller;
 use crate::env::Env;
-use crate::invoker::{caller_value, read_at_caller, read_block};
+use gn_callers::Origin;
 use gn_layers::NameSet;
 use gn_paths::{Text, Texts};
-use gn_scopes::copied_but;
-use gn_values::{Entries, Entry, Value};
 use std::alloc::{AllocError, Global};
-use std::collections::VecDeque;
-
-/// From where variables are forwarded.
-#[derive(Clone, Copy)]
-pub enum Origin<'a> {
-    /// The entries of a scope.
-    Entries(&'a Entries),
-    /// The invoker. With names, what stands around the block of the call is forwarded too, and the invoker around the call
-    /// as this value, if it is looked for.
-    Invoker(Option<&'a Value>),
-}
 
 /// Why variables aren't forwarded.
 #[derive(Debug, Drop)]
@@ -86,9 +69,9 @@ impl Env {
         ensures ok { OnOk result (self.new ≡ all_forwarded (origin_of from.entry) except.now self.old) }
         ensures err { OnErr result (self.new ≡ self.old) }
     {
-        let copies = copies_but(alloc, &self.callers, from, except)?;
+        let copies = self.callers.entries_from(alloc, from, except)?;
         self.scopes.give_all(alloc, copies)?;
-        read_all_at(&mut self.callers, from);
+        self.callers.read_all_from(from);
         Ok(())
     }
 
@@ -121,19 +104,8 @@ impl Env {
         Ok(())
     }
 
-    // What a name has there from where it is forwarded.
-    #[tactic(auto, unfolding(gn_environment::specs::Invoker::caller_value))]
-    fn origin_value<'a>(&'a self, from: Origin<'a>, name: &Text) -> Option<&'a Value>
-        ensures { option_map (λ v. val_of v.now) result
-            ≡ origin_value (origin_of from.entry) self.now name.now }
-    {
-        match from {
-            Origin::Entries(entries) => entries.get(name.as_bytes()),
-            Origin::Invoker(outer) => caller_value(&self.callers, name, outer),
-        }
-    }
-
     /// The names that are there, but for the excepted ones, by the list of these.
+    #[tactic(auto, using(crate::proofs::Forwarded::names_are_there))]
     pub(crate) fn chosen<'a>(
         &self,
         alloc: Global,
@@ -144,10 +116,7 @@ impl Env {
         ensures { IfOk result (λ chosen. map (λ n. n.now) chosen.items
             ≡ forwarded_names (origin_of from.entry) names.now except.now self.now) }
     {
-        let except = NameSet::new(alloc, except)?;
-        let mut chosen = Vec::new(alloc);
-        self.choose(from, names, &except, &mut chosen)?;
-        Ok(chosen)
+        self.callers.names_from(alloc, from, names, except)
     }
 
     // Forwards names that are there, unless the innermost scope has one of them. After a refusal nothing is changed.
@@ -175,35 +144,6 @@ impl Env {
                 Ok(())
             }
         }
-    }
-
-    // Whether a name is there, and isn't one of the excepted ones.
-    fn is_chosen(&self, from: Origin<'_>, name: &Text, except: &NameSet<'_>) -> bool
-        ensures { result
-            ≡ (not (is_one_of name.now except.now)
-            && is_some (origin_value (origin_of from.entry) self.now name.now)) }
-    {
-        !except.has(name.as_bytes()) && self.origin_value(from, name).is_some()
-    }
-
-    // Puts the names that are there, but for the excepted ones, behind others.
-    fn choose<'a>(
-        &self,
-        from: Origin<'_>,
-        names: &'a Texts,
-        except: &NameSet<'_>,
-        chosen: &mut Vec<&'a Text>,
-    ) -> Result<(), AllocError>
-        ensures { OnOk result (map (λ n. n.now) chosen.new.items
-            ≡ map (λ n. n.now) chosen.old.items
-            ++ forwarded_names (origin_of from.entry) names.now except.now self.now) }
-    {
-        for name in names.as_slice() {
-            if self.is_chosen(from, name, except) {
-                chosen.push(name)?;
-            }
-        }
-        Ok(())
     }
 
     /// Whether the innermost scope has a name; that of a body has the invoker.
@@ -239,100 +179,9 @@ impl Env {
             (map (λ n. n.now) names.now) self.old) }
         ensures err { OnErr result (self.new ≡ self.old) }
     {
-        let entries = self.copies_at(alloc, from, names)?;
+        let entries = self.callers.copies_from(alloc, from, names)?;
         self.scopes.give_all(alloc, entries)?;
-        read_at_origin(&mut self.callers, from, names);
+        self.callers.read_from(from, names);
         Ok(())
-    }
-
-    // The names that are there, with copies of their values.
-    fn copies_at(
-        &self,
-        alloc: Global,
-        from: Origin<'_>,
-        names: &[&Text],
-    ) -> Result<Vec<Entry>, AllocError>
-        ensures { IfOk result (λ entries. map entry_of entries.items
-            ≡ entries_at (origin_value (origin_of from.entry) self.now) (map (λ n. n.now) names.now)) }
-    {
-        let mut entries = Vec::new(alloc);
-        for name in names {
-            if let Some(value) = self.origin_value(from, name) {
-                entries.push(copied_entry(alloc, name, value)?)?;
-            }
-        }
-        Ok(entries)
-    }
-}
-
-// An entry of copies of a name and a value.
-fn copied_entry(alloc: Global, name: &Text, value: &Value) -> Result<Entry, AllocError>
-    ensures { IfOk result (λ entry. entry_of entry ≡ (name.now, val_of value.now)) }
-{
-    let name = name.copy(alloc)?;
-    let value = value.copy(alloc)?;
-    Ok(Entry { name, value })
-}
-
-/// Copies of what stands directly there from where names are forwarded, but for `target_name` and the excepted names.
-pub(crate) fn copies_but(
-    alloc: Global,
-    callers: &VecDeque<Caller>,
-    from: Origin<'_>,
-    except: &Texts,
-) -> Result<Vec<Entry>, AllocError>
-    ensures { IfOk result (λ copies. map entry_of copies.items
-        ≡ entries_but (target_name ∷ except.now)
-        (origin_entries (origin_of from.entry) callers.now.items)) }
-{
-    let except = NameSet::new(alloc, except)?;
-    match from {
-        Origin::Entries(entries) => copied_but(alloc, entries.as_slice(), &except),
-        Origin::Invoker(_) => block_but(alloc, callers, &except),
-    }
-}
-
-// A read of all that stands directly there from where names are forwarded.
-fn read_all_at(callers: &mut VecDeque<Caller>, from: Origin<'_>)
-    ensures { callers.new.items ≡ read_all_at (origin_of from.entry) callers.old.items }
-{
-    match from {
-        Origin::Entries(_) => {}
-        Origin::Invoker(_) => read_block(callers),
-    }
-}
-
-// Copies of what stands directly in the block of the innermost caller's call, but for `target_name` and the excepted names.
-fn block_but(
-    alloc: Global,
-    callers: &VecDeque<Caller>,
-    except: &NameSet<'_>,
-) -> Result<Vec<Entry>, AllocError>
-    ensures { IfOk result (λ copies. map entry_of copies.items
-        ≡ entries_but (target_name ∷ except.now) (entries_by callers.now.items)) }
-{
-    match callers.front() {
-        Some(caller) => caller.scopes.copies_here_but(alloc, except),
-        None => Ok(Vec::new(alloc)),
-    }
-}
-
-// A read of each name there from where it is forwarded.
-fn read_at_origin(callers: &mut VecDeque<Caller>, from: Origin<'_>, names: &[&Text])
-    ensures { callers.new.items
-        ≡ read_at_origin (origin_of from.entry) (map (λ n. n.now) names.now) callers.old.items }
-{
-    match from {
-        Origin::Entries(_) => {}
-        Origin::Invoker(_) => read_names_at_caller(callers, names),
-    }
-}
-
-// A read of each name where the innermost caller called.
-fn read_names_at_caller(callers: &mut VecDeque<Caller>, names: &[&Text])
-    ensures { callers.new.items ≡ read_at (map (λ n. n.now) names.now) callers.old.items }
-{
-    for name in names {
-        read_at_caller(callers, name);
     }
 }

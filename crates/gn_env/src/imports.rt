@@ -2,7 +2,8 @@
 
 ghost use Rattle.std.specs.Prelude.{◌≡◌, IfOk, OnOk, OnErr, IfErr, IfSome, option_map};
 ghost use Rattle.gn_values.specs.Tables.{with_name};
-ghost use Rattle.gn_environment.specs.Imports.{import_left, scope_left, whole_scope, configuration_left, merged, merged_known, conflict_in, invoker_brought, lesser, first_name, other_value, other_template, other_defaults};
+ghost use Rattle.gn_environment.specs.Imports.{import_left, scope_left, whole_scope, configuration_left, merged, merged_known, conflict_in};
+ghost use Rattle.gn_environment.specs.Imports.{invoker_brought, lesser, first_name, other_value, other_template, other_defaults};
 ghost use Rattle.gn_env.specs.Conflicts.{conflict_of};
 
 use crate::env::Env;

@@ -2,7 +2,6 @@
 #![tactic(auto)]
 
 mod bringing;
-mod caller;
 mod declaring;
 mod env;
 mod forwarding;
@@ -13,6 +12,7 @@ mod templates;
 
 pub use declaring::Argument;
 pub use env::Env;
-pub use forwarding::{ForwardError, Origin};
+pub use forwarding::ForwardError;
+pub use gn_callers::Origin;
 pub use imports::MergeError;
 pub use templates::GiveError;

@@ -1,20 +1,16 @@
 // The invoker around a call: where a template was called in the body of another one, the invoker of that body.
 
-ghost use Rattle.std.specs.Prelude.{◌≡◌, ◌≢◌, if◌then◌else◌, IfOk, OnOk, IfErr, true, false, Some, None, option_map};
+ghost use Rattle.std.specs.Prelude.{◌≡◌, ◌≢◌, IfOk, OnOk, IfErr, true, false};
 ghost use Rattle.gn_values.specs.Limits.{scope_fits};
 ghost use Rattle.gn_values.specs.Val.{vscope, binds_of};
 ghost use Rattle.gn_values.specs.View.{val_of};
-ghost use Rattle.gn_environment.specs.Chains.{is_one_of, all_read};
-ghost use Rattle.gn_environment.specs.Templates.{with_caller, in_block};
-ghost use Rattle.gn_environment.specs.Invoker.{invoker_name, entries_by, callers_behind, behind_first, has_outer_invoker, forwards_outer_invoker, outer_invoker_entries, after_outer_invoker_read};
+ghost use Rattle.gn_environment.specs.Invoker.{forwards_outer_invoker, outer_invoker_entries, after_outer_invoker_read};
 
-use crate::caller::Caller;
 use crate::env::Env;
-use crate::invoker::entries_here;
-use gn_paths::{Text, Texts};
-use gn_values::{Entries, Value, ValueError};
+use gn_callers::invoker_among;
+use gn_paths::Texts;
+use gn_values::{Value, ValueError};
 use std::alloc::Global;
-use std::collections::VecDeque;
 
 impl Env {
     /// Whether the invoker around the call is among names of the invoker, and isn't excepted: the template was called in
@@ -25,7 +21,7 @@ impl Env {
     {
         match invoker_among(names) {
             Some(name) => {
-                invoker_among(except).is_none() && has_outer_invoker(&self.callers, name)
+                invoker_among(except).is_none() && self.callers.has_outer_invoker(name)
             }
             None => false,
         }
@@ -42,7 +38,7 @@ impl Env {
             (λ e. e ≢ ValueError.Memory
             → (e ≡ ValueError.TooLong) × (scope_fits (outer_invoker_entries self.now) ≡ false)) }
     {
-        let entries = outer_entries(&self.callers, alloc)?;
+        let entries = self.callers.outer_block_entries(alloc)?;
         Ok(Value::Scope(entries))
     }
 
@@ -51,54 +47,6 @@ impl Env {
     pub fn read_outer_invoker(&mut self)
         ensures { self.new ≡ after_outer_invoker_read self.old }
     {
-        read_outer_block(&mut self.callers);
-    }
-}
-
-// The name of the invoker, if it is one of these.
-#[tactic(auto, using(crate::proofs::OuterInvoker::is_invoker_name))]
-fn invoker_among(names: &Texts) -> Option<&Text>
-    ensures { option_map (λ n. n.now) result
-        ≡ (if is_one_of invoker_name names.now then Some invoker_name else None) }
-{
-    for name in names.as_slice() {
-        if b"invoker".as_slice() == name.as_bytes() {
-            return Some(name);
-        }
-    }
-    None
-}
-
-// Whether a name that is the invoker stands around the call of the innermost caller.
-fn has_outer_invoker(callers: &VecDeque<Caller>, name: &Text) -> bool
-    ensures { result ≡ has_outer_invoker name.now callers.now.items }
-{
-    match callers.front() {
-        Some(caller) => callers.len() > 1 && caller.scopes.variable(name.as_bytes()).is_none(),
-        None => false,
-    }
-}
-
-// Copies of what stands directly in the block of the call behind that of the innermost caller.
-fn outer_entries(callers: &VecDeque<Caller>, alloc: Global) -> Result<Entries, ValueError>
-    ensures ok { IfOk result (λ entries. entries ≡ entries_by (callers_behind callers.now.items)) }
-    ensures fits { OnOk result (scope_fits (entries_by (callers_behind callers.now.items)) ≡ true) }
-    ensures refused { IfErr result
-        (λ e. e ≢ ValueError.Memory
-        → (e ≡ ValueError.TooLong)
-        × (scope_fits (entries_by (callers_behind callers.now.items)) ≡ false)) }
-{
-    match callers.get(1) {
-        Some(caller) => entries_here(&caller.scopes, alloc),
-        None => Ok(Entries::new(alloc)),
-    }
-}
-
-// A read of all names of that block.
-fn read_outer_block(callers: &mut VecDeque<Caller>)
-    ensures { callers.new.items ≡ behind_first (with_caller (in_block all_read)) callers.old.items }
-{
-    if let Some(caller) = callers.get_mut(1) {
-        caller.scopes.read_all_here();
+        self.callers.read_outer_block();
     }
 }

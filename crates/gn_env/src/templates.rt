@@ -5,12 +5,13 @@ ghost use Rattle.gn_tree.specs.Depth.{IsShallow};
 ghost use Rattle.gn_values.specs.Tables.{at_name};
 ghost use Rattle.gn_values.specs.View.{entry_of};
 ghost use Rattle.gn_environment.specs.Environment.{behind};
-ghost use Rattle.gn_environment.specs.Templates.{definition_of, is_visible, if_named, template_among, template_of, has_template_here, standing_in, scope_here, new_definition, template_defined, defaults_of, defaults_among, defaults_set, table_given, defaults_given, at_depth, block_begins, body_begins, body_ends, reported_by_invoker};
+ghost use Rattle.gn_environment.specs.Templates.{definition_of, is_visible, if_named, template_among, template_of, has_template_here, standing_in};
+ghost use Rattle.gn_environment.specs.Templates.{scope_here, new_definition, template_defined, defaults_of, defaults_among, defaults_set};
+ghost use Rattle.gn_environment.specs.Templates.{table_given, defaults_given, at_depth, block_begins, body_begins, body_ends, reported_by_invoker};
 ghost use Rattle.gn_env.specs.Defaults.{already_set};
 
-use crate::caller::Caller;
 use crate::env::Env;
-use crate::invoker::read_block;
+use gn_callers::Caller;
 use gn_definitions::{Definition, DefinitionName, KeptScope};
 use gn_kept::{defaults_in_layers, defaults_in_scopes, is_inside, kept_by_body, standing_in};
 use gn_layers::{Layer, Variable};
@@ -20,7 +21,6 @@ use gn_tree::{Block, Position};
 use gn_values::{Bindings, Entry};
 use std::alloc::{AllocError, Global};
 use std::collections::{BTreeMap, VecDeque};
-use std::mem;
 use std::sync::Arc;
 
 /// Why names aren't given values.
@@ -97,7 +97,7 @@ impl Env {
         self.scopes
             .define(alloc, name, named, &mut self.made, definition)?;
         self.scopes.read_all();
-        read_block(&mut self.callers);
+        self.callers.read_block();
         Ok(())
     }
 
@@ -152,16 +152,11 @@ impl Env {
         ensures ok { OnOk result (self.new ≡ body_begins definition.value name.now self.old) }
         ensures err { OnErr result (self.new ≡ self.old) }
     {
-        self.callers.reserve(1)?;
         let file = definition.place().file.copy(alloc)?;
         let scopes = NamedScopes::named(alloc, name)?;
-        let caller = Caller {
-            scopes: mem::replace(&mut self.scopes, scopes),
-            body: mem::replace(&mut self.body, Some(definition)),
-            file: mem::replace(&mut self.file, file),
-        };
-        self.callers.push_front_reserved(caller);
-        Ok(())
+        let begun = Caller::new(scopes, Some(definition), file);
+        self.callers
+            .begin(begun, &mut self.scopes, &mut self.body, &mut self.file)
     }
 
     /// The body of a template ends, and with it the scope of its call's block: the scopes around the call are open
@@ -170,7 +165,7 @@ impl Env {
     pub fn end_body(&mut self)
         ensures { self.new ≡ body_ends self.old }
     {
-        if let Some(caller) = self.callers.pop_front() {
+        if let Some(caller) = self.callers.end() {
             caller.back_in(&mut self.scopes, &mut self.body, &mut self.file);
         }
     }
@@ -190,9 +185,7 @@ impl Env {
     pub fn invoker_unread(&self) -> Option<(&Text, &[u8], Position)>
         ensures { option_map (λ p. (p.0.now, (p.1.now, p.2))) result ≡ reported_by_invoker self.now }
     {
-        let caller = self.callers.front()?;
-        let (name, position) = caller.scopes.unread()?;
-        Some((&caller.file, name, position))
+        self.callers.block_unread()
     }
 
     /// The definition that is named: one that this execution made, or another one. None comes exactly where it isn't

@@ -19,6 +19,6 @@ returns-clause-ok c =
     let copied : given ≡ entries_but (target_name ∷ except) (origin_entries origin env.callers)
     = c.in_ok-copies.ensures ∙ ap (λ (v : Environment). entries_but (target_name ∷ except) (origin_entries origin v.callers)) c.self.view_is in
     forwards_all except given env _ origin copied
-    (ap (λ (chain : ChainState). record before { chain = chain; callers = c.read_all_at.new.callers.items }) c.in_ok-give_all.ensures.ok
-    ∙ ap (λ (callers : List Caller). record (giving given before) { callers = callers }) c.read_all_at.ensures
+    (ap (λ (chain : ChainState). record before { chain = chain; callers = c.read_all_from.new.self }) c.in_ok-give_all.ensures.ok
+    ∙ ap (λ (callers : List Caller). record (giving given before) { callers = callers }) c.read_all_from.ensures
     ∙ ap (λ (v : Environment). record (giving given v) { callers = read_all_at origin v.callers }) c.self.view_is)

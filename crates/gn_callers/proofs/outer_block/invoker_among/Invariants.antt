@@ -1,7 +1,7 @@
 use Rattle.std.proofs.Common.{◌≡◌, drop}
 use Rattle.gn_environment.specs.Chains.{is_one_of}
 use Rattle.gn_environment.specs.Invoker.{invoker_name}
-use Rattle.gn_env.proofs.outer_invoker.invoker_among.Given as goal
+use Rattle.gn_callers.proofs.outer_block.invoker_among.Given as goal
 
 abbrev pub invariant-loop-name : goal.invariant-loop-name
 invariant-loop-name l =

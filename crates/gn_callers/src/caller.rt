@@ -1,4 +1,4 @@
-// The callers of templates whose bodies run.
+// One caller of a template whose body runs.
 
 ghost use Rattle.std.specs.Prelude.{◌≡◌, option_map};
 ghost use Rattle.gn_environment.specs.Chains.{chain_left};
@@ -12,7 +12,7 @@ use std::sync::Arc;
 /// Who called the template whose body runs: the layers there, the definition whose body runs in them, if it is one, and
 /// the file.
 #[derive(Drop)]
-pub(crate) struct Caller {
+pub struct Caller {
     pub(crate) scopes: NamedScopes,
     pub(crate) body: Option<Arc<Definition>>,
     pub(crate) file: Text,
@@ -31,9 +31,16 @@ impl Model for Caller {
 }
 
 impl Caller {
+    /// One that calls from these layers, in this body and in this file.
+    pub fn new(scopes: NamedScopes, body: Option<Arc<Definition>>, file: Text) -> Caller
+        ensures { result ≡ record { chain = scopes; body = option_map (λ d. d.value) body; file = file } }
+    {
+        Caller { scopes, body, file }
+    }
+
     /// Lets what was open where the caller called, but for the scope of its call's block, take the place of these scopes,
     /// of this body and of this file. It takes no memory.
-    pub(crate) fn back_in(
+    pub fn back_in(
         self,
         scopes: &mut NamedScopes,
         body: &mut Option<Arc<Definition>>,
