@@ -1,12 +1,15 @@
 -- How what the program answers stands to the meaning.
-use Rattle.std.specs.Prelude.{◌≡◌, ◌<◌, List, [], ◌∷◌, ◌++◌, Option, Some, Result, Ok, Err}
-use Rattle.gn_items.specs.Effects.{Effects}
+use Rattle.std.specs.Prelude.{◌≡◌, ◌<◌, ℕ, List, [], ◌∷◌, ◌++◌, Option, Some, Result, Ok, Err}
+use Rattle.gn_paths.specs.declared.place.Place.{Place}
+use Rattle.gn_items.specs.Effects.{Effects, with_asked}
 use Rattle.gn_runs.specs.Runs.{Question, content_of, import_of, Answers, wrong, spoiled, needs, Run}
 use Rattle.gn_environment.specs.Environment.{Environment}
 use Rattle.gn_meaning.specs.Steps.{Left, ends}
 use Rattle.gn_eval.specs.Library.{Need, LibraryState, Includes, GoesOn}
 use Rattle.gn_steps.specs.declared.step.StepEnd.{StepEnd}
 use Rattle.gn_steps.specs.declared.step.StepEnd.TheVariants as step
+use Rattle.gn_eval.specs.declared.library.LibStop.{LibStop}
+use Rattle.gn_eval.specs.declared.library.LibStop.TheVariants as stop
 use Rattle.gn_eval.specs.declared.ending.EvalEnd.{EvalEnd}
 use Rattle.gn_eval.specs.declared.ending.EvalEnd.TheVariants.{Wrong, Spoiled, Stopped, Memory}
 
@@ -14,6 +17,11 @@ use Rattle.gn_eval.specs.declared.ending.EvalEnd.TheVariants.{Wrong, Spoiled, St
 abbrev pub end_of_step : StepEnd → EvalEnd
 end_of_step (step.Wrong fault) = Wrong fault
 end_of_step step.Memory = Memory
+
+-- the end of an evaluation over a library that doesn't answer
+abbrev pub end_of_stop : LibStop → EvalEnd
+end_of_stop stop.Stopped = Stopped
+end_of_stop stop.Memory = Memory
 
 abbrev pub lifted : {T : Type 0} → Result T StepEnd → Result T EvalEnd
 lifted (Ok x) = Ok x
@@ -66,3 +74,10 @@ Evaluates view before after result env out run = Claims before after result (λ 
 
 abbrev pub EvaluatesSpent : {A T : Type 0} → (T → A) → LibraryState → LibraryState → Result T EvalEnd → Effects → (Answers → Run (Left A)) → Type 0
 EvaluatesSpent view before after result out run = Claims before after result (λ a. IsSpentRun view after.need result out (run a))
+
+-- the end where the import of the file at a path can't be used, whose call stands at the place: it was asked for; or want of memory
+abbrev pub IsSpoiled : EvalEnd → List ℕ → Place → Effects → Effects → Type 0
+IsSpoiled (Wrong fault) path place before after = ⊥
+IsSpoiled (Spoiled p q) path place before after = (p ≡ path) × (q ≡ place) × (after ≡ with_asked (import_of path) (with_asked (content_of path) before))
+IsSpoiled Stopped path place before after = ⊥
+IsSpoiled Memory path place before after = Unit {0}

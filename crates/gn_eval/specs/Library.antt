@@ -49,6 +49,12 @@ ImportLacks path place a need =
     ((a.contents path ≡ None) × (need ≡ record { question = content_of path; place = place }))
     ⊎ (IsThere (a.contents path) × (a.imports path ≡ None) × (need ≡ record { question = import_of path; place = place }))
 
+-- the content that a library has told
+abbrev pub content_told : Found → Content
+content_told (Bytes bytes) = has_bytes bytes
+content_told NoFile = is_absent
+content_told TooBig = is_too_big
+
 -- what a library answers to a content is what these answers have
 abbrev pub ContentAnswers : List ℕ → Answers → Found → Type 0
 ContentAnswers path a (Bytes bytes) = a.contents path ≡ Some (has_bytes bytes)

@@ -15,7 +15,7 @@ ghost use Rattle.gn_eval.specs.Ends.{Evaluates};
 ghost use Rattle.gn_eval.specs.Parts.{parts};
 
 use crate::changing::change;
-use crate::ending::EvalEnd;
+use crate::ending::{EvalEnd, lift};
 use crate::expressions::eval_values;
 use crate::level::Level;
 use crate::library::Library;
@@ -150,7 +150,7 @@ fn run_plain<L: Library + Definer>(
 {
     let arguments = call.arguments.as_slice();
     let values = eval_values(alloc, level.deeper(1), arguments, env, out, library)?;
-    Ok(apply_plain(alloc, plain, &values, call, env, out)?)
+    lift(apply_plain(alloc, plain, &values, call, env, out))
 }
 
 // The call of a function that changes where it stands.
@@ -177,7 +177,7 @@ fn run_changing<L: Library + Definer>(
         alloc,
         changing,
         invoker,
-        values,
+        &values,
         inside.nesting,
         call,
         env,
@@ -246,7 +246,7 @@ fn run_opened<L: Library + Definer>(
 {
     run_block_of(alloc, level.deeper(1), &call.block, env, out, library)?;
     run_body(alloc, level, &opened, call.position, env, out, library)?;
-    Ok(end_call(alloc, opened, call.position, env, out, library)?)
+    lift(end_call(alloc, opened, call.position, env, out, library))
 }
 
 /// The block behind a call, if there is one.
@@ -289,10 +289,7 @@ fn run_body<L: Library + Definer>(
             definition,
             name,
             ..
-        } => {
-            let definition = definition.clone()?;
-            run_template_body(alloc, level, definition, name, position, env, out, library)
-        }
+        } => { run_template_body(alloc, level, definition, name, position, env, out, library) }
         Opened::Item { .. } | Opened::Defaults { .. } | Opened::Arguments => Ok(()),
     }
 }
@@ -303,20 +300,19 @@ fn run_body<L: Library + Definer>(
 fn run_template_body<L: Library + Definer>(
     alloc: Global,
     level: Level,
-    definition: Arc<Definition>,
+    definition: &Arc<Definition>,
     name: &Text,
     position: Position,
     env: &mut Env,
     out: &mut Outcome,
     library: &mut L,
 ) -> Result<(), EvalEnd>
-    ensures { Evaluates (λ u. u) (L.state library.old) (L.state library.new) result env.new out.new (λ a. calls level.room a definition.value position
-        (body_begins definition.value name.now env.old) out.old) }
+    ensures { Evaluates (λ u. u) (L.state library.old) (L.state library.new) result env.new out.new (λ a. calls level.room a definition.now.value position
+        (body_begins definition.now.value name.now env.old) out.old) }
 {
-    let body = definition.clone()?;
-    env.begin_body(alloc, definition, name)?;
-    let Some(inside) = level.called(body.nesting()) else {
+    env.begin_body(alloc, definition.clone()?, name)?;
+    let Some(inside) = level.called(definition.nesting()) else {
         return Err(wrong(alloc, env, Code::Nesting, position).into());
     };
-    run_statements(alloc, inside, body.block(), env, out, library)
+    run_statements(alloc, inside, definition.block(), env, out, library)
 }

@@ -3,6 +3,7 @@
 ghost use Rattle.std.specs.Prelude.{◌≡◌};
 ghost use Rattle.gn_eval.specs.Ends.{lifted};
 
+use crate::library::LibStop;
 use gn_faults::Fault;
 use gn_paths::{Path, Place};
 use gn_steps::StepEnd;
@@ -42,6 +43,20 @@ impl From<StepEnd> for EvalEnd {
         match end {
             StepEnd::Wrong(fault) => EvalEnd::Wrong(fault),
             StepEnd::Memory => EvalEnd::Memory,
+        }
+    }
+}
+
+impl From<LibStop> for EvalEnd {
+    ghost use Rattle.std.specs.Prelude.{◌≡◌};
+    ghost use Rattle.gn_eval.specs.Ends.{end_of_stop};
+
+    ghost from_gives = { λ s e. e ≡ end_of_stop s };
+
+    fn from(stop: LibStop) -> EvalEnd {
+        match stop {
+            LibStop::Stopped => EvalEnd::Stopped,
+            LibStop::Memory => EvalEnd::Memory,
         }
     }
 }

@@ -13,7 +13,7 @@ ghost use Rattle.gn_eval.specs.Ends.{Evaluates};
 ghost use Rattle.gn_eval.specs.Operations.{IsOperand};
 
 use crate::calls::run_call;
-use crate::ending::EvalEnd;
+use crate::ending::{EvalEnd, lift};
 use crate::level::Level;
 use crate::library::Library;
 use crate::operations::{Operation, left_operand, operators_in};
@@ -73,10 +73,10 @@ fn eval_operand<L: Library + Definer>(
         (expr_of expr.now) env.old out.old) }
 {
     match expr {
-        Expr::Name { position, name } => Ok(read_name(alloc, name, *position, env)?),
+        Expr::Name { position, name } => lift(read_name(alloc, name, *position, env)),
         Expr::Integer { value, .. } => Ok(Value::Int(*value)),
         Expr::String { position, pieces } => {
-            Ok(expand(alloc, pieces.as_slice(), *position, env)?)
+            lift(expand(alloc, pieces.as_slice(), *position, env))
         }
         Expr::Boolean { value, .. } => Ok(Value::Bool(*value)),
         Expr::Call(call) => eval_call(alloc, level, call, env, out, library),
@@ -93,7 +93,7 @@ fn eval_operand<L: Library + Definer>(
             base,
             dot,
             entry,
-        } => Ok(read_entry(alloc, base, *position, entry, *dot, env)?),
+        } => lift(read_entry(alloc, base, *position, entry, *dot, env)),
         Expr::Scope { position, block } => eval_scope(
             alloc,
             level.deeper(1),
@@ -122,7 +122,7 @@ fn eval_operand<L: Library + Definer>(
         ),
         Expr::Not { position, operand } => {
             let value = eval_expr(alloc, level.deeper(1), operand.get(), env, out, library)?;
-            Ok(negate(alloc, &value, *position, env)?)
+            lift(negate(alloc, &value, *position, env))
         }
         Expr::Binary { .. } => unreachable!(),
     }
@@ -143,7 +143,7 @@ fn eval_call<L: Library + Definer>(
         (call_runs (world level.room a) level.nesting (call_of call.now) env.old out.old) (λ v env1 out1. call_value_runs v call.now.position env1 out1)) }
 {
     let value = run_call(alloc, level, call, env, out, library)?;
-    Ok(value_of_call(alloc, value, call.position, env)?)
+    lift(value_of_call(alloc, value, call.position, env))
 }
 
 // `base[index]`: the base has to have a value before the index is evaluated.
@@ -165,7 +165,7 @@ fn eval_item<L: Library + Definer>(
 {
     read_base(alloc, base, position, env)?;
     let at = eval_expr(alloc, level.deeper(1), index.get(), env, out, library)?;
-    Ok(read_element(alloc, base, position, &at, bracket, env)?)
+    lift(read_element(alloc, base, position, &at, bracket, env))
 }
 
 // An operator behind its left side: `&&` and `||` look at its type first and stop early, all others evaluate the right
@@ -230,7 +230,7 @@ fn eval_scope<L: Library + Definer>(
 {
     env.enter(false)?;
     run_statements(alloc, level, block, env, out, library)?;
-    Ok(end_scope(alloc, position, env)?)
+    lift(end_scope(alloc, position, env))
 }
 
 // The value of a list literal whose bracket stands at the position: all its items are evaluated, then they have to be
@@ -250,7 +250,7 @@ fn eval_list<L: Library + Definer>(
         (values_run (world level.room a) level.nesting items.now [] env.old out.old) (λ vs env1 out1. list_runs vs position env1 out1)) }
 {
     let values = eval_values(alloc, level, items.as_slice(), env, out, library)?;
-    Ok(make_list(alloc, values, position, env)?)
+    lift(make_list(alloc, values, position, env))
 }
 
 /// The values of arguments, in order.

@@ -1,21 +1,24 @@
 // `read_file`: its content is asked for, and what it holds is the answer or is evaluated.
 
-ghost use Rattle.std.specs.Prelude.{◌≤◌, [], ◌∷◌, IfOk, map, option_map};
+ghost use Rattle.std.specs.Prelude.{◌≡◌, ◌≤◌, [], ◌∷◌, IfOk, OnOk, map, option_map};
 ghost use Rattle.gn_tree.specs.Depth.{max_tree_depth, call_depth, expr_depth};
 ghost use Rattle.gn_tree.specs.Views.{call_of};
 ghost use Rattle.gn_values.specs.View.{val_of};
+ghost use Rattle.gn_items.specs.Effects.{with_asked};
+ghost use Rattle.gn_runs.specs.Runs.{content_of};
 ghost use Rattle.gn_environment.specs.Faults.{fault_in};
 ghost use Rattle.gn_meaning.specs.Steps.{deeper, then_do};
-ghost use Rattle.gn_meaning.specs.Contents.{content_read, reading_runs, read_ends, read_file_runs};
+ghost use Rattle.gn_meaning.specs.Contents.{content_read, found_read, reading_runs, read_ends, read_file_runs};
 ghost use Rattle.gn_meaning.specs.Meaning.{world, reads, values_run};
 ghost use Rattle.gn_calls_plain.specs.Contents.{read_view, IsShallowRead};
+ghost use Rattle.gn_eval.specs.Library.{IsWithinLimit, content_told};
 ghost use Rattle.gn_eval.specs.Ends.{Evaluates};
 ghost use Rattle.gn_eval.specs.Reads.{IsReadEnd};
 
 use crate::ending::{EvalEnd, lift};
 use crate::expressions::{eval_expr, eval_values};
 use crate::level::Level;
-use crate::library::{Found, LibStop, Library};
+use crate::library::{Found, Library};
 use gn_calls_plain::{Read, Reading, begin_expression, begin_reading, missing, read_bytes, settle};
 use gn_calls_scopes::Definer;
 use gn_env::Env;
@@ -24,7 +27,7 @@ use gn_items::Outcome;
 use gn_steps::{place_here, refuse, wrong};
 use gn_tree::{Call, SubExpr};
 use gn_values::Value;
-use std::alloc::Global;
+use std::alloc::{AllocError, Global};
 
 /// `read_file(path, conversion)`
 #[cycle(eval)]
@@ -144,20 +147,30 @@ fn read_content<L: Library>(
     ensures shallow { IfOk result IsShallowRead }
 {
     let place = place_here(alloc, call.position, env)?;
-    match library.bytes(alloc, &reading.path, &place) {
-        Ok(Found::Bytes(bytes)) => {
-            out.ask_content(&reading.path)?;
-            Ok(read_bytes(alloc, reading, bytes.as_bytes())?)
-        }
-        Ok(Found::Absent) => {
-            out.ask_content(&reading.path)?;
-            Ok(missing(alloc, Code::NoFile, &reading.path)?)
-        }
-        Ok(Found::TooBig) => {
-            out.ask_content(&reading.path)?;
-            Ok(missing(alloc, Code::FileTooBig, &reading.path)?)
-        }
-        Err(LibStop::Stopped) => Err(EvalEnd::Stopped),
-        Err(LibStop::Memory) => Err(EvalEnd::Memory),
+    let told = library.bytes(alloc, &reading.path, &place);
+    drop(place);
+    match told {
+        Ok(found) => Ok(read_found(alloc, found, reading, out)?),
+        Err(stop) => Err(stop.into()),
+    }
+}
+
+// What a file comes to that was asked for and of which this was found. What is asked for is noted.
+fn read_found(
+    alloc: Global,
+    found: Found,
+    reading: &Reading,
+    out: &mut Outcome,
+) -> Result<Read, AllocError>
+    requires limit { IsWithinLimit found }
+    ensures read { IfOk result (λ read. read_view read ≡ found_read reading.now.conversion reading.now.path (content_told found)) }
+    ensures asked { OnOk result (out.new ≡ with_asked (content_of reading.now.path) out.old) }
+    ensures shallow { IfOk result IsShallowRead }
+{
+    out.ask_content(&reading.path)?;
+    match found {
+        Found::Bytes(bytes) => read_bytes(alloc, reading, bytes.as_bytes()),
+        Found::Absent => missing(alloc, Code::NoFile, &reading.path),
+        Found::TooBig => missing(alloc, Code::FileTooBig, &reading.path),
     }
 }

@@ -11,7 +11,7 @@ ghost use Rattle.gn_meaning.specs.Meaning.{world, expr_runs, body_runs, defined_
 ghost use Rattle.gn_eval.specs.Ends.{Evaluates};
 
 use crate::calls::run_block_of;
-use crate::ending::EvalEnd;
+use crate::ending::{EvalEnd, lift};
 use crate::expressions::eval_expr;
 use crate::level::Level;
 use crate::library::Library;
@@ -46,7 +46,7 @@ pub(crate) fn run_defined<L: Library + Definer>(
         return Err(refuse(alloc, call, env).into());
     };
     match argument {
-        Expr::Name { name, .. } => Ok(has_value(name, env)?),
+        Expr::Name { name, .. } => lift(has_value(name, env)),
         Expr::Entry {
             position,
             base,
@@ -54,7 +54,7 @@ pub(crate) fn run_defined<L: Library + Definer>(
             ..
         } => {
             read_base(alloc, base, *position, env)?;
-            Ok(has_entry(alloc, base, entry, *position, env)?)
+            lift(has_entry(alloc, base, entry, *position, env))
         }
         Expr::Item {
             position,
@@ -84,7 +84,7 @@ fn has_item<L: Library + Definer>(
 {
     read_base(alloc, base, position, env)?;
     let at = eval_expr(alloc, level.deeper(1), index.get(), env, out, library)?;
-    Ok(has_element(alloc, base, &at, position, env)?)
+    lift(has_element(alloc, base, &at, position, env))
 }
 
 /// `foreach(name, list) { .. }`. What stands inside its brackets and its block nests as deep as the level says.

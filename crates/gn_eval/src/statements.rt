@@ -3,12 +3,16 @@
 ghost use Rattle.std.specs.Prelude.{◌≡◌, ◌<◌, ◌≤◌, OnOk};
 ghost use Rattle.gn_tree.specs.Depth.{max_tree_depth, target_depth, statement_depth, condition_depth, otherwise_depth, block_depth};
 ghost use Rattle.gn_tree.specs.Views.{target_of, statement_of, condition_of, otherwise_of};
+ghost use Rattle.gn_values.specs.Val.{vstr};
 ghost use Rattle.gn_values.specs.View.{val_of};
-ghost use Rattle.gn_meaning.specs.Meaning.{world, assignment_runs, statement_runs, condition_runs, otherwise_runs, block_runs};
+ghost use Rattle.gn_items.specs.Effects.{Effects};
+ghost use Rattle.gn_meaning.specs.Words.{element_assigned_runs};
+ghost use Rattle.gn_meaning.specs.Meaning.{world, truth_runs, assignment_runs, statement_runs, condition_runs, otherwise_runs, block_runs};
+ghost use Rattle.gn_steps.specs.Ends.{IsStep};
 ghost use Rattle.gn_eval.specs.Ends.{Evaluates};
 
 use crate::calls::run_call;
-use crate::ending::EvalEnd;
+use crate::ending::{EvalEnd, lift};
 use crate::expressions::eval_expr;
 use crate::level::Level;
 use crate::library::Library;
@@ -16,6 +20,8 @@ use gn_calls_scopes::Definer;
 use gn_env::Env;
 use gn_expressions::{assign_element, assign_name, truth};
 use gn_items::Outcome;
+use gn_paths::Text;
+use gn_steps::StepEnd;
 use gn_tree::{AssignOp, Block, Condition, Otherwise, Position, Statement, Target};
 use gn_values::Value;
 use std::alloc::Global;
@@ -97,8 +103,7 @@ fn assign<L: Library + Definer>(
 {
     match target {
         Target::Name { position: at, name } => {
-            assign_name(alloc, name, *at, operator, position, value, env)?;
-            Ok(())
+            lift(assign_name(alloc, name, *at, operator, position, value, env))
         }
         Target::Item {
             position: base_at,
@@ -107,24 +112,48 @@ fn assign<L: Library + Definer>(
             index,
         } => {
             let at = eval_expr(alloc, level.deeper(1), index, env, out, library)?;
-            assign_element(
+            lift(assign_element(
                 alloc, base, *base_at, &at, *bracket, operator, position, value, env,
-            )?;
-            Ok(())
+            ))
         }
         Target::Entry {
             position: base_at,
             base,
             dot,
             entry,
-        } => {
-            let at = Value::Str(entry.copy(alloc)?);
-            assign_element(
-                alloc, base, *base_at, &at, *dot, operator, position, value, env,
-            )?;
-            Ok(())
-        }
+        } => lift(assign_entry(
+            alloc, base, *base_at, *dot, entry, operator, position, value, env,
+        )),
     }
+}
+
+// An assignment to an entry of a scope, whose dot stands there.
+fn assign_entry(
+    alloc: Global,
+    base: &Text,
+    base_position: Position,
+    dot: Position,
+    entry: &Text,
+    operator: AssignOp,
+    position: Position,
+    value: Value,
+    env: &mut Env,
+) -> Result<(), StepEnd>
+    ensures { (out : Effects) → IsStep (λ u. u) result env.new out (element_assigned_runs base.now base_position (vstr entry.now) dot operator position
+        (val_of value) env.old out) }
+{
+    let at = Value::Str(entry.copy(alloc)?);
+    assign_element(
+        alloc,
+        base,
+        base_position,
+        &at,
+        dot,
+        operator,
+        position,
+        value,
+        env,
+    )
 }
 
 // A condition, and the block that it picks.
@@ -143,12 +172,18 @@ fn run_condition<L: Library + Definer>(
         (condition_of condition.now) env.old out.old) }
 {
     let value = eval_expr(alloc, level.deeper(1), &condition.test, env, out, library)?;
-    let holds = truth(alloc, &value, condition.test.first_position(), env)?;
-    if holds {
+    if judge(alloc, value, condition.test.first_position(), env)? {
         run_statements(alloc, level.deeper(1), &condition.block, env, out, library)
     } else {
         run_otherwise(alloc, level, &condition.otherwise, env, out, library)
     }
+}
+
+// Whether a condition holds that has this value and stands at `at`.
+fn judge(alloc: Global, value: Value, at: Position, env: &Env) -> Result<bool, StepEnd>
+    ensures { (out : Effects) → IsStep (λ b. b) result env.now out (truth_runs (val_of value) at env.now out) }
+{
+    truth(alloc, &value, at, env)
 }
 
 // What stands behind the block of a condition.

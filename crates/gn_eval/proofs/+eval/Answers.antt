@@ -227,7 +227,7 @@ calls::run_valued-returns g t c =
 
 pub calls::run_template_body-returns : goal.calls::run_template_body-returns
 calls::run_template_body-returns g t c =
-    let definition = c.args.definition.value in
+    let definition = c.args.definition.now.value in
     let inside = c.in-Some.inside in
     let out = c.args.out.now in
     let begun : body_begins definition c.args.name.now c.args.env.now ≡ c.begin_body.new.self = search rules in
