@@ -6,22 +6,21 @@ use Rattle.gn_faults.specs.declared.code.Code.TheVariants as code
 use Rattle.gn_faults.specs.declared.fault.Fault.{Fault}
 use Rattle.gn_faults.specs.declared.file_kind.FileKind.{FileKind}
 use Rattle.gn_faults.specs.declared.file_kind.FileKind.TheVariants.{BuildFile, Import}
-use Rattle.gn_items.specs.Effects.{Effects, no_effects, with_asked}
+use Rattle.gn_items.specs.Effects.{Effects, with_asked}
 use Rattle.gn_items.specs.declared.key.When.{When}
 use Rattle.gn_runs.specs.Runs.{content_of, Content, Answers, Run}
 use Rattle.gn_environment.specs.Environment.{Setting, Environment, new_environment}
 use Rattle.gn_meaning.specs.Steps.{Left, ends, breaks, then_do, content_asked}
 use Rattle.gn_eval.specs.Library.{Need, ContentAnswers}
 use Rattle.gn_eval.specs.Telling.{then_failed, covers_error}
-use Rattle.gn_eval.specs.Ends.{Covers, IsFailure, IsRun, HasLeft, IsSpentRun}
+use Rattle.gn_eval.specs.Ends.{Covers, IsFailure, IsRun, IsSpentRun}
 use Rattle.gn_eval.specs.declared.library.Found.{Found}
 use Rattle.gn_eval.specs.declared.library.Found.TheVariants.{Bytes, Absent, TooBig}
 use Rattle.gn_eval.specs.declared.ending.EvalEnd.{EvalEnd}
 use Rattle.gn_unit.specs.Found.{content_view}
 use Rattle.gn_syntax.specs.Reading.{reading}
 use Rattle.gn_executions.specs.Faults.{whole_file_fault}
-use Rattle.gn_executions.specs.Units.{reading_runs, content_runs, own_place, tree_runs, import_begins, load_begins, load_runs, load_execution}
-use Rattle.gn_unit.specs.Ends.{EndsWith}
+use Rattle.gn_executions.specs.Units.{reading_runs, content_runs, own_place, tree_runs, import_begins, load_begins}
 use Rattle.gn_executions.specs.Base.{BaseState, setting_of}
 
 -- what is found at a path is the content that the answers have
@@ -74,10 +73,6 @@ module _ (base : BaseState) (kind : FileKind) (path : List ℕ) (a : Answers) (e
   pub told_run : {T : Type 0} (view : T → BlockTree) (need : Need) (result : Result T EvalEnd) (found : Found) (after : Effects) → ContentAnswers path a found → after ≡ with_asked (content_of path) out → IsRun view need result env after (content_runs (content_view found) env after) → IsRun view need result env after (tree_runs a env out)
   told_run view need result found after h same done =
       subst (λ (r : Run (Left BlockTree)). IsRun view need result env after r) (sym (tree_told found h ∙ ap (λ (o : Effects). content_runs (content_view found) env o) (sym same))) done
-
--- how a build file ends that has run
-pub load_ended : (base : BaseState) (directory toolchain : List ℕ) (a : Answers) (before after : Effects) → before ≡ no_effects → HasLeft tt after (load_runs base directory toolchain a before) → EndsWith tt after (load_execution base directory toolchain a).end
-load_ended base directory toolchain a before after same left = (left.0, ap (λ (o : Effects). (load_runs base directory toolchain a o).end) (sym same) ∙ ap (λ (r : Run (Left (Unit {0}))). r.end) left.1)
 
 module _ {A : Type 0} (next : BlockTree → Environment → Effects → Run (Left A)) (need : Need) where
   -- where the tree of a file has been read, its execution is what is done with the tree

@@ -5,3 +5,5 @@ pub mod Configurations
 pub mod FilesAlone
 pub mod SyntaxFaults
 pub mod FirstStage
+pub mod NamesInTurn
+pub mod Ended

@@ -1,16 +1,16 @@
 -- How what is answered for a dotfile, and for build arguments, stands to its run.
-use Rattle.std.specs.Prelude.{◌≡◌, ℕ, List, Result, Ok, Err}
+use Rattle.std.specs.Prelude.{◌≡◌, ℕ, List, Option, Result, Ok, Err, codes}
 use Rattle.gn_items.specs.Effects.{Effects}
 use Rattle.gn_values.specs.Val.{Val}
-use Rattle.gn_values.specs.Tables.{Table}
+use Rattle.gn_values.specs.Tables.{Table, at_name}
 use Rattle.gn_tree.specs.Tree.{BlockTree}
 use Rattle.gn_runs.specs.Runs.{has_bytes, ended, wrong, Run}
-use Rattle.gn_environment.specs.Environment.{Environment}
+use Rattle.gn_environment.specs.Environment.{Environment, entries_here}
 use Rattle.gn_meaning.specs.Steps.{Left, Steps, ends, then_do}
 use Rattle.gn_meaning.specs.Meaning.{whole_block_runs}
 use Rattle.gn_executions.specs.Units.{content_runs}
 use Rattle.gn_executions.specs.Alone.{nothing_there}
-use Rattle.gn_executions.specs.Dotfile.{DotfileState, NameFault}
+use Rattle.gn_executions.specs.Dotfile.{DotfileState, NameFault, then_name, left_out, configuration_of, arguments_of, secondary_of, executable_of, dotfile_of, dotfile_ends}
 use Rattle.gn_unit.specs.declared.alone.UnitEnd.{UnitEnd}
 use Rattle.gn_unit.specs.declared.alone.UnitEnd.TheVariants.{Wrong, Memory}
 use Rattle.gn_unit.specs.declared.said.Dotfile.{Dotfile}
@@ -28,12 +28,7 @@ abbrev pub IsParsed : Result BlockTree UnitEnd → Environment → Effects → R
 IsParsed (Ok tree) env out run = run ≡ ends tree env out
 IsParsed (Err e) env out run = IsWrong e run
 
--- a file that stands alone has run in this environment, or is wrong
-abbrev pub IsAlone : Result Environment UnitEnd → Effects → Run (Left (Unit {0})) → Type 0
-IsAlone (Ok env) out run = run ≡ ends tt env out
-IsAlone (Err e) out run = IsWrong e run
-
--- the same in an environment that is handed in
+-- a file that stands alone has run and leaves this environment, or is wrong
 abbrev pub HasRunAlone : Result (Unit {0}) UnitEnd → Environment → Effects → Run (Left (Unit {0})) → Type 0
 HasRunAlone (Ok u) env out run = run ≡ ends tt env out
 HasRunAlone (Err e) env out run = IsWrong e run
@@ -41,6 +36,13 @@ HasRunAlone (Err e) env out run = IsWrong e run
 -- what these bytes run to as such a file, in an environment and behind effects
 abbrev pub bytes_alone : List ℕ → Steps (Unit {0})
 bytes_alone bytes env out = then_do (content_runs (has_bytes bytes) env out) (λ tree env1 out1. whole_block_runs nothing_there tree env1 out1)
+
+-- the same of a dotfile, whose names are looked at then, and of build arguments
+abbrev pub dotfile_alone : List ℕ → Steps DotfileState
+dotfile_alone bytes env out = then_do (bytes_alone bytes env out) (λ _ env1 out1. dotfile_ends (dotfile_of (entries_here env1)) env1 out1)
+
+abbrev pub arguments_alone : List ℕ → Steps (Table Val)
+arguments_alone bytes env out = then_do (bytes_alone bytes env out) (λ _ env1 out1. ends (entries_here env1) env1 out1)
 
 -- what a run leaves, and what it has printed
 abbrev pub LeavesWith : {A : Type 0} → A → List (List ℕ) → Run (Left A) → Type 0
@@ -53,10 +55,24 @@ names_state n = record { configuration = n.configuration; arguments = n.argument
 abbrev pub dotfile_state : Dotfile → DotfileState
 dotfile_state d = record { configuration = d.configuration; arguments = d.arguments; secondary = d.secondary; executable = d.executable }
 
--- the end of a dotfile that has run, with what its names say
-abbrev pub EndsNames : Result DotfileNames UnitEnd → Environment → Effects → Run (Left DotfileState) → Type 0
-EndsNames (Ok names) env out run = run ≡ ends (names_state names) env out
-EndsNames (Err e) env out run = IsWrong e run
+-- a run ends with a value, or is wrong
+abbrev pub EndsIn : {A T : Type 0} → (T → A) → Result T UnitEnd → Environment → Effects → Run (Left A) → Type 0
+EndsIn view (Ok x) env out run = run ≡ ends (view x) env out
+EndsIn view (Err e) env out run = IsWrong e run
+
+-- what the names of a dotfile say, with what was printed; or the same end
+abbrev pub IsSaidWith : Result DotfileNames UnitEnd → Effects → Result Dotfile UnitEnd → Type 0
+IsSaidWith (Ok names) out (Ok d) = (dotfile_state d ≡ names_state names) × (d.prints ≡ out.prints)
+IsSaidWith (Ok names) out (Err f) = ⊥
+IsSaidWith (Err e) out (Ok d) = ⊥
+IsSaidWith (Err e) out (Err f) = f ≡ e
+
+-- the names that build arguments set, with what was printed; or the same end
+abbrev pub AreSetWith : Result (Table Val) UnitEnd → Effects → Result (Table Val × List (List ℕ)) UnitEnd → Type 0
+AreSetWith (Ok entries) out (Ok r) = (r.0 ≡ entries) × (r.1 ≡ out.prints)
+AreSetWith (Ok entries) out (Err f) = ⊥
+AreSetWith (Err e) out (Ok r) = ⊥
+AreSetWith (Err e) out (Err f) = f ≡ e
 
 abbrev pub IsDotfile : Result Dotfile UnitEnd → Run (Left DotfileState) → Type 0
 IsDotfile (Ok d) run = LeavesWith (dotfile_state d) d.prints run
@@ -78,3 +94,22 @@ IsNameStop stop.Memory said = Unit {0}
 abbrev pub Says : {A T : Type 0} → (T → A) → Result T NameStop → Result A NameFault → Type 0
 Says view (Ok x) said = said ≡ Ok (view x)
 Says view (Err e) said = IsNameStop e said
+
+-- the names of a dotfile in their order: three that must have no value, then two, and two behind them
+abbrev pub none_left_out : Table Val → Result (Unit {0}) NameFault
+none_left_out entries =
+    then_name (left_out (codes "root") (at_name (codes "root") entries))
+    (λ _. then_name (left_out (codes "build_file_extension") (at_name (codes "build_file_extension") entries))
+    (λ _. left_out (codes "arg_file_template") (at_name (codes "arg_file_template") entries)))
+
+abbrev pub first_names : Table Val → Result (List ℕ × Table Val) NameFault
+first_names entries =
+    then_name (configuration_of (at_name (codes "buildconfig") entries))
+    (λ configuration. then_name (arguments_of (at_name (codes "default_args") entries))
+    (λ arguments. Ok (configuration, arguments)))
+
+abbrev pub last_names : Table Val → Result (Option (List ℕ) × List ℕ) NameFault
+last_names entries =
+    then_name (secondary_of (at_name (codes "secondary_source") entries))
+    (λ secondary. then_name (executable_of (at_name (codes "script_executable") entries))
+    (λ executable. Ok (secondary, executable)))

@@ -1,23 +1,24 @@
 // Files that ask for nothing: the dotfile, and build arguments.
 
-ghost use Rattle.std.specs.Prelude.{◌≡◌, ◌≤◌, IfOk, length};
+ghost use Rattle.std.specs.Prelude.{◌≡◌, ◌≤◌, [], ◌∷◌, IfOk, codes, length, map};
 ghost use Rattle.gn_value_model.specs.Limits.{max_bytes};
-ghost use Rattle.gn_runs.specs.Runs.{has_bytes};
-ghost use Rattle.gn_executions.specs.Alone.{first_context, alone_begins, nothing_there, alone_runs, EndsAlone};
+ghost use Rattle.gn_executions.specs.Alone.{first_context, alone_begins, nothing_there, EndsAlone};
+ghost use Rattle.gn_executions.specs.BuiltIn.{built_in_scope};
 ghost use Rattle.gn_tree.specs.Depth.{IsShallow};
-ghost use Rattle.gn_items.specs.Effects.{Effects, no_effects};
+ghost use Rattle.gn_items.specs.Effects.{Effects};
 ghost use Rattle.gn_syntax.specs.Reading.{reading};
 ghost use Rattle.gn_executions.specs.Units.{reading_runs};
 ghost use Rattle.gn_meaning.specs.Meaning.{whole_block_runs};
-ghost use Rattle.gn_unit.specs.Alone.{IsParsed, IsAlone, HasRunAlone, bytes_alone};
+ghost use Rattle.gn_unit.specs.Alone.{IsParsed, HasRunAlone, bytes_alone};
 
+use crate::base::one_scope;
 use crate::built_in::built_in_scope;
 use crate::faults::syntax_fault_in;
-use gn_definitions::MadeBy;
+use gn_definitions::{KeptScope, MadeBy};
 use gn_env::Env;
 use gn_environment::Context;
 use gn_eval::{DefineError, Definer, EvalEnd, Found, Imported, LibStop, Library, run_block};
-use gn_executions::{HostNames, files_that_stand_alone_end};
+use gn_executions::HostNames;
 use gn_faults::{Fault, FileKind, Stage};
 use gn_items::{Item, ItemKind, Outcome};
 use gn_paths::{Path, Place, Text};
@@ -85,46 +86,98 @@ impl Definer for NothingThere {
     }
 }
 
-/// The context of such files: as that of the build configuration of the default toolchain before any argument is given.
-pub(crate) fn first_context(alloc: Global, build: &Path, root: &Text) -> Result<Context, AllocError>
-    ensures { IfOk result (λ c. c ≡ first_context build.now root.now) }
+// The names of a host.
+fn host_names(alloc: Global, os: &Text, cpu: &Text) -> Result<HostNames, AllocError>
+    ensures { IfOk result (λ h. h ≡ record { os = os.now; cpu = cpu.now }) }
 {
-    Ok(Context {
+    let os = os.copy(alloc)?;
+    let cpu = cpu.copy(alloc)?;
+    Ok(HostNames { os, cpu })
+}
+
+// The context of such files: as that of the build configuration of the default toolchain before any argument is given.
+fn first_context(alloc: Global, build: &Path, root: &Text) -> Result<Arc<Context>, AllocError>
+    ensures { IfOk result (λ c. c.value ≡ first_context build.now root.now) }
+{
+    let build_directory = build.copy(alloc)?;
+    let source_root = root.copy(alloc)?;
+    let context = Context {
         stage: Stage::Arguments,
         toolchain: Text::new(alloc),
         fault_toolchain: Text::new(alloc),
         default_toolchain: Text::new(alloc),
-        build_directory: build.copy(alloc)?,
-        source_root: root.copy(alloc)?,
+        build_directory,
+        source_root,
         overrides: Bindings::new(alloc),
-    })
+    };
+    Ok(Arc::new(alloc, context)?)
 }
 
-// Where such a file begins.
-fn begin_alone(
+// What such a file is called, where it stands and what its execution is called.
+fn names_alone(alloc: Global, file: &Text) -> Result<(Text, Path, Text), AllocError>
+    ensures { IfOk result (λ n. n ≡ (file.now, codes "//", file.now)) }
+{
+    let name = file.copy(alloc)?;
+    let directory = Path::root(alloc)?;
+    let execution = file.copy(alloc)?;
+    Ok((name, directory, execution))
+}
+
+// The scopes beneath such a file: the built-in variables of the source root.
+fn beneath_alone(
     alloc: Global,
     host: &HostNames,
-    context: Context,
+    context: &Context,
+) -> Result<Vec<Arc<KeptScope>>, AllocError>
+    ensures { IfOk result (λ b. map (λ f. f.value) b.items ≡ built_in_scope host.now context.now (codes "//") ∷ []) }
+{
+    let root = Path::root(alloc)?;
+    let scope = built_in_scope(alloc, host, context, &root);
+    drop(root);
+    one_scope(alloc, scope?)
+}
+
+// Where such a file begins, in a context.
+fn begin_in(
+    alloc: Global,
+    host: &HostNames,
+    context: Arc<Context>,
     kind: FileKind,
     file: &Text,
 ) -> Result<Env, AllocError>
-    ensures { IfOk result (λ env. env ≡ alone_begins host.now context kind file.now) }
+    ensures { IfOk result (λ env. env ≡ alone_begins host.now context.value kind file.now) }
 {
-    let root = Path::root(alloc)?;
-    let mut beneath = Vec::new(alloc);
-    beneath.push(built_in_scope(alloc, host, &context, &root)?)?;
-    let execution = file.copy(alloc)?;
+    let (name, directory, execution) = names_alone(alloc, file)?;
+    let beneath = beneath_alone(alloc, host, &context)?;
     Ok(Env::new(
         alloc,
-        Arc::new(alloc, context)?,
+        context,
         kind,
-        file.copy(alloc)?,
-        root,
+        name,
+        directory,
         execution,
         false,
         beneath,
         MadeBy::new(alloc),
     ))
+}
+
+/// Where such a file begins: in the source root, in one scope, which isn't checked, over the built-in variables. `build` is the
+/// build directory, the other texts are those of the host and of the source root.
+pub(crate) fn begin_alone(
+    alloc: Global,
+    kind: FileKind,
+    file: &Text,
+    build: &Path,
+    os: &Text,
+    cpu: &Text,
+    root: &Text,
+) -> Result<Env, AllocError>
+    ensures { IfOk result (λ env. env ≡ alone_begins (record { os = os.now; cpu = cpu.now }) (first_context build.now root.now) kind file.now) }
+{
+    let host = host_names(alloc, os, cpu)?;
+    let context = first_context(alloc, build, root)?;
+    begin_in(alloc, &host, context, kind, file)
 }
 
 // What the bytes of the file that is evaluated are read as.
@@ -154,40 +207,18 @@ fn run_tree(alloc: Global, block: &Block, env: &mut Env, out: &mut Outcome) -> R
     }
 }
 
-// Runs the bytes of such a file.
-fn run_bytes(alloc: Global, bytes: &[u8], env: &mut Env, out: &mut Outcome) -> Result<(), UnitEnd>
+/// Runs the bytes of such a file. What it prints is added to `out`. `Wrong` has the first fault, and comes exactly where there is one,
+/// but for want of memory.
+pub(crate) fn run_alone(
+    alloc: Global,
+    bytes: &[u8],
+    env: &mut Env,
+    out: &mut Outcome,
+) -> Result<(), UnitEnd>
     requires small { length bytes.now ≤ max_bytes }
     requires alone { EndsAlone (bytes_alone bytes.now env.old out.old).end }
     ensures { HasRunAlone result env.new out.new (bytes_alone bytes.now env.old out.old) }
 {
     let parsed = parsed_in(alloc, env, bytes)?;
     run_tree(alloc, parsed.block(), env, out)
-}
-
-/// Runs the bytes of a file that asks for nothing, in the source root, in one scope, which isn't checked, over the built-in
-/// variables. It has the environment behind it; what it prints is added to `out`. `Wrong` has the first fault, and comes exactly
-/// where there is one, but for want of memory.
-#[tactic(auto, unfolding(gn_executions::specs::Alone::alone_runs))]
-pub(crate) fn run_alone(
-    alloc: Global,
-    host: &HostNames,
-    context: Context,
-    kind: FileKind,
-    file: &Text,
-    bytes: &[u8],
-    out: &mut Outcome,
-) -> Result<Env, UnitEnd>
-    requires small { length bytes.now ≤ max_bytes }
-    requires nothing { out.old ≡ no_effects }
-    ensures { IsAlone result out.new (alone_runs host.now context kind file.now (has_bytes bytes.now)) }
-{
-    files_that_stand_alone_end();
-    let mut env = begin_alone(alloc, host, context, kind, file)?;
-    match run_bytes(alloc, bytes, &mut env, out) {
-        Ok(()) => Ok(env),
-        Err(end) => {
-            drop(env);
-            Err(end)
-        }
-    }
 }

@@ -1,6 +1,6 @@
 // What an evaluation sees besides what it asks of its library.
 
-ghost use Rattle.std.specs.Prelude.{◌≡◌, [], IfOk, map, option_map};
+ghost use Rattle.std.specs.Prelude.{◌≡◌, [], ◌∷◌, IfOk, map, option_map};
 ghost use Rattle.gn_values.specs.Tables.{with_new_names};
 ghost use Rattle.gn_executions.specs.Base.{plain_base, setup_base, finished_base, beneath_in};
 
@@ -61,6 +61,39 @@ fn copy_host(alloc: Global, host: &Option<HostNames>) -> Result<Option<HostNames
     Ok(Some(HostNames { os, cpu }))
 }
 
+// The same definitions of templates.
+fn share_definitions(alloc: Global, made: &MadeBy) -> Result<MadeBy, AllocError>
+    ensures { IfOk result (λ d. d ≡ with_new_names made.now []) }
+{
+    let mut definitions = MadeBy::new(alloc);
+    let _added = definitions.add(alloc, made)?;
+    Ok(definitions)
+}
+
+/// One scope.
+pub(crate) fn one_scope(
+    alloc: Global,
+    scope: Arc<KeptScope>,
+) -> Result<Vec<Arc<KeptScope>>, AllocError>
+    ensures { IfOk result (λ b. map (λ f. f.value) b.items ≡ scope.value ∷ []) }
+{
+    let mut scopes = Vec::new(alloc);
+    scopes.push(scope)?;
+    Ok(scopes)
+}
+
+// What the build configuration has left, as it stands beneath: its scope, and the definitions of its templates.
+fn share_left(
+    alloc: Global,
+    left: &ImportValue,
+) -> Result<(Vec<Arc<KeptScope>>, MadeBy), AllocError>
+    ensures { IfOk result (λ r. (map (λ f. f.value) r.0.items ≡ left.now.scope ∷ []) × (r.1 ≡ with_new_names left.now.definitions [])) }
+{
+    let beneath = one_scope(alloc, left.shared_scope()?)?;
+    let definitions = share_definitions(alloc, left.definitions())?;
+    Ok((beneath, definitions))
+}
+
 impl Base {
     /// The base of the build configuration, and of the files that it imports: they share this context, and nothing stands beneath
     /// them but the built-in variables, of which some are the host's. The build configuration stands at a path, or where nothing
@@ -84,6 +117,19 @@ impl Base {
         }
     }
 
+    // The names of the host, the path of the build configuration and the secondary source tree.
+    fn copy_names(
+        &self,
+        alloc: Global,
+    ) -> Result<(Option<HostNames>, Path, Option<Path>), AllocError>
+        ensures { IfOk result (λ n. n ≡ (self.now.host, self.now.configuration, self.now.secondary)) }
+    {
+        let host = copy_host(alloc, &self.host)?;
+        let configuration = self.configuration.copy(alloc)?;
+        let secondary = copy_path(alloc, &self.secondary)?;
+        Ok((host, configuration, secondary))
+    }
+
     /// The base of the other files under a toolchain whose build configuration has left this: it stands beneath them, and they
     /// share a context in which the toolchain is known. Nothing of what was left is copied but the names of executions.
     pub fn finished(
@@ -94,13 +140,8 @@ impl Base {
     ) -> Result<Base, AllocError>
         ensures { IfOk result (λ base. base ≡ finished_base self.now context.value left.now) }
     {
-        let host = copy_host(alloc, &self.host)?;
-        let configuration = self.configuration.copy(alloc)?;
-        let secondary = copy_path(alloc, &self.secondary)?;
-        let mut beneath = Vec::new(alloc);
-        beneath.push(left.shared_scope()?)?;
-        let mut definitions = MadeBy::new(alloc);
-        let _added = definitions.add(alloc, left.definitions())?;
+        let (beneath, definitions) = share_left(alloc, left)?;
+        let (host, configuration, secondary) = self.copy_names(alloc)?;
         Ok(Base {
             context,
             beneath,
@@ -157,16 +198,9 @@ impl Base {
         self.secondary.as_ref()
     }
 
-    /// The context, shared with the base.
-    pub(crate) fn share_context(&self) -> Result<Arc<Context>, AllocError>
-        ensures { IfOk result (λ c. c.value ≡ self.now.context) }
-    {
-        self.context.clone()
-    }
-
-    /// The scopes that stand beneath a file of this directory: what the build configuration has left, shared with the base, and
-    /// the built-in variables.
-    pub(crate) fn share_beneath(
+    // The scopes that stand beneath a file of this directory: what the build configuration has left, shared with the base, and
+    // the built-in variables.
+    fn share_beneath(
         &self,
         alloc: Global,
         directory: &Path,
@@ -180,13 +214,21 @@ impl Base {
         Ok(beneath)
     }
 
-    /// The definitions of the templates that stand beneath, shared with the base.
-    pub(crate) fn share_definitions(&self, alloc: Global) -> Result<MadeBy, AllocError>
-        ensures { IfOk result (λ d. d ≡ with_new_names self.now.definitions []) }
+    /// What an evaluation of a file of this directory shares with the base: the context, the scopes that stand beneath, and the
+    /// definitions of the templates that stand there.
+    pub(crate) fn share(
+        &self,
+        alloc: Global,
+        directory: &Path,
+    ) -> Result<(Arc<Context>, Vec<Arc<KeptScope>>, MadeBy), AllocError>
+        ensures context { IfOk result (λ s. s.0.value ≡ self.now.context) }
+        ensures beneath { IfOk result (λ s. map (λ f. f.value) s.1.items ≡ beneath_in self.now directory.now) }
+        ensures definitions { IfOk result (λ s. s.2 ≡ with_new_names self.now.definitions []) }
     {
-        let mut definitions = MadeBy::new(alloc);
-        let _added = definitions.add(alloc, &self.definitions)?;
-        Ok(definitions)
+        let context = self.context.clone()?;
+        let beneath = self.share_beneath(alloc, directory)?;
+        let definitions = share_definitions(alloc, &self.definitions)?;
+        Ok((context, beneath, definitions))
     }
 }
 

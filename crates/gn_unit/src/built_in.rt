@@ -1,6 +1,7 @@
 // The built-in variables of a file.
 
-ghost use Rattle.std.specs.Prelude.{◌≡◌, [], ◌∷◌, ◌++◌, IfOk, OnOk, map};
+ghost use Rattle.std.specs.Prelude.{◌≡◌, [], ◌∷◌, ◌++◌, IfOk, OnOk, codes, map};
+ghost use Rattle.gn_paths.specs.Directory.{gen_directory_of};
 ghost use Rattle.gn_values.specs.Tables.{Table, with_names};
 ghost use Rattle.gn_values.specs.Val.{Val, vstr};
 ghost use Rattle.gn_values.specs.View.{val_of, entry_of};
@@ -192,6 +193,16 @@ fn push_path(
     push(alloc, name, path.as_bytes(), variables)
 }
 
+// Puts the directory of what is generated at the root behind others, of a toolchain with this output directory.
+fn push_root_gen(alloc: Global, out: &Path, variables: &mut Vec<Entry>) -> Result<(), AllocError>
+    ensures { OnOk result ((later : Table Val) → map entry_of variables.new.items ++ later
+        ≡ map entry_of variables.old.items ++ as_value (codes "root_gen_dir", gen_directory_of out.now (codes "//")) ∷ later) }
+{
+    let root = Path::root(alloc)?;
+    let generated = gen_directory(alloc, out, &root)?;
+    push_path(alloc, b"root_gen_dir", &generated, variables)
+}
+
 // Puts the directories of the build behind others, of a toolchain with this output directory.
 fn push_roots(
     alloc: Global,
@@ -202,7 +213,6 @@ fn push_roots(
     ensures { OnOk result ((later : Table Val) → map entry_of variables.new.items ++ later
         ≡ map entry_of variables.old.items ++ (map as_value (root_texts context.now out.now) ++ later)) }
 {
-    let generated = gen_directory(alloc, out, &Path::root(alloc)?)?;
     push_path(
         alloc,
         b"root_build_dir",
@@ -210,7 +220,7 @@ fn push_roots(
         variables,
     )?;
     push_path(alloc, b"root_out_dir", out, variables)?;
-    push_path(alloc, b"root_gen_dir", &generated, variables)?;
+    push_root_gen(alloc, out, variables)?;
     Ok(())
 }
 

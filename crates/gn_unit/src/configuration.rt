@@ -10,7 +10,7 @@ ghost use Rattle.gn_eval.specs.Library.{Need, IsWithinLimit};
 ghost use Rattle.gn_eval.specs.Ends.{IsRun, Evaluates, EvaluatesSpent};
 ghost use Rattle.gn_syntax.specs.Reading.{reading};
 ghost use Rattle.gn_executions.specs.Units.{reading_runs, content_runs};
-ghost use Rattle.gn_executions.specs.Setups.{path_below, in_file, content_or_other, content_in, secondary_tree_runs, setup_runs};
+ghost use Rattle.gn_executions.specs.Setups.{path_below, in_file, other_content_runs, content_or_other, content_in, secondary_tree_runs, setup_begins, setup_runs};
 ghost use Rattle.gn_unit.specs.Found.{content_view};
 ghost use Rattle.gn_unit.specs.Configuration.{own_content_runs};
 
@@ -98,6 +98,21 @@ fn tree_there(alloc: Global, path: &Path, env: &mut Env, found: Found) -> Result
     tree_in(alloc, env, found)
 }
 
+// What is done with what a library tells of the content of the file at another path: where nothing is there, the fault shows the
+// first one.
+fn other_tree(alloc: Global, path: &Path, env: &mut Env, found: Found) -> Result<Parsed, EvalEnd>
+    requires { IsWithinLimit found }
+    ensures tree { (need : Need) (out : Effects) → IsRun (λ t. t) need result env.new out (other_content_runs path.now (content_view found) env.old out) }
+    ensures reads { result ≢ Err EvalEnd.Stopped }
+    ensures shallow { IfOk result (λ tree. IsShallow tree) }
+{
+    match found {
+        Found::Absent => tree_in(alloc, env, Found::Absent),
+        Found::TooBig => tree_there(alloc, path, env, Found::TooBig),
+        Found::Bytes(bytes) => tree_there(alloc, path, env, Found::Bytes(bytes)),
+    }
+}
+
 // The tree of the build configuration, where there is no file at its own path: it is looked for at the same path below another
 // source tree.
 fn tree_below<L: Library>(
@@ -114,11 +129,7 @@ fn tree_below<L: Library>(
 {
     let path = path_below(alloc, tree, base.configuration())?;
     let found = content_at(alloc, &path, out, library)?;
-    match found {
-        Found::Absent => tree_in(alloc, env, Found::Absent),
-        Found::TooBig => tree_there(alloc, &path, env, Found::TooBig),
-        Found::Bytes(bytes) => tree_there(alloc, &path, env, Found::Bytes(bytes)),
-    }
+    other_tree(alloc, &path, env, found)
 }
 
 // The same below the secondary source tree, if there is one.
@@ -161,6 +172,21 @@ fn configuration_tree<L: Library>(
     }
 }
 
+// Where the execution of the build configuration begins over a base.
+fn begin_setup(alloc: Global, base: &Base, toolchain: &Text) -> Result<Env, AllocError>
+    ensures { IfOk result (λ env. env ≡ setup_begins base.now toolchain.now) }
+{
+    let execution = setup_name(alloc, toolchain)?;
+    environment(
+        alloc,
+        base,
+        base.configuration(),
+        FileKind::BuildConfiguration,
+        execution,
+        false,
+    )
+}
+
 /// Executes the build configuration under a toolchain, over a base: its content is asked for, below the secondary source tree too
 /// where it isn't at its own path, parsed, and run in one scope, which isn't checked. It has what it leaves for the files beneath
 /// which it stands; its lines and what it asks are added to `out`. Under the default toolchain `Wrong` has `Missing` where it
@@ -175,16 +201,7 @@ pub(crate) fn execute_setup<L: Library + Definer>(
 ) -> Result<ImportValue, EvalEnd>
     ensures { EvaluatesSpent (λ v. v) (L.state library.old) (L.state library.new) result out.new (λ a. setup_runs base.now toolchain.now a out.old) }
 {
-    let execution = setup_name(alloc, toolchain)?;
-    let path = base.configuration();
-    let mut env = environment(
-        alloc,
-        base,
-        path,
-        FileKind::BuildConfiguration,
-        execution,
-        false,
-    )?;
+    let mut env = begin_setup(alloc, base, toolchain)?;
     match configuration_tree(alloc, base, &mut env, out, library) {
         Ok(parsed) => run_configuration_file(alloc, parsed.block(), env, out, library),
         Err(end) => {

@@ -3,7 +3,7 @@
 ghost use Rattle.std.specs.Prelude.{◌≡◌, ◌<◌, IfOk, IfErr, Some};
 ghost use Rattle.gn_runs.specs.Runs.{Answers};
 ghost use Rattle.gn_eval.specs.Library.{Includes, GoesOn};
-ghost use Rattle.gn_unit.specs.Ends.{IsExecuted, IsSetupOf, IsLoadOf, IsImportOf, IsUnitOf, IsNeeded, IsNeedOf, WhereStopped, asked_of, HasAskedOf};
+ghost use Rattle.gn_unit.specs.Ends.{IsExecuted, IsSetupOf, IsLoadOf, IsImportOf, Executes, IsUnitOf, IsNeedOf, WhereStopped, HasAskedOf, ended_with};
 ghost use Rattle.gn_executions.specs.Units.{load_execution, import_execution};
 ghost use Rattle.gn_executions.specs.Setups.{setup_execution};
 
@@ -12,9 +12,21 @@ use crate::configuration::execute_setup;
 use crate::execution::{execute_import, execute_load};
 use crate::unit::{EvalStop, Unit};
 use gn_eval::{Definer, EvalEnd, Library};
-use gn_items::{Claim, Key, Outcome, When};
+use gn_items::{Claim, Key, Outcome, Question, When};
 use gn_paths::{Path, Text};
 use std::alloc::Global;
+
+// The end of an execution that has left nothing, with the questions asked.
+fn ended(end: EvalEnd, asked: Vec<Question>) -> Result<Unit, EvalStop>
+    ensures { result ≡ ended_with end asked }
+{
+    match end {
+        EvalEnd::Wrong(fault) => Ok(Unit::Wrong(fault, asked)),
+        EvalEnd::Spoiled(path, place) => Ok(Unit::Spoiled(path, place, asked)),
+        EvalEnd::Stopped => Err(EvalStop::Stopped(asked)),
+        EvalEnd::Memory => Err(EvalStop::Memory),
+    }
+}
 
 // The unit of a build file.
 fn load_unit<L: Library + Definer>(
@@ -24,20 +36,12 @@ fn load_unit<L: Library + Definer>(
     toolchain: &Text,
     library: &mut L,
 ) -> Result<Unit, EvalStop>
-    ensures unit { IfOk result (λ unit. (a : Answers) → Includes (L.state library.new).told a → IsLoadOf unit (load_execution base.now directory.now toolchain.now a).end) }
-    ensures asked { IfOk result (λ unit. (a : Answers) → Includes (L.state library.new).told a → (load_execution base.now directory.now toolchain.now a).asked ≡ asked_of unit) }
-    ensures need { IfErr result (λ stop. WhereStopped stop
-        (λ asked. (a : Answers) → (L.state library.new).told ≡ Some a → IsNeeded (L.state library.new).need asked (load_execution base.now directory.now toolchain.now a))) }
-    ensures goes { GoesOn (L.state library.old) (L.state library.new) }
-    ensures rose { IfErr result (λ stop. WhereStopped stop (λ asked. (L.state library.old).stops < (L.state library.new).stops)) }
+    ensures { Executes IsLoadOf (L.state library.old) (L.state library.new) result (load_execution base.now directory.now toolchain.now) }
 {
     let mut out = Outcome::new(alloc);
     match execute_load(alloc, base, directory, toolchain, &mut out, library) {
         Ok(()) => Ok(Unit::Load(out)),
-        Err(EvalEnd::Wrong(fault)) => Ok(Unit::Wrong(fault, out.into_asked())),
-        Err(EvalEnd::Spoiled(path, place)) => Ok(Unit::Spoiled(path, place, out.into_asked())),
-        Err(EvalEnd::Stopped) => Err(EvalStop::Stopped(out.into_asked())),
-        Err(EvalEnd::Memory) => Err(EvalStop::Memory),
+        Err(end) => ended(end, out.into_asked()),
     }
 }
 
@@ -48,20 +52,12 @@ fn setup_unit<L: Library + Definer>(
     toolchain: &Text,
     library: &mut L,
 ) -> Result<Unit, EvalStop>
-    ensures unit { IfOk result (λ unit. (a : Answers) → Includes (L.state library.new).told a → IsSetupOf unit (setup_execution base.now toolchain.now a).end) }
-    ensures asked { IfOk result (λ unit. (a : Answers) → Includes (L.state library.new).told a → (setup_execution base.now toolchain.now a).asked ≡ asked_of unit) }
-    ensures need { IfErr result (λ stop. WhereStopped stop
-        (λ asked. (a : Answers) → (L.state library.new).told ≡ Some a → IsNeeded (L.state library.new).need asked (setup_execution base.now toolchain.now a))) }
-    ensures goes { GoesOn (L.state library.old) (L.state library.new) }
-    ensures rose { IfErr result (λ stop. WhereStopped stop (λ asked. (L.state library.old).stops < (L.state library.new).stops)) }
+    ensures { Executes IsSetupOf (L.state library.old) (L.state library.new) result (setup_execution base.now toolchain.now) }
 {
     let mut out = Outcome::new(alloc);
     match execute_setup(alloc, base, toolchain, &mut out, library) {
         Ok(value) => Ok(Unit::Setup(value, out)),
-        Err(EvalEnd::Wrong(fault)) => Ok(Unit::Wrong(fault, out.into_asked())),
-        Err(EvalEnd::Spoiled(path, place)) => Ok(Unit::Spoiled(path, place, out.into_asked())),
-        Err(EvalEnd::Stopped) => Err(EvalStop::Stopped(out.into_asked())),
-        Err(EvalEnd::Memory) => Err(EvalStop::Memory),
+        Err(end) => ended(end, out.into_asked()),
     }
 }
 
@@ -74,20 +70,12 @@ fn import_unit<L: Library + Definer>(
     path: &Path,
     library: &mut L,
 ) -> Result<Unit, EvalStop>
-    ensures unit { IfOk result (λ unit. (a : Answers) → Includes (L.state library.new).told a → IsImportOf unit (import_execution base.now when toolchain.now path.now a).end) }
-    ensures asked { IfOk result (λ unit. (a : Answers) → Includes (L.state library.new).told a → (import_execution base.now when toolchain.now path.now a).asked ≡ asked_of unit) }
-    ensures need { IfErr result (λ stop. WhereStopped stop
-        (λ asked. (a : Answers) → (L.state library.new).told ≡ Some a → IsNeeded (L.state library.new).need asked (import_execution base.now when toolchain.now path.now a))) }
-    ensures goes { GoesOn (L.state library.old) (L.state library.new) }
-    ensures rose { IfErr result (λ stop. WhereStopped stop (λ asked. (L.state library.old).stops < (L.state library.new).stops)) }
+    ensures { Executes IsImportOf (L.state library.old) (L.state library.new) result (import_execution base.now when toolchain.now path.now) }
 {
     let mut out = Outcome::new(alloc);
     match execute_import(alloc, base, when, toolchain, path, &mut out, library) {
         Ok(value) => Ok(Unit::Import(value, out)),
-        Err(EvalEnd::Wrong(fault)) => Ok(Unit::Wrong(fault, out.into_asked())),
-        Err(EvalEnd::Spoiled(path, place)) => Ok(Unit::Spoiled(path, place, out.into_asked())),
-        Err(EvalEnd::Stopped) => Err(EvalStop::Stopped(out.into_asked())),
-        Err(EvalEnd::Memory) => Err(EvalStop::Memory),
+        Err(end) => ended(end, out.into_asked()),
     }
 }
 

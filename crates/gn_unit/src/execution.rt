@@ -2,6 +2,7 @@
 
 ghost use Rattle.std.specs.Prelude.{◌≡◌, ◌≢◌, ◌≤◌, [], true, false, Err, IfOk, length};
 ghost use Rattle.gn_value_model.specs.Limits.{max_bytes};
+ghost use Rattle.gn_paths.specs.Directory.{directory_of};
 ghost use Rattle.gn_tree.specs.Depth.{IsShallow};
 ghost use Rattle.gn_faults.specs.declared.file_kind.FileKind.{FileKind as Kind};
 ghost use Rattle.gn_items.specs.Effects.{Effects};
@@ -40,6 +41,15 @@ fn build_file(alloc: Global, directory: &Path) -> Result<Path, AllocError>
     }
 }
 
+// The path of a file as a text, and the directory in which it stands.
+fn file_and_directory(alloc: Global, path: &Path) -> Result<(Text, Path), AllocError>
+    ensures { IfOk result (λ f. f ≡ (path.now, directory_of path.now)) }
+{
+    let file = path.as_text().copy(alloc)?;
+    let stands_in = directory(alloc, path)?;
+    Ok((file, stands_in))
+}
+
 /// Where the execution of the file at a path begins over a base, by its name.
 pub(crate) fn environment(
     alloc: Global,
@@ -51,19 +61,18 @@ pub(crate) fn environment(
 ) -> Result<Env, AllocError>
     ensures { IfOk result (λ env. env ≡ begins_over base.now kind path.now execution checked) }
 {
-    let context = base.share_context()?;
-    let stands_in = directory(alloc, path)?;
-    let beneath = base.share_beneath(alloc, &stands_in)?;
+    let (file, stands_in) = file_and_directory(alloc, path)?;
+    let (context, beneath, definitions) = base.share(alloc, &stands_in)?;
     Ok(Env::new(
         alloc,
         context,
         kind,
-        path.as_text().copy(alloc)?,
+        file,
         stands_in,
         execution,
         checked,
         beneath,
-        base.share_definitions(alloc)?,
+        definitions,
     ))
 }
 

@@ -4,7 +4,7 @@ ghost use Rattle.std.specs.Prelude.{◌≡◌, [], ◌∷◌, IfOk, option_map};
 ghost use Rattle.gn_values.specs.View.{val_of};
 ghost use Rattle.gn_executions.specs.Dotfile.{name_fault, left_out, source_path, path_of, configuration_of, arguments_of, secondary_of, executable_of, dotfile_of};
 ghost use Rattle.gn_meaning.specs.Imports.{path_code};
-ghost use Rattle.gn_unit.specs.Alone.{IsNameFault, Says, names_state};
+ghost use Rattle.gn_unit.specs.Alone.{IsNameFault, Says, names_state, none_left_out, first_names, last_names};
 
 use gn_faults::Code;
 use gn_paths::{Path, PathFault, Text, Texts, path_meant};
@@ -148,12 +148,9 @@ fn executable_of(alloc: Global, value: Option<&Value>) -> Result<Text, NameStop>
     }
 }
 
-/// What the names of a dotfile say, with their values. `Wrong` has the first that is wrong: `root`, `build_file_extension` and
-/// `arg_file_template` must have no value, then `buildconfig`, `default_args`, `secondary_source` and `script_executable` are looked
-/// at in this order.
-#[tactic(auto, unfolding(gn_executions::specs::Dotfile::dotfile_of))]
-pub(crate) fn names_of(alloc: Global, entries: &Bindings) -> Result<DotfileNames, NameStop>
-    ensures { Says names_state result (dotfile_of entries.now) }
+// Three names must have no value.
+fn none_left_out(alloc: Global, entries: &Bindings) -> Result<(), NameStop>
+    ensures { Says (λ u. u) result (none_left_out entries.now) }
 {
     left_out(alloc, b"root", entries.get(b"root"))?;
     left_out(
@@ -165,11 +162,37 @@ pub(crate) fn names_of(alloc: Global, entries: &Bindings) -> Result<DotfileNames
         alloc,
         b"arg_file_template",
         entries.get(b"arg_file_template"),
-    )?;
+    )
+}
+
+// The build configuration, and the values that build arguments are given.
+fn first_names(alloc: Global, entries: &Bindings) -> Result<(Path, Overrides), NameStop>
+    ensures { Says (λ p. p) result (first_names entries.now) }
+{
     let configuration = configuration_of(alloc, entries.get(b"buildconfig"))?;
     let arguments = arguments_of(alloc, entries.get(b"default_args"))?;
+    Ok((configuration, arguments))
+}
+
+// The secondary source tree, and the program that runs scripts.
+fn last_names(alloc: Global, entries: &Bindings) -> Result<(Option<Path>, Text), NameStop>
+    ensures { Says (λ p. p) result (last_names entries.now) }
+{
     let secondary = secondary_of(alloc, entries.get(b"secondary_source"))?;
     let executable = executable_of(alloc, entries.get(b"script_executable"))?;
+    Ok((secondary, executable))
+}
+
+/// What the names of a dotfile say, with their values. `Wrong` has the first that is wrong: `root`, `build_file_extension` and
+/// `arg_file_template` must have no value, then `buildconfig`, `default_args`, `secondary_source` and `script_executable` are looked
+/// at in this order.
+#[tactic(auto, using(crate::proofs::NamesInTurn::names_in_turn))]
+pub(crate) fn names_of(alloc: Global, entries: &Bindings) -> Result<DotfileNames, NameStop>
+    ensures { Says names_state result (dotfile_of entries.now) }
+{
+    none_left_out(alloc, entries)?;
+    let (configuration, arguments) = first_names(alloc, entries)?;
+    let (secondary, executable) = last_names(alloc, entries)?;
     Ok(DotfileNames {
         configuration,
         arguments,

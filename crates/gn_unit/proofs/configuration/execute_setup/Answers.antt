@@ -6,15 +6,13 @@ use Rattle.gn_meaning.specs.Steps.{ends}
 use Rattle.gn_meaning.specs.Meaning.{configuration_file_runs}
 use Rattle.gn_eval.specs.Ends.{IsFailure}
 use Rattle.gn_executions.specs.Setups.{secondary_tree_runs, setup_begins, setup_runs}
-use Rattle.gn_unit.proofs.Configurations.{setup_from, setup_set}
+use Rattle.gn_unit.proofs.Configurations.{setup_set}
 use Rattle.gn_eval.specs.Telling.{covered, told_before, goes_on_further}
 use Rattle.gn_unit.proofs.Executions.{then_goes, then_fails}
 use Rattle.gn_unit.proofs.configuration.execute_setup.Goals as goal
 
 pub configuration_tree-requires : goal.configuration_tree-requires
-configuration_tree-requires g c =
-    let base = c.args.base.now in
-    ap (λ (e : Environment). e.setting.file) (setup_from base c.args.toolchain.now c.configuration-path.result.now c.in_ok-execution.execution c.in_ok-env.env c.in_ok-env.ensures c.configuration-path.ensures c.in_ok-execution.ensures) ∙ setup_set base c.args.toolchain.now
+configuration_tree-requires g c = ap (λ (e : Environment). e.setting.file) c.in_ok-env.ensures ∙ setup_set c.args.base.now c.args.toolchain.now
 
 pub returns-in-Ok : goal.returns-in-Ok
 unfolding setup_runs
@@ -24,7 +22,7 @@ returns-in-Ok g c =
     let told = (g.L.Library.state c.run_configuration_file.new.library).told in
     let need = (g.L.Library.state c.run_configuration_file.new.library).need in
     let begins = setup_begins base c.args.toolchain.now in
-    let same = setup_from base c.args.toolchain.now c.configuration-path.result.now c.in_ok-execution.execution c.in_ok-env.env c.in_ok-env.ensures c.configuration-path.ensures c.in_ok-execution.ensures in
+    let same = c.in_ok-env.ensures in
     record {
       runs = λ a h.
           then_goes (λ tree env1 out1. configuration_file_runs a tree env1 out1) need (λ v. v) (secondary_tree_runs base.secondary a begins out) c.in-Ok.parsed c.block.result.now c.configuration_tree.new.env c.configuration_tree.new.out c.run_configuration_file.new.out c.run_configuration_file.result
@@ -45,7 +43,7 @@ returns-in-Err g c =
     let told = (g.L.Library.state c.configuration_tree.new.library).told in
     let need = (g.L.Library.state c.configuration_tree.new.library).need in
     let begins = setup_begins base c.args.toolchain.now in
-    let same = setup_from base c.args.toolchain.now c.configuration-path.result.now c.in_ok-execution.execution c.in_ok-env.env c.in_ok-env.ensures c.configuration-path.ensures c.in_ok-execution.ensures in
+    let same = c.in_ok-env.ensures in
     record {
       runs = λ a h.
           then_fails (λ tree env1 out1. configuration_file_runs a tree env1 out1) need {T = ImportState} Parsed (λ v. v) told (secondary_tree_runs base.secondary a begins out) (Err c.in-Err.end) c.in-Err.end a c.configuration_tree.new.out refl

@@ -1,10 +1,7 @@
-use Rattle.std.proofs.Common.{sym, ap, ◌∙◌, subst}
+use Rattle.std.proofs.Common.{ap, ◌∙◌}
 use Rattle.gn_runs.specs.Runs.{is_absent}
 use Rattle.gn_meaning.specs.Steps.{then_do}
-use Rattle.gn_eval.specs.Ends.{IsRun}
-use Rattle.gn_eval.specs.declared.library.Found.{Found}
 use Rattle.gn_executions.specs.Setups.{path_below, other_content_runs, content_or_other}
-use Rattle.gn_unit.specs.Found.{content_view}
 use Rattle.gn_unit.specs.Configuration.{own_content_runs}
 use Rattle.gn_unit.proofs.Configurations.{other_below, told_still, told_fails, same_runs}
 use Rattle.gn_unit.proofs.configuration.tree_below.Goals as goal
@@ -21,34 +18,6 @@ returns-in_err-found-clause-evaluates g c =
     (λ a. other_below c.args.tree.now c.args.base.now.configuration path a env out (c.in_ok-path.ensures ∙ ap (path_below c.args.tree.now) c.configuration.ensures))
     (told_fails (λ t. t) before mid c.from_residual-in_err-found.result c.in_err-found.field-0.0 env after (λ a. own_content_runs path a env out) (λ a content env1 out1. other_content_runs path content env1 out1) c.from_residual-in_err-found.ensures.1 (c.in_err-found.ensures.evaluates env))
 
-pub returns-in-Absent-clause-evaluates : goal.returns-in-Absent-clause-evaluates
-returns-in-Absent-clause-evaluates g c =
-    let before = g.L.Library.state c.args.library.now in
-    let mid = g.L.Library.state c.content_at.new.library in
-    let env = c.args.env.now in
-    let path = c.in_ok-path.path in
-    let out = c.args.out.now in
-    let after = c.content_at.new.out in
-    let told = c.in_ok-found.ensures.evaluates env in
-    same_runs (λ t. t) before mid c.tree_in.result env after (λ a. content_or_other (path_below c.args.tree.now c.args.base.now.configuration) a is_absent env out) (λ a. then_do (own_content_runs path a env out) (λ content env1 out1. other_content_runs path content env1 out1))
-    (λ a. other_below c.args.tree.now c.args.base.now.configuration path a env out (c.in_ok-path.ensures ∙ ap (path_below c.args.tree.now) c.configuration.ensures))
-    (told_still before mid path env out after c.in_ok-found.found (λ a content env1 out1. other_content_runs path content env1 out1) told.runs told.goes (λ t. t) c.tree_in.result env after c.tree_in.ensures.reads
-    (λ a. subst (λ (f : Found). IsRun (λ t. t) mid.need c.tree_in.result env after (other_content_runs path (content_view f) env after)) (sym c.in-Absent.is) (c.tree_in.ensures.tree mid.need after)))
-
-pub returns-in-TooBig-clause-evaluates : goal.returns-in-TooBig-clause-evaluates
-returns-in-TooBig-clause-evaluates g c =
-    let before = g.L.Library.state c.args.library.now in
-    let mid = g.L.Library.state c.content_at.new.library in
-    let env = c.args.env.now in
-    let path = c.in_ok-path.path in
-    let out = c.args.out.now in
-    let after = c.content_at.new.out in
-    let told = c.in_ok-found.ensures.evaluates env in
-    same_runs (λ t. t) before mid c.tree_there.result c.tree_there.new.env after (λ a. content_or_other (path_below c.args.tree.now c.args.base.now.configuration) a is_absent env out) (λ a. then_do (own_content_runs path a env out) (λ content env1 out1. other_content_runs path content env1 out1))
-    (λ a. other_below c.args.tree.now c.args.base.now.configuration path a env out (c.in_ok-path.ensures ∙ ap (path_below c.args.tree.now) c.configuration.ensures))
-    (told_still before mid path env out after c.in_ok-found.found (λ a content env1 out1. other_content_runs path content env1 out1) told.runs told.goes (λ t. t) c.tree_there.result c.tree_there.new.env after c.tree_there.ensures.reads
-    (λ a. subst (λ (f : Found). IsRun (λ t. t) mid.need c.tree_there.result c.tree_there.new.env after (other_content_runs path (content_view f) env after)) (sym c.in-TooBig.is) (c.tree_there.ensures.tree mid.need after)))
-
 pub returns-clause-evaluates : goal.returns-clause-evaluates
 returns-clause-evaluates g c =
     let before = g.L.Library.state c.args.library.now in
@@ -58,7 +27,7 @@ returns-clause-evaluates g c =
     let out = c.args.out.now in
     let after = c.content_at.new.out in
     let told = c.in_ok-found.ensures.evaluates env in
-    same_runs (λ t. t) before mid c.tree_there-in-Bytes.result c.tree_there-in-Bytes.new.env after (λ a. content_or_other (path_below c.args.tree.now c.args.base.now.configuration) a is_absent env out) (λ a. then_do (own_content_runs path a env out) (λ content env1 out1. other_content_runs path content env1 out1))
+    same_runs (λ t. t) before mid c.other_tree.result c.other_tree.new.env after (λ a. content_or_other (path_below c.args.tree.now c.args.base.now.configuration) a is_absent env out) (λ a. then_do (own_content_runs path a env out) (λ content env1 out1. other_content_runs path content env1 out1))
     (λ a. other_below c.args.tree.now c.args.base.now.configuration path a env out (c.in_ok-path.ensures ∙ ap (path_below c.args.tree.now) c.configuration.ensures))
-    (told_still before mid path env out after c.in_ok-found.found (λ a content env1 out1. other_content_runs path content env1 out1) told.runs told.goes (λ t. t) c.tree_there-in-Bytes.result c.tree_there-in-Bytes.new.env after c.tree_there-in-Bytes.ensures.reads
-    (λ a. subst (λ (f : Found). IsRun (λ t. t) mid.need c.tree_there-in-Bytes.result c.tree_there-in-Bytes.new.env after (other_content_runs path (content_view f) env after)) (sym c.in-Bytes.is) (c.tree_there-in-Bytes.ensures.tree mid.need after)))
+    (told_still before mid path env out after c.in_ok-found.found (λ a content env1 out1. other_content_runs path content env1 out1) told.runs told.goes (λ t. t) c.other_tree.result c.other_tree.new.env after c.other_tree.ensures.reads
+    (λ a. c.other_tree.ensures.tree mid.need after))
