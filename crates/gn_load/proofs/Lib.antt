@@ -13,3 +13,4 @@ mod LinkLemmas
 mod TakeLemmas
 mod WorkLemmas
 mod EndLemmas
+mod SetupLemmas

@@ -15,7 +15,7 @@ use Rattle.gn_load.specs.declared.answer.Filed.TheVariants.{Content as content_f
 
 -- what there is at a path
 abbrev pub content_view : FileContent → Content
-content_view (Bytes file) = has_bytes file.bytes
+content_view (Bytes file) = has_bytes file.value.bytes
 content_view Absent = is_absent
 content_view TooBig = is_too_big
 

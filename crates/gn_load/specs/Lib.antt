@@ -1,6 +1,7 @@
 pub mod Parsing
 pub mod Answers
 pub mod Bases
+pub mod Setups
 pub mod Performing
 pub mod Told
 pub mod Evaluating

@@ -1,28 +1,45 @@
 // What is filed.
 
-ghost use Rattle.std.specs.Prelude.{◌≡◌, Some, option_map};
+ghost use Rattle.std.specs.Prelude.{◌≡◌, ◌<◌, IfOk, Some, length, option_map};
+ghost use Rattle.gn_book.specs.Keys.{key_of};
+ghost use Rattle.gn_book.specs.Logs.{key_at, state_of};
 ghost use Rattle.gn_graph.specs.Needs.{done_of};
-ghost use Rattle.gn_load.specs.Answers.{run_of, unit_left, meaning_of, unit_run, left_in};
+ghost use Rattle.gn_load.specs.Answers.{content_view, run_of, unit_left, meaning_of, unit_run, left_in};
 ghost use Rattle.gn_builds.specs.Worlds.{nothing_needed};
 
 use crate::file_bytes::FileBytes;
-use gn_book::{Answer, Mentions};
+use gn_book::{Book, KeyId, Mentions};
 use gn_definitions::ImportValue;
 use gn_faults::Fault;
 use gn_graph::UnitNeeds;
-use gn_items::{Outcome, Question};
+use gn_items::{Key, Outcome, Question};
 use gn_paths::{Path, Place, Text};
 use std::alloc::{AllocError, Global};
+use std::marker::Model;
+use std::sync::Arc;
 
 /// What there is at a path.
 #[derive(Drop)]
 pub enum FileContent {
-    /// A file.
-    Bytes(FileBytes),
+    /// A file. Several may have its bytes at once.
+    Bytes(Arc<FileBytes>),
     /// No file.
     Absent,
     /// A file that is longer than the limit.
     TooBig,
+}
+
+impl FileContent {
+    /// The same once more. The bytes of a file aren't copied.
+    pub fn copy(&self) -> Result<FileContent, AllocError>
+        ensures { IfOk result (λ content. content_view content ≡ content_view self.now) }
+    {
+        match self {
+            FileContent::Bytes(file) => Ok(FileContent::Bytes(file.clone()?)),
+            FileContent::Absent => Ok(FileContent::Absent),
+            FileContent::TooBig => Ok(FileContent::TooBig),
+        }
+    }
 }
 
 /// How an execution has ended.
@@ -51,6 +68,51 @@ pub enum Filed {
     NoValue(Path, Place, Vec<Question>),
 }
 
+/// The answer of a key: what is filed for it, which nobody changes from then on. Several may have it at once: a copy copies nothing of it.
+/// Contracts see what is filed.
+#[derive(Drop)]
+pub struct Answer {
+    filed: Arc<Filed>,
+}
+
+impl Model for Answer {
+    ghost use Rattle.gn_load.specs.declared.answer.Filed.{Filed};
+    ghost use Rattle.gn_load.specs.contracts.answer.Filed.{the_row};
+
+    ghost Value = { Filed };
+
+    ghost coded = { the_row.coded };
+
+    ghost view = { λ a. a.filed.value };
+}
+
+impl Answer {
+    /// The answer that has this filed for its key.
+    pub fn new(alloc: Global, filed: Filed) -> Result<Answer, AllocError>
+        ensures { IfOk result (λ answer. answer ≡ filed) }
+    {
+        Ok(Answer {
+            filed: Arc::new(alloc, filed)?,
+        })
+    }
+
+    /// What is filed. It takes no memory.
+    pub fn filed(&self) -> &Filed
+        ensures { result.now ≡ self.now }
+    {
+        &self.filed
+    }
+
+    /// The same answer once more. Nothing of it is copied.
+    pub fn copy(&self) -> Result<Answer, AllocError>
+        ensures { IfOk result (λ answer. answer ≡ self.now) }
+    {
+        Ok(Answer {
+            filed: self.filed.clone()?,
+        })
+    }
+}
+
 // A unit that is done needs nothing: labels of other directories aren't followed yet, nor is that of the default toolchain.
 fn nothing_needed(alloc: Global) -> UnitNeeds
     ensures { done_of result ≡ nothing_needed }
@@ -62,11 +124,11 @@ fn nothing_needed(alloc: Global) -> UnitNeeds
     }
 }
 
-impl Answer for Filed {
+impl gn_book::Answer for Answer {
     ghost meaning = { meaning_of };
 
     fn mentions(&self, alloc: Global) -> Result<Mentions, AllocError> {
-        match self {
+        match self.filed() {
             Filed::Content(_) => Ok(Mentions::NoUnit),
             Filed::Import(_) => Ok(Mentions::NoUnit),
             Filed::NoValue(..) => Ok(Mentions::NoUnit),
@@ -74,6 +136,27 @@ impl Answer for Filed {
             Filed::Unit(Executed::Wrong(..)) => Ok(Mentions::Nothing),
             Filed::Unit(Executed::Spoiled(..)) => Ok(Mentions::Nothing),
         }
+    }
+}
+
+/// What is filed for a key. None comes exactly where nothing is.
+pub(crate) fn find<'a>(book: &'a Book<Answer>, key: &Key) -> Option<&'a Filed>
+    ensures { option_map (λ filed. meaning_of filed.now) result ≡ (state_of book.now).filed (key_of key.now) }
+{
+    match book.find(key) {
+        Some(answer) => Some(answer.filed()),
+        None => None,
+    }
+}
+
+/// What is filed for the key of a number. None comes exactly where nothing is.
+pub(crate) fn find_at<'a>(book: &'a Book<Answer>, number: KeyId) -> Option<&'a Filed>
+    requires { number < length book.now.keys }
+    ensures { option_map (λ filed. meaning_of filed.now) result ≡ (state_of book.now).filed (key_at book.now number) }
+{
+    match book.answer(number) {
+        Some(answer) => Some(answer.filed()),
+        None => None,
     }
 }
 

@@ -8,7 +8,7 @@ ghost use Rattle.gn_builds.specs.Loaded.{lines, effects_of, lines_of_build, decl
 ghost use Rattle.gn_load.specs.Answers.{meaning_of, unit_run, left_by};
 ghost use Rattle.gn_load.specs.Whole.{AreWithin, effects_by, IsWhole};
 
-use crate::answer::{Executed, Filed, left_of, unit_of};
+use crate::answer::{Answer, Executed, Filed, find, find_at, left_of, unit_of};
 use gn_book::{Book, KeyId};
 use gn_items::{Declaration, Key, Outcome};
 use gn_paths::{Path, Text};
@@ -18,7 +18,7 @@ use std::collections::BTreeMap;
 /// A build that was loaded: what its build configuration, its build file and their imports have left.
 #[derive(Drop)]
 pub struct Built {
-    pub(crate) book: Book<Filed>,
+    pub(crate) book: Book<Answer>,
     // The numbers of the imports of the build configuration, and of the others, by the paths of their files.
     pub(crate) early: BTreeMap<Path, KeyId>,
     pub(crate) imports: BTreeMap<Path, KeyId>,
@@ -66,14 +66,14 @@ fn append_lines(text: &mut Vec<u8>, lines: &[Text]) -> Result<(), AllocError>
 // Puts the lines at the end that imports have printed, in the order of the paths of their files.
 fn append_imports(
     text: &mut Vec<u8>,
-    book: &Book<Filed>,
+    book: &Book<Answer>,
     imports: &BTreeMap<Path, KeyId>,
 ) -> Result<(), AllocError>
     requires { AreWithin book.now imports.now.entries }
     ensures { OnOk result (text.new.items ≡ text.old.items ++ flat_map lines (effects_by book.now imports.now.entries)) }
 {
     for (_, number) in imports {
-        append_found(text, book.answer(*number))?;
+        append_found(text, find_at(book, *number))?;
     }
     Ok(())
 }
@@ -120,7 +120,7 @@ fn push_found<'a>(
 
 // Puts what imports have declared behind others, in the order of the paths of their files.
 fn push_imports<'a>(
-    book: &'a Book<Filed>,
+    book: &'a Book<Answer>,
     imports: &BTreeMap<Path, KeyId>,
     declared: &mut Vec<&'a Declaration>,
 ) -> Result<(), AllocError>
@@ -128,16 +128,16 @@ fn push_imports<'a>(
     ensures { OnOk result (map (λ d. d.now) declared.new.items ≡ map (λ d. d.now) declared.old.items ++ flat_map (λ e. e.declared) (effects_by book.now imports.now.entries)) }
 {
     for (_, number) in imports {
-        push_found(book.answer(*number), declared)?;
+        push_found(find_at(book, *number), declared)?;
     }
     Ok(())
 }
 
 // What the execution of the unit of a key has left.
-fn find_left<'a>(book: &'a Book<Filed>, unit: &Key) -> Option<&'a Outcome>
+fn find_left<'a>(book: &'a Book<Answer>, unit: &Key) -> Option<&'a Outcome>
     ensures { option_map (λ outcome. outcome.now) result ≡ left_by (unit_run ((state_of book.now).filed (key_of unit.now))) }
 {
-    match book.find(unit) {
+    match find(book, unit) {
         None => None,
         Some(filed) => match unit_of(filed) {
             None => None,

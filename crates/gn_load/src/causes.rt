@@ -14,7 +14,7 @@ ghost use Rattle.gn_load.specs.Answers.{run_of, meaning_of};
 ghost use Rattle.gn_load.specs.Links.{IsLedBy, IsFollowed};
 ghost use Rattle.gn_load.specs.Plain.{IsReachedUnit};
 
-use crate::answer::{Executed, Filed};
+use crate::answer::{Answer, Executed, Filed, find};
 use gn_book::Book;
 use gn_builds::{
     links_lead_to_the_error, loading_by_one_seat_is_the_build, loading_ends_with_the_build,
@@ -60,14 +60,14 @@ fn led_by(filed: &Filed) -> Led<'_>
 // What the import of a path leads to, among those of a layer under the default toolchain.
 fn led_at<'a>(
     alloc: Global,
-    book: &'a Book<Filed>,
+    book: &'a Book<Answer>,
     when: When,
     path: &Path,
 ) -> Result<Led<'a>, AllocError>
     ensures { IfOk result (IsLedBy ((state_of book.now).filed (Import (layer_at when []) path.now))) }
 {
     let key = Key::Import(when, Text::new(alloc), path.copy(alloc)?);
-    match book.find(&key) {
+    match find(book, &key) {
         Some(filed) => Ok(led_by(filed)),
         None => Ok(Led::Nothing),
     }
@@ -76,7 +76,7 @@ fn led_at<'a>(
 // The fault to which links lead from the import of a path, or the link that comes after as many as files were read.
 fn follow<'a>(
     alloc: Global,
-    book: &'a Book<Filed>,
+    book: &'a Book<Answer>,
     when: When,
     reads: usize,
     path: &'a Path,
@@ -130,7 +130,7 @@ fn earlier(alloc: Global, least: Place, place: &Place) -> Result<Place, AllocErr
 // The least of a place and those of so many calls, to which links lead from the import of a path.
 fn least_place(
     alloc: Global,
-    book: &Book<Filed>,
+    book: &Book<Answer>,
     when: When,
     calls: usize,
     path: &Path,
@@ -157,7 +157,7 @@ fn least_place(
 /// first wrong import behind it, or that of the cycle round which its links go, at the least place of the calls on it.
 pub(crate) fn cause(
     alloc: Global,
-    book: &Book<Filed>,
+    book: &Book<Answer>,
     when: When,
     reads: usize,
     path: &Path,

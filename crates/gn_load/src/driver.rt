@@ -15,8 +15,9 @@ ghost use Rattle.gn_load.specs.Answers.{meaning_of, unit_left};
 ghost use Rattle.gn_load.specs.Bases.{AreBases, ConfiguresBy, AreSetUp};
 ghost use Rattle.gn_load.specs.Turns.{TakesAs, IsNeeded, Goes, IsStill, IsNextOf, ReadsAs, IsRead, IsKnownAt, IsFiledFrom, IsReadOnce, IsNumbered, IsNoted, IsTurn, IsReadFor, IsFinish};
 
-use crate::answer::{Executed, FileContent, Filed};
+use crate::answer::{Answer, Executed, FileContent, Filed};
 use crate::bases::Bases;
+use crate::setup::Known;
 use crate::work::{PerformStop, Performed, perform};
 use gn_book::{Blocked, Book, Claim, KeyId};
 use gn_definitions::ImportValue;
@@ -51,16 +52,13 @@ impl From<AllocError> for Stop {
     }
 }
 
-/// What was read before a build is loaded, by paths.
-pub type Known = BTreeMap<Path, FileContent>;
-
 /// The bases of the build, the book, the claims that wait for one another, the last one first, what was read before and isn't filed
 /// yet, how many files were read since, and the numbers of the imports that were claimed, by the paths of their files: of those that
 /// the build configuration needs, and of the others.
 #[derive(Drop)]
 pub(crate) struct Driver {
     pub(crate) bases: Bases,
-    pub(crate) book: Book<Filed>,
+    pub(crate) book: Book<Answer>,
     pub(crate) waiting: VecDeque<Claim>,
     pub(crate) known: Known,
     pub(crate) reads: usize,
@@ -69,12 +67,18 @@ pub(crate) struct Driver {
 }
 
 // Files the answer of a claim. After want of memory nothing is changed.
-fn file(book: &mut Book<Filed>, claim: Claim, answer: Filed) -> Result<(), AllocError>
+fn file(
+    alloc: Global,
+    book: &mut Book<Answer>,
+    claim: Claim,
+    answer: Filed,
+) -> Result<(), AllocError>
     requires { IsClaim book.old claim }
     ensures ok { OnOk result (book.new ≡ with_event book.old (filed 0 (key_of claim.key) (meaning_of answer))) }
     ensures err { OnErr result (book.new ≡ book.old) }
 {
-    let Ok(()) = book.file(claim, answer) else {
+    let shared = Answer::new(alloc, answer)?;
+    let Ok(()) = book.file(claim, shared) else {
         return Err(AllocError);
     };
     Ok(())
@@ -82,7 +86,7 @@ fn file(book: &mut Book<Filed>, claim: Claim, answer: Filed) -> Result<(), Alloc
 
 // The key of a claim needs another one: the seat claims that too. Nothing comes where the wait closes a cycle.
 fn take(
-    book: &mut Book<Filed>,
+    book: &mut Book<Answer>,
     claim: &Claim,
     on: Key,
     place: Place,
@@ -145,7 +149,7 @@ fn settle(
     ensures rest { OnOk result (IsStill driver.old driver.new) }
 {
     set_up(alloc, &mut driver.bases, &answer)?;
-    file(&mut driver.book, claim, answer)?;
+    file(alloc, &mut driver.book, claim, answer)?;
     Ok(driver.waiting.pop_front())
 }
 
@@ -184,12 +188,12 @@ fn count(driver: &mut Driver) -> Result<(), Stop>
 }
 
 // The answer of a read is filed.
-fn read_done(driver: &mut Driver, claim: Claim, answer: Filed) -> Result<(), Stop>
+fn read_done(alloc: Global, driver: &mut Driver, claim: Claim, answer: Filed) -> Result<(), Stop>
     requires claim { IsClaim driver.old.book claim }
     requires few { driver.old.reads ≤ read_limit }
     ensures { ReadsAs driver.old driver.new claim (meaning_of answer) result }
 {
-    file(&mut driver.book, claim, answer)?;
+    file(alloc, &mut driver.book, claim, answer)?;
     count(driver)
 }
 
@@ -207,7 +211,7 @@ fn read_new<S: Source>(
     ensures { IsRead (S.state source.old) (S.state source.new) driver.old driver.new claim result }
 {
     match perform(alloc, &claim.key, &driver.bases, &driver.book, source) {
-        Ok(Performed::Answered(answer)) => read_done(driver, claim, answer),
+        Ok(Performed::Answered(answer)) => read_done(alloc, driver, claim, answer),
         Ok(Performed::Needs(..)) => unreachable!(),
         Err(PerformStop::Failed) => Err(Stop::Failed(path_of(claim.key))),
         Err(PerformStop::Memory) => Err(Stop::Memory),
@@ -228,11 +232,16 @@ fn known_at(driver: &mut Driver, key: &Key) -> Option<FileContent>
 }
 
 // What was read before is filed for a claim.
-fn file_known(driver: &mut Driver, claim: Claim, content: FileContent) -> Result<(), AllocError>
+fn file_known(
+    alloc: Global,
+    driver: &mut Driver,
+    claim: Claim,
+    content: FileContent,
+) -> Result<(), AllocError>
     requires { IsClaim driver.old.book claim }
     ensures { OnOk result (IsFiledFrom driver.old driver.new claim content) }
 {
-    file(&mut driver.book, claim, Filed::Content(content))
+    file(alloc, &mut driver.book, claim, Filed::Content(content))
 }
 
 // The file of a claim is read, unless it was read before.
@@ -249,7 +258,7 @@ fn read<S: Source>(
     ensures { IsReadOnce (S.state source.old) (S.state source.new) driver.old driver.new claim result }
 {
     match known_at(driver, &claim.key) {
-        Some(content) => Ok(file_known(driver, claim, content)?),
+        Some(content) => Ok(file_known(alloc, driver, claim, content)?),
         None => read_new(alloc, driver, claim, source),
     }
 }

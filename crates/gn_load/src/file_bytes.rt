@@ -7,6 +7,7 @@ ghost use Rattle.gn_load.specs.Parsing.{IsReadAs};
 use gn_paths::Text;
 use gn_syntax::{Parsed, SyntaxError, parse};
 use std::alloc::{AllocError, Global};
+use std::sync::Arc;
 
 /// What the bytes of a file are read as.
 #[derive(Drop)]
@@ -44,14 +45,15 @@ fn parsed(alloc: Global, bytes: &[u8]) -> Result<ReadAs, AllocError>
 
 impl FileBytes {
     /// The bytes of a file, parsed.
-    pub(crate) fn new(alloc: Global, bytes: Vec<u8>) -> Result<FileBytes, AllocError>
+    pub(crate) fn new(alloc: Global, bytes: Vec<u8>) -> Result<Arc<FileBytes>, AllocError>
         requires { length bytes.items ≤ 16777216 }
-        ensures { IfOk result (λ file. file.bytes ≡ bytes.items) }
+        ensures { IfOk result (λ file. file.value.bytes ≡ bytes.items) }
     {
         let read_as = parsed(alloc, bytes.as_slice())?;
-        Ok(FileBytes {
+        let file = FileBytes {
             bytes: Text::from_vec(bytes),
             read_as,
-        })
+        };
+        Ok(Arc::new(alloc, file)?)
     }
 }

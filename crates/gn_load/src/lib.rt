@@ -12,15 +12,16 @@ mod keys;
 mod part;
 mod plain;
 mod reading;
+mod setup;
 mod told;
 mod work;
 
-pub use answer::{Executed, FileContent, Filed};
+pub use answer::{Answer, Executed, FileContent, Filed};
 pub use bases::{Bases, toolchain_text};
 pub use built::Built;
-pub use driver::Known;
 pub use file_bytes::{FileBytes, ReadAs};
 pub use part::Part;
 pub use plain::{LoadEnd, Plain, load_plain};
 pub use reading::read_content;
+pub use setup::{Given, Known, Setup};
 pub use work::{PerformStop, Performed, perform};

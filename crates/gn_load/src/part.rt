@@ -5,7 +5,7 @@ ghost use Rattle.gn_book.specs.Keys.{key_of};
 ghost use Rattle.gn_core.specs.Keys.{Filed as Answers};
 ghost use Rattle.gn_load.specs.Answers.{meaning_of};
 
-use crate::answer::Filed;
+use crate::answer::{Answer, Filed, find};
 use gn_book::Book;
 use gn_items::Key;
 
@@ -19,12 +19,12 @@ pub trait Part: Drop {
         ensures { option_map (λ filed. meaning_of filed.now) result ≡ answers self.now (key_of key.now) };
 }
 
-impl Part for Book<Filed> {
+impl Part for Book<Answer> {
     ghost use Rattle.gn_book.specs.Logs.{state_of};
 
     ghost answers = { λ book. (state_of book).filed };
 
     fn find(&self, key: &Key) -> Option<&Filed> {
-        Book::find(self, key)
+        find(self, key)
     }
 }

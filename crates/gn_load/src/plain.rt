@@ -3,7 +3,7 @@
 ghost use Rattle.std.specs.Prelude.{◌≡◌, ◌<◌, ◌≤◌, ◌+◌, ◌^◌, [], List, ℕ, Some, IfOk, length};
 ghost use Rattle.gn_outside.specs.Tree.{Tree};
 ghost use Rattle.gn_outside.specs.States.{SourceState};
-ghost use Rattle.gn_closure.specs.Reach.{Setup};
+ghost use Rattle.gn_closure.specs.Reach.{Setup as set_up};
 ghost use Rattle.gn_core.specs.Keys.{early, usual, Unit_of, unit_is};
 ghost use Rattle.gn_core.specs.Machine.{IsOver, read_limit};
 ghost use Rattle.gn_executions.specs.Base.{BaseState};
@@ -17,16 +17,18 @@ ghost use Rattle.gn_builds.specs.Causes.{read_count};
 ghost use Rattle.gn_builds.specs.Rest.{AreImports, Rests, ReadsAsked};
 ghost use Rattle.gn_load.specs.Answers.{run_of, unit_left};
 ghost use Rattle.gn_load.specs.Turns.{known_paths, Goes};
+ghost use Rattle.gn_load.specs.Setups.{given_base};
 ghost use Rattle.gn_load.specs.Whole.{IsWhole};
 ghost use Rattle.gn_load.specs.Ends.{IsEndOf, CountsEnd, CountsUnits};
 ghost use Rattle.gn_load.specs.Plain.{Agrees, IsStarted, files_named, HasCounted, TakesUp, IsDrive, unit_of_layer, IsReachedUnit, IsWrongUnit, IsWrongBuild, IsJudged, IsWholeBy, EndsBy, IsEndOver, IsStopped, IsLoad, end_or_memory};
 
-use crate::answer::{Executed, Filed, unit_of};
+use crate::answer::{Answer, Executed, find, unit_of};
 use crate::bases::Bases;
 use crate::built::Built;
 use crate::causes::cause;
-use crate::driver::{Driver, Known, Stop, finish};
+use crate::driver::{Driver, Stop, finish};
 use crate::keys::{first_key, root_key};
+use crate::setup::{Known, Setup};
 use gn_book::{Book, Claim, Next};
 use gn_builds::{
     links_lead_to_the_error, loading_by_one_seat_is_the_build, loading_ends_with_the_build,
@@ -159,7 +161,7 @@ fn stopped(alloc: Global, stop: Stop) -> LoadEnd
 // The error of the unit of a layer that has this answer, if it has one.
 fn fault_of(
     alloc: Global,
-    book: &Book<Filed>,
+    book: &Book<Answer>,
     when: When,
     reads: usize,
     answer: &Executed<Option<ImportValue>>,
@@ -183,7 +185,7 @@ fn fault_of(
 // The error of the unit of a layer in a build that was loaded, if it has one.
 fn wrong(
     alloc: Global,
-    book: &Book<Filed>,
+    book: &Book<Answer>,
     when: When,
     reads: usize,
     unit: &Key,
@@ -196,7 +198,7 @@ fn wrong(
 {
     loading_ends_with_the_build();
     loading_by_one_seat_is_the_build();
-    match book.find(unit) {
+    match find(book, unit) {
         None => unreachable!(),
         Some(filed) => match unit_of(filed) {
             None => unreachable!(),
@@ -208,14 +210,14 @@ fn wrong(
 // The error of a build that was loaded, if it has one: that of its build configuration, or else that of its build file.
 fn wrong_build(
     alloc: Global,
-    book: &Book<Filed>,
+    book: &Book<Answer>,
     reads: usize,
     configuration: &Key,
     file: &Key,
 ) -> Result<Option<Fault>, AllocError>
     requires rest { (start : BaseState) × Rests start book.now }
     requires reads { reads ≡ read_count book.now }
-    requires configuration { key_of configuration.now ≡ Unit_of (Setup []) }
+    requires configuration { key_of configuration.now ≡ Unit_of (set_up []) }
     requires file { key_of file.now ≡ Unit_of first_file }
     ensures { IfOk result (IsWrongBuild book.now) }
 {
@@ -336,6 +338,23 @@ fn load<S: Source>(
     }
 }
 
+// Loads the build of a setup.
+fn load_setup<S: Source>(
+    alloc: Global,
+    setup: &Setup,
+    source: &mut S,
+    units: &mut u64,
+) -> Result<LoadEnd, AllocError>
+    requires known { (tree : Tree) → (S.state source.old).tree ≡ Some tree → Agrees setup.now.known.entries tree }
+    requires units { units.old ≡ 0 }
+    ensures { IsLoad (given_base setup.now) (known_paths setup.now.known.entries) (S.state source.old) (S.state source.new) units.new result }
+{
+    loading_by_one_seat_is_the_build();
+    let known = setup.share_known(alloc)?;
+    let base = setup.base(alloc)?;
+    load(alloc, base, known, source, units)
+}
+
 // The end of loading, and want of memory where there is none.
 fn end_or_memory(loaded: Result<LoadEnd, AllocError>) -> LoadEnd
     ensures { result ≡ end_or_memory loaded }
@@ -346,18 +365,18 @@ fn end_or_memory(loaded: Result<LoadEnd, AllocError>) -> LoadEnd
     }
 }
 
-/// Loads a build by one seat: its build configuration, which has this base, and behind it the build file of the source root. What is
+/// Loads a build by one seat: its build configuration, and behind it the build file of the source root, by what is known before. What is
 /// needed is read, each path once and none that was read before, and evaluated over what is filed. What was read before is what the source's tree
 /// has there, where it tells one. `Built` has what the build leaves, `Wrong` the least error of the build; `Failed` comes exactly where the source's count of faults rose. It always returns.
-pub fn load_plain<S: Source>(alloc: Global, base: Base, known: Known, source: &mut S) -> Plain
-    requires known { (tree : Tree) → (S.state source.old).tree ≡ Some tree → Agrees known.entries tree }
-    ensures end { (tree : Tree) → (S.state source.old).tree ≡ Some tree → IsEndOf base (known_paths known.entries) tree result.end result.units }
-    ensures reads { ReadsAsked base (known_paths known.entries) (S.state source.old) (S.state source.new) }
+pub fn load_plain<S: Source>(alloc: Global, setup: &Setup, source: &mut S) -> Plain
+    requires known { (tree : Tree) → (S.state source.old).tree ≡ Some tree → Agrees setup.now.known.entries tree }
+    ensures end { (tree : Tree) → (S.state source.old).tree ≡ Some tree → IsEndOf (given_base setup.now) (known_paths setup.now.known.entries) tree result.end result.units }
+    ensures reads { ReadsAsked (given_base setup.now) (known_paths setup.now.known.entries) (S.state source.old) (S.state source.new) }
     ensures faults { CountsEnd (S.state source.old) (S.state source.new) result.end }
     ensures units { CountsUnits result.units result.end }
 {
     let mut units = 0;
-    let loaded = load(alloc, base, known, source, &mut units);
+    let loaded = load_setup(alloc, setup, source, &mut units);
     let end = end_or_memory(loaded);
     Plain { end, units }
 }

@@ -12,6 +12,9 @@ use Rattle.gn_builds.specs.Driving.{FailsAt}
 use Rattle.gn_builds.specs.Rest.{ReadsAsked}
 use Rattle.gn_builds.specs.Loaded.{Build as Loaded, UnitCount, Exactly, AtMost, Failure, declared_by_build, paths_asked}
 use Rattle.gn_load.specs.Ends.{build_of, IsEndOf, IsCountOf, CountsEnd}
+use Rattle.gn_load.specs.Setups.{given_base}
+use Rattle.gn_load.specs.Turns.{known_paths}
+use Rattle.gn_load.specs.declared.answer.FileContent.{FileContent}
 use Rattle.gn_load.specs.declared.built.Built.{Built}
 use Rattle.gn_load.specs.declared.plain.LoadEnd.{LoadEnd}
 use Rattle.gn_load.specs.declared.plain.LoadEnd.TheVariants as load_end
@@ -22,9 +25,10 @@ use Rattle.gn_top.specs.Run.{IsCount}
 use Rattle.gn_top.specs.Steps.{IfCannotRead, CountsFault}
 use Rattle.gn_top.specs.declared.answered.RunStop.{RunStop}
 use Rattle.gn_top.specs.declared.answered.RunStop.TheVariants.{CannotRead, Memory}
+use Rattle.gn_top.specs.declared.building.Started.{Started}
 use Rattle.gn_top.specs.declared.building.BuildEnd.{BuildEnd}
 use Rattle.gn_top.specs.declared.building.BuildEnd.TheVariants as build_end
-use Rattle.gn_top.specs.Building.{IsBuild, StopsAs, ReadsOf, ReadsKnown, ReadsBuild, KnowsAlso}
+use Rattle.gn_top.specs.Building.{started_view, IsStarted, IsBuild, StopsAs, ReadsOf, ReadsKnown, ReadsBuild, KnowsAlso}
 use Rattle.gn_top.proofs.JoinedReads.{each_maps, known_apart, differ_second, of_first, of_second, joined_goes, joined_differ, joined_each}
 use Rattle.gn_top.proofs.KnownPaths.{loaded_same}
 use Rattle.gn_top.proofs.PartReads.{fails_all_behind}
@@ -80,6 +84,15 @@ pub load_is : (host : HostTexts) (request : Request) (tree : Tree) (first : Firs
 load_is host request tree first known start load units same knows ends =
     subst (λ (b : BaseState). IsEndOf b (first_paths host request tree) tree load units) same
     (ends_same start known (first_paths host request tree) tree load units (known_same (first_paths host request tree) known knows) ends)
+
+-- and from what the first stage has left
+pub load_started : (host : HostTexts) (request : Request) (tree : Tree) (first : First) (known : List (List ℕ × FileContent)) (start : Started) (end : BuildEnd) → IsStarted host request first known start
+    → KnowsAlso [] (first_paths host request tree) (known_paths known)
+    → (given_base start.setup ≡ configuration_base host request (started_view start) → KnowsAlso [] (first_paths host request tree) (known_paths start.setup.known.entries) → IsBuild end (behind_first host request tree (Ok (started_view start))))
+    → IsBuild end (behind_first host request tree (Ok first))
+load_started host request tree first known start end is knows says =
+    subst (λ (f : First). IsBuild end (behind_first host request tree (Ok f))) is.view
+    (says (is.base ∙ ap (configuration_base host request) (sym is.view)) (subst (λ (es : List (List ℕ × FileContent)). KnowsAlso [] (first_paths host request tree) (known_paths es)) (sym is.read) knows))
 
 pub build_is : (host : HostTexts) (request : Request) (tree : Tree) (first : First) (end : BuildEnd) → first_said host request tree ≡ Ok first → IsBuild end (behind_first host request tree (Ok first)) → IsBuild end (loaded host request tree)
 unfolding loaded

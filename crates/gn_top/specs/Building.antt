@@ -17,10 +17,12 @@ use Rattle.gn_unit.specs.Alone.{dotfile_state}
 use Rattle.gn_builds.specs.Loaded.{UnitCount, Failure}
 use Rattle.gn_builds.specs.Driving.{FailsAt}
 use Rattle.gn_load.specs.Ends.{build_of}
+use Rattle.gn_load.specs.Setups.{given_base}
+use Rattle.gn_load.specs.declared.answer.FileContent.{FileContent}
 use Rattle.gn_load.specs.declared.plain.LoadEnd.{LoadEnd}
 use Rattle.gn_load.specs.declared.plain.LoadEnd.TheVariants as load_end
 use Rattle.gn_top.specs.Hosts.{HostTexts}
-use Rattle.gn_top.specs.Stages.{Request, First, Build, paths_read}
+use Rattle.gn_top.specs.Stages.{Request, First, Build, paths_read, configuration_base}
 use Rattle.gn_top.specs.Said.{failure_said, loaded_said}
 use Rattle.gn_top.specs.Run.{IsCount}
 use Rattle.gn_top.specs.Steps.{IsSaying, IfCannotRead, CountsFault}
@@ -36,6 +38,7 @@ use Rattle.gn_top.specs.declared.first.ArgumentsEnd.{ArgumentsEnd}
 use Rattle.gn_top.specs.declared.first.ArgumentsEnd.TheVariants as arguments_end
 use Rattle.gn_top.specs.declared.first.FirstEnd.{FirstEnd}
 use Rattle.gn_top.specs.declared.first.FirstEnd.TheVariants as first_end
+use Rattle.gn_top.specs.declared.building.Started.{Started}
 use Rattle.gn_top.specs.declared.building.Build.{Build as BuildCode}
 use Rattle.gn_top.specs.declared.building.BuildEnd.{BuildEnd}
 use Rattle.gn_top.specs.declared.building.BuildEnd.TheVariants as build_end
@@ -49,8 +52,18 @@ outer_view outer = record { os = outer.names.os; cpu = outer.names.cpu; root = o
 abbrev pub first_view : FirstCode → First
 first_view first = record { dotfile = dotfile_state first.dotfile; arguments = first.arguments; prints = first.dotfile.prints ++ first.prints }
 
+-- the same by what a build is loaded from
+abbrev pub started_view : Started → First
+started_view start = record { dotfile = dotfile_state start.setup.dotfile; arguments = start.setup.arguments; prints = start.setup.dotfile.prints ++ start.prints }
+
+-- a build is loaded from what its first stage has left, and from what was read for that
+pub record IsStarted (host : HostTexts) (request : Request) (first : First) (known : List (List ℕ × FileContent)) (start : Started) : Type 0 where
+  pub view : started_view start ≡ first
+  pub base : given_base start.setup ≡ configuration_base host request first
+  pub read : start.setup.known.entries ≡ known
+
 abbrev pub build_view : BuildCode → Build
-build_view build = record { first = first_view build.first; loaded = build_of build.loaded }
+build_view build = record { first = started_view build.start; loaded = build_of build.loaded }
 
 abbrev pub shared_view : Arc BuildCode Global → Build
 shared_view build = build_view (arc_value build)

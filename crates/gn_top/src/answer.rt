@@ -56,8 +56,8 @@ fn append_lines(text: &mut Vec<u8>, lines: &[Text]) -> Result<(), AllocError>
 fn append_printed(text: &mut Vec<u8>, build: &Build) -> Result<(), AllocError>
     ensures { OnOk result (text.new.items ≡ text.old.items ++ lines_of (build_view build.now)) }
 {
-    append_lines(text, build.first.dotfile.prints.as_slice())?;
-    append_lines(text, build.first.prints.as_slice())?;
+    append_lines(text, build.start.setup.given().dotfile.prints.as_slice())?;
+    append_lines(text, build.start.prints.as_slice())?;
     build.loaded.append_prints(text)
 }
 
@@ -105,7 +105,7 @@ fn append_warnings(alloc: Global, text: &mut Vec<u8>, build: &Build) -> Result<(
     ensures { OnOk result (text.new.items ≡ text.old.items ++ warnings_of (build_view build.now)) }
 {
     let declared = declared_names(alloc, build)?;
-    let names = unused(alloc, &build.first.arguments, &declared)?;
+    let names = unused(alloc, &build.start.setup.given().arguments, &declared)?;
     append_all(text, names.as_slice())
 }
 

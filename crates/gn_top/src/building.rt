@@ -1,41 +1,44 @@
 // A whole build, stage by stage: the dotfile and the build arguments, the build configuration and the build file of the source root.
 
-ghost use Rattle.std.specs.Prelude.{◌≡◌, [], IfOk, OnOk, Ok, Some, map};
+ghost use Rattle.std.specs.Prelude.{◌≡◌, [], IfOk, Ok, Some};
 ghost use Rattle.gn_outside.specs.Tree.{Tree};
-ghost use Rattle.gn_values.specs.Tables.{with_names};
-ghost use Rattle.gn_values.specs.View.{entry_of};
 ghost use Rattle.gn_builds.specs.Driving.{FailsAt};
 ghost use Rattle.gn_builds.specs.Loaded.{declared_by_build};
 ghost use Rattle.gn_builds.specs.Rest.{ReadsAsked};
 ghost use Rattle.gn_load.specs.Ends.{build_of, IsEndOf};
 ghost use Rattle.gn_load.specs.Plain.{Agrees};
+ghost use Rattle.gn_load.specs.Setups.{given_base};
 ghost use Rattle.gn_load.specs.Turns.{known_paths};
 ghost use Rattle.gn_top.specs.Words.{AreShort};
 ghost use Rattle.gn_top.specs.Steps.{IfCannotRead, CountsFault};
 ghost use Rattle.gn_top.specs.Hosts.{HostTexts};
-ghost use Rattle.gn_top.specs.Stages.{Request as Asked, first_paths, configuration_context, configuration_base, graph_judged, behind_first, loaded};
+ghost use Rattle.gn_top.specs.Stages.{Request as Asked, first_paths, configuration_base, graph_judged, behind_first, loaded};
 ghost use Rattle.gn_top.specs.Repeated.{repeated_fault as least_repeated};
-ghost use Rattle.gn_top.specs.Building.{request_view, outer_view, first_view, shared_view, IsBuild, StopsAs, ReadsBuild, KnowsAlso};
+ghost use Rattle.gn_top.specs.Building.{request_view, outer_view, first_view, started_view, shared_view, IsStarted, IsBuild, StopsAs, ReadsBuild, KnowsAlso};
 
 use crate::answered::RunStop;
 use crate::first::{First, FirstEnd, Outer, Request, run_first};
 use crate::repeated::repeated_fault;
-use gn_environment::Context;
 use gn_executions::HostNames;
-use gn_faults::{Fault, Stage};
-use gn_load::{Built, Known, LoadEnd, Plain, load_plain};
+use gn_faults::Fault;
+use gn_load::{Built, Given, Known, LoadEnd, Plain, Setup, load_plain};
 use gn_outside::Source;
-use gn_paths::{Path, Text};
-use gn_unit::Base;
-use gn_values::{Entry, Overrides};
+use gn_paths::{Path, Text, Texts};
 use std::alloc::{AllocError, Global};
 use std::collections::BTreeMap;
 use std::sync::Arc;
 
+/// What a build is loaded from, and the lines that its build arguments have printed.
+#[derive(Drop)]
+pub(crate) struct Started {
+    pub(crate) setup: Setup,
+    pub(crate) prints: Texts,
+}
+
 /// What a build leaves.
 #[derive(Drop)]
 pub(crate) struct Build {
-    pub(crate) first: First,
+    pub(crate) start: Started,
     pub(crate) loaded: Built,
 }
 
@@ -53,72 +56,45 @@ pub(crate) enum BuildEnd {
     Failed(Failure),
 }
 
-// Gives names their values, in place of those that they had.
-fn set_all(alloc: Global, overrides: &mut Overrides, entries: &[Entry]) -> Result<(), AllocError>
-    ensures { OnOk result (overrides.new ≡ with_names (map entry_of entries.now) overrides.old) }
-{
-    for entry in entries {
-        let name = entry.name.copy(alloc)?;
-        overrides.set(name, entry.value.copy(alloc)?)?;
-    }
-    Ok(())
-}
-
-// The values of build arguments: those that are given win over those of the dotfile.
-fn overrides_of(alloc: Global, first: &First) -> Result<Overrides, AllocError>
-    ensures { IfOk result (λ o. o ≡ with_names first.now.arguments first.now.dotfile.arguments) }
-{
-    let mut overrides = first.dotfile.arguments.copy(alloc)?;
-    set_all(alloc, &mut overrides, first.arguments.as_slice())?;
-    Ok(overrides)
-}
-
-// What the build configuration of the default toolchain and what it imports have in common.
-fn configuration_context(
+// What the host and the command line say of a build: its build directory, what the host calls itself, and the source root.
+fn surroundings(
     alloc: Global,
     outer: &Outer,
     request: &Request<'_>,
-    first: &First,
-) -> Result<Context, AllocError>
-    ensures { IfOk result (λ c. c ≡ configuration_context (outer_view outer.now) (request_view request.now) (first_view first.now)) }
+) -> Result<(Path, HostNames, Text), AllocError>
+    ensures { IfOk result (λ s. s ≡ (request.now.directory, outer.now.names, outer.now.root)) }
 {
-    Ok(Context {
-        stage: Stage::Loading,
-        toolchain: Text::new(alloc),
-        fault_toolchain: Text::new(alloc),
-        default_toolchain: Text::new(alloc),
-        build_directory: request.directory.copy(alloc)?,
-        source_root: outer.root.copy(alloc)?,
-        overrides: overrides_of(alloc, first)?,
-    })
-}
-
-// A new path equal to another one, if there is one.
-fn copy_path(alloc: Global, path: &Option<Path>) -> Result<Option<Path>, AllocError>
-    ensures { IfOk result (λ p. p ≡ path.now) }
-{
-    match path {
-        Some(path) => Ok(Some(path.copy(alloc)?)),
-        None => Ok(None),
-    }
-}
-
-// The base with which the build starts.
-fn configuration_base(
-    alloc: Global,
-    outer: &Outer,
-    request: &Request<'_>,
-    first: &First,
-) -> Result<Base, AllocError>
-    ensures { IfOk result (λ base. base ≡ configuration_base (outer_view outer.now) (request_view request.now) (first_view first.now)) }
-{
-    let context = Arc::new(alloc, configuration_context(alloc, outer, request, first)?)?;
+    let directory = request.directory.copy(alloc)?;
     let os = outer.names.os.copy(alloc)?;
     let cpu = outer.names.cpu.copy(alloc)?;
-    let configuration = first.dotfile.configuration.copy(alloc)?;
-    let secondary = copy_path(alloc, &first.dotfile.secondary)?;
-    let host = HostNames { os, cpu };
-    Ok(Base::of_configuration(alloc, context, host, configuration, secondary))
+    let root = outer.root.copy(alloc)?;
+    Ok((directory, HostNames { os, cpu }, root))
+}
+
+// What a build is loaded from, by what its first stage leaves and what was read for that.
+fn start_of(
+    alloc: Global,
+    outer: &Outer,
+    request: &Request<'_>,
+    first: First,
+    read: Known,
+) -> Result<Started, AllocError>
+    ensures { IfOk result (IsStarted (outer_view outer.now) (request_view request.now) (first_view first) read.entries) }
+{
+    let around = surroundings(alloc, outer, request)?;
+    let given = Given {
+        dotfile: first.dotfile,
+        arguments: first.arguments,
+        build_directory: around.0,
+        host: around.1,
+        source_root: around.2,
+        known: read,
+    };
+    let setup = Setup::new(alloc, given)?;
+    Ok(Started {
+        setup,
+        prints: first.prints,
+    })
 }
 
 // The fault of a build's graph, if it has one.
@@ -140,49 +116,43 @@ fn judge_build(alloc: Global, build: Arc<Build>) -> Result<BuildEnd, AllocError>
 }
 
 // The same of what was loaded behind a first stage.
-fn end_build(alloc: Global, first: First, built: Built) -> Result<BuildEnd, AllocError>
-    ensures { IfOk result (λ end. IsBuild end (graph_judged (record { first = first_view first; loaded = build_of built }))) }
+fn end_build(alloc: Global, start: Started, built: Built) -> Result<BuildEnd, AllocError>
+    ensures { IfOk result (λ end. IsBuild end (graph_judged (record { first = started_view start; loaded = build_of built }))) }
 {
     let build = Build {
-        first,
+        start,
         loaded: built,
     };
     judge_build(alloc, Arc::new(alloc, build)?)
 }
 
 // What is made of a build that was loaded behind the first stage.
-fn behind_loading(alloc: Global, first: First, plain: Plain) -> Result<BuildEnd, RunStop>
+fn behind_loading(alloc: Global, start: Started, plain: Plain) -> Result<BuildEnd, RunStop>
     ensures meaning { IfOk result (λ end. (tree : Tree) (host : HostTexts) (request : Asked) →
-        IsEndOf (configuration_base host request (first_view first)) (first_paths host request tree) tree plain.end plain.units →
-        IsBuild end (behind_first host request tree (Ok (first_view first)))) }
+        IsEndOf (configuration_base host request (started_view start)) (first_paths host request tree) tree plain.end plain.units →
+        IsBuild end (behind_first host request tree (Ok (started_view start)))) }
     ensures stops { StopsAs plain.end result }
 {
     let Plain { end, units } = plain;
     match end {
-        LoadEnd::Built(built) => Ok(end_build(alloc, first, built)?),
+        LoadEnd::Built(built) => Ok(end_build(alloc, start, built)?),
         LoadEnd::Wrong(fault) => Ok(BuildEnd::Failed(Failure { fault, units })),
         LoadEnd::Failed(path) => Err(RunStop::CannotRead(path)),
         LoadEnd::Memory => Err(RunStop::Memory),
     }
 }
 
-// Loads a build behind its first stage, which has read this.
-fn load_build<S: Source>(
-    alloc: Global,
-    first: First,
-    base: Base,
-    read: Known,
-    source: &mut S,
-) -> Result<BuildEnd, RunStop>
-    requires { (tree : Tree) → (S.state source.old).tree ≡ Some tree → Agrees read.entries tree }
-    ensures meaning { IfOk result (λ end. (tree : Tree) (host : HostTexts) (request : Asked) → (S.state source.old).tree ≡ Some tree → base ≡ configuration_base host request (first_view first) →
-        KnowsAlso [] (first_paths host request tree) (known_paths read.entries) → IsBuild end (behind_first host request tree (Ok (first_view first)))) }
-    ensures reads { ReadsAsked base (known_paths read.entries) (S.state source.old) (S.state source.new) }
+// Loads a build behind its first stage.
+fn load_build<S: Source>(alloc: Global, start: Started, source: &mut S) -> Result<BuildEnd, RunStop>
+    requires { (tree : Tree) → (S.state source.old).tree ≡ Some tree → Agrees start.setup.known.entries tree }
+    ensures meaning { IfOk result (λ end. (tree : Tree) (host : HostTexts) (request : Asked) → (S.state source.old).tree ≡ Some tree → given_base start.setup ≡ configuration_base host request (started_view start) →
+        KnowsAlso [] (first_paths host request tree) (known_paths start.setup.known.entries) → IsBuild end (behind_first host request tree (Ok (started_view start)))) }
+    ensures reads { ReadsAsked (given_base start.setup) (known_paths start.setup.known.entries) (S.state source.old) (S.state source.new) }
     ensures faults { CountsFault (S.state source.old).faults (S.state source.new).faults result }
     ensures failure { IfCannotRead result (λ path. FailsAt path (S.state source.old) (S.state source.new)) }
 {
-    let plain = load_plain(alloc, base, read, source);
-    behind_loading(alloc, first, plain)
+    let plain = load_plain(alloc, &start.setup, source);
+    behind_loading(alloc, start, plain)
 }
 
 /// Makes a build from what its source has: stage after stage, as far as there is no fault.
@@ -202,8 +172,8 @@ pub(crate) fn make_build<S: Source>(
     let end = run_first(alloc, outer, request, &mut read, source)?;
     match end {
         FirstEnd::Said(first) => {
-            let base = configuration_base(alloc, outer, request, &first)?;
-            load_build(alloc, first, base, read, source)
+            let start = start_of(alloc, outer, request, first, read)?;
+            load_build(alloc, start, source)
         }
         FirstEnd::Failed(fault) => Ok(BuildEnd::Failed(Failure { fault, units: 0 })),
     }

@@ -9,4 +9,4 @@ pub file-requires-clause-claimed : goal.file-requires-clause-claimed
 file-requires-clause-claimed c = claimed_by c.args.book.now c.args.claim c.requires
 
 pub returns-clause-ok : goal.returns-clause-ok
-returns-clause-ok c = filed_as c.args.book.now c.file.new.self c.args.claim (meaning_of c.args.answer) c.requires c.in-Ok.ensures.ok
+returns-clause-ok c = filed_as c.args.book.now c.file.new.self c.args.claim (meaning_of c.args.answer) c.requires (rw c.in_ok-shared.ensures at c.in-Ok.ensures.ok)

@@ -1,6 +1,7 @@
 use Rattle.gn_basics.proofs.Results.{if_ok}
 use Rattle.gn_load.specs.Turns.{known_paths}
-use Rattle.gn_top.specs.Building.{first_view}
+use Rattle.gn_load.specs.Setups.{given_base}
+use Rattle.gn_top.specs.Building.{started_view}
 use Rattle.gn_top.proofs.StageLemmas.{load_is, end_faults, end_failure}
 use Rattle.gn_top.proofs.building.load_build.Goals as goal
 
@@ -8,7 +9,7 @@ pub returns-clause-meaning : goal.returns-clause-meaning
 returns-clause-meaning g c =
     if_ok c.behind_loading.result
     (λ end says tree host request told same knows. says tree host request
-    (load_is host request tree (first_view c.args.first) (known_paths c.args.read.entries) c.args.base c.load_plain-plain.result.end c.load_plain-plain.result.units same knows (c.load_plain-plain.ensures.end tree told)))
+    (load_is host request tree (started_view c.args.start) (known_paths c.args.start.setup.known.entries) (given_base c.args.start.setup) c.load_plain-plain.result.end c.load_plain-plain.result.units same knows (c.load_plain-plain.ensures.end tree told)))
     c.behind_loading.ensures.meaning
 
 pub returns-clause-faults : goal.returns-clause-faults
