@@ -4,9 +4,13 @@
 #[cfg(test)]
 mod arguments;
 #[cfg(test)]
+mod conversions;
+#[cfg(test)]
 mod define;
 #[cfg(test)]
 mod labels;
+#[cfg(test)]
+mod limits;
 #[cfg(test)]
 mod paths;
 #[cfg(test)]

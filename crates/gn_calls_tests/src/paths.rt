@@ -44,6 +44,21 @@ const REBASED: &str = calls! {
     root: rebase_path("a", "b", 1) => BadTypes(2);
     root: rebase_path() => BadArguments;
     root: rebase_path("a", "b", "c", "d") => BadArguments;
+    root: rebase_path({}) => BadTypes(0);
+    root: rebase_path(true, "", 1) => BadTypes(0);
+    root: rebase_path(deep(2), "") => BadTypes(0);
+    root: rebase_path("a", true) => BadTypes(1);
+    root: rebase_path("a", {}, "b") => BadTypes(1);
+    root: rebase_path("a", "b", ["c"]) => BadTypes(2);
+    root: rebase_path([], "..", "..") => AboveRoot(1);
+    root: rebase_path("a␊", "b") => BadPath(0);
+    root: rebase_path("a", "␀") => BadPath(1);
+    root: rebase_path("a", "b␊") => BadPath(1);
+    root: rebase_path("a", "ÿ", "ÿ") => BadPath(1);
+    root: rebase_path("a", "", "␀") => BadPath(2);
+    root: rebase_path("a", "b", "ÿ") => BadPath(2);
+    root: rebase_path("/", "") => "/";
+    root: rebase_path(["", "a"], "", "") => BadPath(0);
 };
 
 #[test]
@@ -77,6 +92,17 @@ const PATHS: &str = calls! {
     root: get_path_info("//foo/bar/baz.txt", "gen_dir") => "//out/gen/foo/bar";
     root: get_path_info("//a/b/", "out_dir") => "//out/obj/a/b";
     root: get_path_info("/usr/x", "gen_dir") => "//out/gen/usr";
+    root: get_path_info("/usr/", "out_dir") => "//out/obj/usr";
+    root: get_path_info("/usr", "out_dir") => "//out/obj";
+    root: get_path_info("/", "gen_dir") => "//out/gen";
+    root: get_path_info("/.", "out_dir") => "//out/obj";
+    root: get_path_info("/./", "gen_dir") => "//out/gen/.";
+    root: get_path_info("/a/../b", "out_dir") => "//out/obj/a/..";
+    root: get_path_info("/r/./a/", "gen_dir") => "//out/gen/r/./a";
+    root: get_path_info("/a//b/c", "out_dir") => "//out/obj/a//b";
+    root: get_path_info("/a/b//", "gen_dir") => "//out/gen/a/b";
+    inner: get_path_info("/../x", "gen_dir") => "//out/u/gen/..";
+    inner: get_path_info(["/./x/y", "c/../d/y"], "out_dir") => ["//out/u/obj/./x", "//out/u/obj/a/d"];
     root: get_path_info("foo/bar.txt", "abspath") => "//foo/bar.txt";
     root: get_path_info("./a//b/../c/", "abspath") => "//a/c/";
     root: get_path_info("/u/../v", "abspath") => "/u/../v";
@@ -96,6 +122,19 @@ const PATHS: &str = calls! {
     root: get_path_info("", ["file"]) => BadTypes(1);
     root: get_path_info("a") => BadArguments;
     root: get_path_info("a", "file", "b") => BadArguments;
+    root: get_path_info() => BadArguments;
+    root: get_path_info({}, "file") => BadTypes(0);
+    root: get_path_info(true, {}) => BadTypes(0);
+    root: get_path_info(deep(2), "file") => BadTypes(0);
+    root: get_path_info("a", {}) => BadTypes(1);
+    root: get_path_info("a", true) => BadTypes(1);
+    root: get_path_info([], "nope") => BadArguments;
+    root: get_path_info("a", "file␀") => BadArguments;
+    root: get_path_info("a␀", "name") => BadPath(0);
+    root: get_path_info("␊", "extension") => BadPath(0);
+    root: get_path_info("ÿ", "gen_dir") => BadPath(0);
+    root: get_path_info("/../ÿ", "out_dir") => BadPath(0);
+    root: get_path_info(["a", "../b"], "abspath") => AboveRoot(0);
 };
 
 #[test]

@@ -4,12 +4,14 @@
 // Values stand in a table as the language writes them, and the values that are expected as they are printed. A string
 // that is an argument and has a backslash is written raw, as `r"\b"`. A character stands for the low byte of its number: `ÿ` for
 // the byte 255, and the picture of a control character for that character, as `␀` for the byte 0. A list that is an argument holds
-// no list, and no string with a comma before a space. `deep(n)` is a list that nests n deep, `long(n)` a string of n bytes.
+// no list, and no string with a comma before a space. `{}` is an empty scope, and `deep(n)` a list that nests n deep. `long(n)` is a
+// string of n bytes `a`, `long(n, "x")` one of n bytes `a` behind `x`, `repeat(n, "x")` n times `x`, and `many(n, "x")` a list of n strings
+// `x`. An answer `long(n)` is any string of n bytes, and an answer `many(n)` any list of n items.
 
 use gn_calls_text::CallError;
 use gn_faults::Code;
 use gn_paths::Text;
-use gn_values::{Items, Value, print_text};
+use gn_values::{Entries, Items, Value, print_text};
 use std::alloc::{AllocError, Global};
 use std::fmt::Debug;
 
@@ -65,11 +67,35 @@ fn string(alloc: Global, text: &str) -> Result<Value, AllocError> {
     Ok(Value::Str(Text::from_vec(bytes_of(alloc, quoted(text))?)))
 }
 
-// A string or an integer.
+// A string of so many bytes `a` behind the text between quotes.
+fn long(alloc: Global, text: &str) -> Result<Value, AllocError> {
+    let mut bytes = bytes_of(alloc, quoted(text))?;
+    bytes.resize(bytes.len().saturating_add(size(text)), b'a')?;
+    Ok(Value::Str(Text::from_vec(bytes)))
+}
+
+// So many times the text between quotes.
+fn repeat(alloc: Global, text: &str) -> Result<Value, AllocError> {
+    let piece = bytes_of(alloc, quoted(text))?;
+    let bytes = piece.as_slice().repeat(alloc, size(text))?;
+    Ok(Value::Str(Text::from_vec(bytes)))
+}
+
+// A string, in each of its forms, or a boolean.
+fn word(alloc: Global, text: &str) -> Result<Value, AllocError> {
+    match text.as_bytes() {
+        [b't', ..] => Ok(Value::Bool(true)),
+        [b'l', ..] => long(alloc, text),
+        [b'r', b'e', ..] => repeat(alloc, text),
+        _ => string(alloc, text),
+    }
+}
+
+// A string, a boolean or an integer.
 fn single(alloc: Global, text: &str) -> Result<Value, AllocError> {
     match text.parse::<i64>() {
         Ok(number) => Ok(Value::Int(number)),
-        Err(_) => string(alloc, text),
+        Err(_) => word(alloc, text),
     }
 }
 
@@ -92,6 +118,25 @@ fn list(alloc: Global, text: &str) -> Result<Value, AllocError> {
     Ok(Value::List(items))
 }
 
+fn put_copy(alloc: Global, items: &mut Items, value: &Value) -> Result<(), AllocError> {
+    put(items, value.copy(alloc)?)
+}
+
+// A list of so many copies of a value.
+fn copies(alloc: Global, value: &Value, count: usize) -> Result<Items, AllocError> {
+    let mut items = Items::new(alloc);
+    for _ in 0..count {
+        put_copy(alloc, &mut items, value)?;
+    }
+    Ok(items)
+}
+
+// A list of so many strings.
+fn many(alloc: Global, text: &str) -> Result<Value, AllocError> {
+    let value = string(alloc, text)?;
+    Ok(Value::List(copies(alloc, &value, size(text))?))
+}
+
 fn list_of_one(alloc: Global, value: Value) -> Result<Value, AllocError> {
     let mut items = Items::new(alloc);
     put(&mut items, value)?;
@@ -106,13 +151,9 @@ fn deep(alloc: Global, depth: usize) -> Result<Value, AllocError> {
     Ok(value)
 }
 
-fn long(alloc: Global, len: usize) -> Result<Value, AllocError> {
-    Ok(Value::Str(Text::from_vec(vec![in alloc; b'a'; len]?)))
-}
-
-// The number between brackets.
+// The first number between brackets.
 fn size(text: &str) -> usize {
-    text.split(['(', ')'])
+    text.split(['(', ')', ','])
         .nth(1)
         .unwrap_or("")
         .parse::<usize>()
@@ -123,8 +164,9 @@ fn size(text: &str) -> usize {
 pub(crate) fn value(alloc: Global, text: &str) -> Result<Value, AllocError> {
     match text.as_bytes() {
         [b'[', ..] => list(alloc, text),
+        [b'{', ..] => Ok(Value::Scope(Entries::new(alloc))),
         [b'd', ..] => deep(alloc, size(text)),
-        [b'l', ..] => long(alloc, size(text)),
+        [b'm', ..] => many(alloc, text),
         _ => single(alloc, text),
     }
 }
@@ -149,6 +191,15 @@ fn is_printed(alloc: Global, value: &Value, wanted: &str) -> Result<bool, AllocE
     Ok(printed.as_bytes() == wanted.as_slice())
 }
 
+// Whether a value is as a table writes it.
+fn is_value(alloc: Global, value: &Value, wanted: &str) -> Result<bool, AllocError> {
+    match (value, wanted.as_bytes()) {
+        (Value::Str(text), [b'l', ..]) => Ok(text.len() == size(wanted)),
+        (Value::List(items), [b'm', ..]) => Ok(items.as_slice().len() == size(wanted)),
+        _ => is_printed(alloc, value, wanted),
+    }
+}
+
 fn is_code(
     alloc: Global,
     code: Code,
@@ -169,7 +220,7 @@ pub(crate) fn is_answer(
     wanted: &str,
 ) -> Result<bool, AllocError> {
     match answered {
-        Ok(value) => is_printed(alloc, value, wanted),
+        Ok(value) => is_value(alloc, value, wanted),
         Err(CallError::Refused { code, argument }) => is_code(alloc, *code, *argument, wanted),
         Err(CallError::Memory) => Ok(false),
     }

@@ -30,6 +30,23 @@ const FILTERS: &str = calls! {
     filter_include(["a"]) => BadArguments;
     filter_exclude() => BadArguments;
     filter_include(1, 1, 1) => BadArguments;
+    filter_include() => BadArguments;
+    filter_exclude(["a"]) => BadArguments;
+    filter_exclude(1, 1, 1) => BadArguments;
+    filter_include({}, []) => BadTypes(0);
+    filter_include(true, true) => BadTypes(0);
+    filter_include(deep(2), []) => BadTypes(0);
+    filter_exclude(1, ["*"]) => BadTypes(0);
+    filter_exclude("a", ["*"]) => BadTypes(0);
+    filter_exclude(["a", 1], [1]) => BadTypes(0);
+    filter_include([], {}) => BadTypes(1);
+    filter_exclude([], true) => BadTypes(1);
+    filter_exclude([], deep(2)) => BadTypes(1);
+    filter_include([], []) => [];
+    filter_exclude([], [""]) => [];
+    filter_exclude(["", "a"], [""]) => ["a"];
+    filter_exclude(["a␊b", "␊"], ["␊"]) => ["a␊b"];
+    filter_include(["ÿ", "þ"], ["ÿ", "ÿ*"]) => ["ÿ"];
 };
 
 const LISTS: &str = calls! {
@@ -49,6 +66,16 @@ const LISTS: &str = calls! {
     split_list(deep(200), "b") => BadTypes(1);
     split_list([1]) => BadArguments;
     split_list(1, 1, 1) => BadArguments;
+    split_list() => BadArguments;
+    split_list({}, 1) => BadTypes(0);
+    split_list(true, 1) => BadTypes(0);
+    split_list(1, 1) => BadTypes(0);
+    split_list([1], true) => BadTypes(1);
+    split_list([1], [1]) => BadTypes(1);
+    split_list([], {}) => BadTypes(1);
+    split_list([], 1) => [[]];
+    split_list([], 0) => BadArguments;
+    split_list(["␀", "␊", "ÿ"], 2) => [["␀", "␊"], ["ÿ"]];
 };
 
 const STRINGS: &str = calls! {
@@ -64,6 +91,15 @@ const STRINGS: &str = calls! {
     string_join(",", [1, 2]) => BadTypes(1);
     string_join(",") => BadArguments;
     string_join(",", [], 1) => BadArguments;
+    string_join() => BadArguments;
+    string_join([], ["a"]) => BadTypes(0);
+    string_join(true, 1) => BadTypes(0);
+    string_join({}, []) => BadTypes(0);
+    string_join(",", {}) => BadTypes(1);
+    string_join(",", true) => BadTypes(1);
+    string_join(",", deep(2)) => BadTypes(1);
+    string_join("", []) => "";
+    string_join("", [""]) => "";
     string_replace("aaa", "a", "b", 2) => "bba";
     string_replace("aaa", "a", "b") => "bbb";
     string_replace("aaa", "a", "aa") => "aaaaaa";
@@ -84,6 +120,23 @@ const STRINGS: &str = calls! {
     string_replace("a", 1, 1, 1) => BadTypes(1);
     string_replace(1, 1, 1) => BadTypes(0);
     string_replace("a", "a") => BadArguments;
+    string_replace() => BadArguments;
+    string_replace("a") => BadArguments;
+    string_replace("a", "a", "b", 1, 1) => BadArguments;
+    string_replace({}, "a", "b") => BadTypes(0);
+    string_replace(["a"], "a", "b") => BadTypes(0);
+    string_replace("a", true, "b") => BadTypes(1);
+    string_replace("a", "a", ["b"]) => BadTypes(2);
+    string_replace("a", "a", "b", true) => BadTypes(3);
+    string_replace("a", "a", "b", [1]) => BadTypes(3);
+    string_replace("", "", "") => BadArguments;
+    string_replace("", "", "", -1) => BadArguments;
+    string_replace("a", "", "b", 0) => BadArguments;
+    string_replace("", "a", "") => "";
+    string_replace("a", "a", "") => "";
+    string_replace("a", "a", "a") => "a";
+    string_replace("a␊b␊", "␊", "␀") => "a␀b␀";
+    string_replace("aÿÿþ", "ÿ", "þ", 1) => "aþÿþ";
     string_split("a,,b", ",") => ["a", "", "b"];
     string_split(",a,", ",") => ["", "a", ""];
     string_split("aXXXb", "XX") => ["a", "Xb"];
@@ -98,6 +151,17 @@ const STRINGS: &str = calls! {
     string_split("a", []) => BadTypes(1);
     string_split() => BadArguments;
     string_split("a", "a", 1) => BadArguments;
+    string_split({}) => BadTypes(0);
+    string_split(["a"]) => BadTypes(0);
+    string_split(true, "a") => BadTypes(0);
+    string_split("a", true) => BadTypes(1);
+    string_split("a", 0) => BadTypes(1);
+    string_split("", {}) => BadTypes(1);
+    string_split("", "") => BadArguments;
+    string_split("a␊b", "␊") => ["a", "b"];
+    string_split("aÿbÿÿ", "ÿ") => ["a", "b", "", ""];
+    string_split("ÿ␊þ␀") => ["ÿ", "þ␀"];
+    string_split("a", "a") => ["", ""];
 };
 
 fn call_named(name: &str) -> Option<TextCall> {
@@ -118,7 +182,8 @@ fn answers(alloc: Global, row: &str, call: TextCall) -> Result<bool, AllocError>
     is_answer(alloc, &answered, field(row, 2))
 }
 
-fn is_answered(alloc: Global, row: &str) -> Result<bool, AllocError> {
+/// Whether the call of a row answers what the row expects.
+pub(crate) fn is_answered(alloc: Global, row: &str) -> Result<bool, AllocError> {
     match call_named(field(row, 0)) {
         Some(call) => answers(alloc, row, call),
         None => Ok(false),

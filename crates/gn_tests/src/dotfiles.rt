@@ -122,43 +122,80 @@ fn given_names(alloc: Global) -> Result<Names, Fail> {
 }
 
 // What the bytes of a dotfile say.
-fn run_dotfile(alloc: Global, bytes: &[u8]) -> Result<Text, Fail> {
-    let with = given_names(alloc)?;
+fn run_dotfile(alloc: Global, bytes: &[u8], with: &Names) -> Result<Text, AllocError> {
     if bytes.len() > 16_777_216 {
         return Ok(Text::new(alloc));
     }
     match dotfile(alloc, bytes, &with.build, &with.os, &with.cpu, &with.root) {
-        Ok(said) => Ok(dotfile_text(alloc, &said)?),
-        Err(end) => Ok(end_text(alloc, &end)?),
+        Ok(said) => {
+            let text = dotfile_text(alloc, &said);
+            drop(said);
+            text
+        }
+        Err(end) => {
+            let text = end_text(alloc, &end);
+            drop(end);
+            text
+        }
     }
 }
 
 // What the bytes of build arguments say.
-fn run_arguments(alloc: Global, bytes: &[u8]) -> Result<Text, Fail> {
-    let with = given_names(alloc)?;
-    let file = Text::from_bytes(alloc, b"--args")?;
+fn run_arguments(
+    alloc: Global,
+    file: &Text,
+    bytes: &[u8],
+    with: &Names,
+) -> Result<Text, AllocError> {
     if bytes.len() > 16_777_216 {
         return Ok(Text::new(alloc));
     }
     match arguments(
         alloc,
-        &file,
+        file,
         bytes,
         &with.build,
         &with.os,
         &with.cpu,
         &with.root,
     ) {
-        Ok((given, prints)) => Ok(arguments_text(alloc, &given, &prints)?),
-        Err(end) => Ok(end_text(alloc, &end)?),
+        Ok((given, prints)) => {
+            let text = arguments_text(alloc, &given, &prints);
+            drop((given, prints));
+            text
+        }
+        Err(end) => {
+            let text = end_text(alloc, &end);
+            drop(end);
+            text
+        }
     }
+}
+
+// What the bytes of a dotfile say, over the names of all rows.
+fn dotfile_says(alloc: Global, bytes: &[u8]) -> Result<Text, Fail> {
+    let with = given_names(alloc)?;
+    let text = run_dotfile(alloc, bytes, &with);
+    drop(with);
+    Ok(text?)
+}
+
+// What the bytes of build arguments say, over the names of all rows.
+fn arguments_say(alloc: Global, bytes: &[u8]) -> Result<Text, Fail> {
+    let with = given_names(alloc)?;
+    let text = match Text::from_bytes(alloc, b"--args") {
+        Ok(file) => run_arguments(alloc, &file, bytes, &with),
+        Err(error) => Err(error),
+    };
+    drop(with);
+    Ok(text?)
 }
 
 // Whether the dotfile of a row says what the row has.
 fn dotfile_holds(alloc: Global, row: &str) -> Result<bool, Fail> {
     match row.split_once('\x1c') {
         Some((file, text)) => {
-            let said = run_dotfile(alloc, file.as_bytes())?;
+            let said = dotfile_says(alloc, file.as_bytes())?;
             Ok(said.as_bytes() == text.as_bytes())
         }
         None => Ok(false),
@@ -169,7 +206,7 @@ fn dotfile_holds(alloc: Global, row: &str) -> Result<bool, Fail> {
 fn arguments_hold(alloc: Global, row: &str) -> Result<bool, Fail> {
     match row.split_once('\x1c') {
         Some((file, text)) => {
-            let said = run_arguments(alloc, file.as_bytes())?;
+            let said = arguments_say(alloc, file.as_bytes())?;
             Ok(said.as_bytes() == text.as_bytes())
         }
         None => Ok(false),

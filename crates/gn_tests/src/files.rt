@@ -38,6 +38,9 @@ const SAID: &str = said! {
     "template(\"t\") {\n  tool(target_name) {\n    command = invoker.c\n  }\n}\ntoolchain(\"t\") {\n  t(\"stamp\") {\n    c = \"x\"\n  }\n}\ngroup(\"stamp\") {\n}\n" => "//:stamp\n";
     "action(\"a\") {\n  script = \"s.py\"\n  outputs = [ \"out/x\", \"//out/y\", \"out/x\" ]\n}\nprint(get_target_outputs(\":a\"))\n" => "[\"//out/x\", \"//out/y\"]\n//:a\n";
     "copy(\"c\") {\n  sources = [ \"a/b.c\", \"d.h\" ]\n  outputs = [ \"$root_out_dir/o/{{source_name_part}}\" ]\n}\nprint(get_target_outputs(\"//:c\"))\n" => "[\"//out/o/b\", \"//out/o/d\"]\n//:c\n";
+    // An item of 10,000 sources.
+    "d = [ 0, 1, 2, 3, 4, 5, 6, 7, 8, 9 ]\ns = []\nforeach(i, d) { foreach(j, d) { foreach(k, d) { foreach(l, d) { s += [ \"$i$j$k$l.c\" ] } } } }\naction_foreach(\"f\") {\n  script = \"s.py\"\n  sources = s\n  outputs = [ \"out/{{source_name_part}}.o\" ]\n}\no = get_target_outputs(\":f\")\nprint(o[0], o[4711], o[9999])\n"
+        => "//out/0000.o //out/4711.o //out/9999.o\n//:f\n";
     "testonly = true\ngroup(\"g\") {\n  friend = [ 1 ]\n  metadata = { a = 1 }\n}\n" => "//:g\n";
     "template(\"executable\") {\n  target(\"executable\", target_name) {\n    forward_variables_from(invoker, \"*\")\n  }\n}\nexecutable(\"e\") {\n  ldflags = [ \"-s\" ]\n}\n" => "//:e\n";
     "group(\"z\") {\n}\ngroup(\"a/b\") {\n}\ngroup(\"Z\") {\n}\n" => "//:Z\n//:a/b\n//:z\n";
@@ -234,6 +237,11 @@ const FAULTS: &str = faults! {
     "toolchain(\"t\") {\n  tool(\"stamp\") {\n    command = \"x\"\n    tool(\"cc\") {\n    }\n  }\n}\n" => "4:5", "\"tool\" is not allowed here.";
     "toolchain(\"t\") {\n  group(\"g\") {\n  }\n}\n" => "2:3", "\"group\" is not allowed here.";
     "toolchain(\"t\") {\n}\nconfig(\"t\") {\n}\n" => "3:1", "Duplicate item \"//:t\".";
+    "pool(\"p\") {\n  depth = 1\n}\nexecutable(\"p\") {\n}\n" => "4:1", "Duplicate item \"//:p\".";
+    "copy(\"c\") {\n  sources = [ \"a\" ]\n  outputs = [ \"out/b\" ]\n}\npool(\"c\") {\n  depth = 1\n}\n" => "5:1", "Duplicate item \"//:c\".";
+    "action(\"a\") {\n  pool(\"p\") {\n  }\n}\n" => "2:3", "\"pool\" is not allowed here.";
+    "pool(\"p\") {\n  config(\"c\") {\n  }\n}\n" => "2:3", "\"config\" is not allowed here.";
+    "copy(\"c\") {\n  toolchain(\"t\") {\n  }\n}\n" => "2:3", "\"toolchain\" is not allowed here.";
     "toolchain(\"t\") {\n  toolchain_args = 1\n}\n" => "1:1", "Wrong type for \"toolchain_args\".";
     "group(\"g\") {\n}\nprint(get_target_outputs(\":g\"))\n" => "3:7", "Wrong arguments to \"get_target_outputs\".";
     "print(get_target_outputs(\":a\"))\naction(\"a\") {\n  script = \"s.py\"\n  outputs = [ \"out/x\" ]\n}\n" => "1:7", "Wrong arguments to \"get_target_outputs\".";
@@ -285,6 +293,14 @@ const FAULTS: &str = faults! {
     "string_split()" => "1:1", "Wrong arguments to \"string_split\".";
     "string_split(q, q, q)" => "1:1", "Wrong arguments to \"string_split\".";
     "string_split(q) {\n}" => "1:1", "Wrong arguments to \"string_split\".";
+    "filter_include(q, q, q)" => "1:1", "Wrong arguments to \"filter_include\".";
+    "filter_include(q, q) {\n}" => "1:1", "Wrong arguments to \"filter_include\".";
+    "filter_exclude(q)" => "1:1", "Wrong arguments to \"filter_exclude\".";
+    "filter_exclude(q, q) {\n}" => "1:1", "Wrong arguments to \"filter_exclude\".";
+    "split_list(q, q) {\n}" => "1:1", "Wrong arguments to \"split_list\".";
+    "string_join(q, q, q)" => "1:1", "Wrong arguments to \"string_join\".";
+    "string_join(q, q) {\n}" => "1:1", "Wrong arguments to \"string_join\".";
+    "string_replace(q, q, q) {\n}" => "1:1", "Wrong arguments to \"string_replace\".";
     "filter_include(1, [ q ])" => "1:21", "Undefined identifier \"q\".";
     "split_list(1, q)" => "1:15", "Undefined identifier \"q\".";
     "string_join(1, q)" => "1:16", "Undefined identifier \"q\".";
@@ -318,6 +334,16 @@ const FAULTS: &str = faults! {
     "rebase_path()" => "1:1", "Wrong arguments to \"rebase_path\".";
     "rebase_path(q, q, q, q)" => "1:1", "Wrong arguments to \"rebase_path\".";
     "process_file_template(q, q, q)" => "1:1", "Wrong arguments to \"process_file_template\".";
+    "get_label_info(q, q, q)" => "1:1", "Wrong arguments to \"get_label_info\".";
+    "get_label_info(q, q) {\n}" => "1:1", "Wrong arguments to \"get_label_info\".";
+    "get_path_info(q)" => "1:1", "Wrong arguments to \"get_path_info\".";
+    "get_path_info(q, q, q)" => "1:1", "Wrong arguments to \"get_path_info\".";
+    "get_path_info(q, q) {\n}" => "1:1", "Wrong arguments to \"get_path_info\".";
+    "label_matches(q)" => "1:1", "Wrong arguments to \"label_matches\".";
+    "label_matches(q, q, q)" => "1:1", "Wrong arguments to \"label_matches\".";
+    "rebase_path(q) {\n}" => "1:1", "Wrong arguments to \"rebase_path\".";
+    "process_file_template(q)" => "1:1", "Wrong arguments to \"process_file_template\".";
+    "process_file_template(q, q) {\n}" => "1:1", "Wrong arguments to \"process_file_template\".";
     "get_path_info(1, q)" => "1:18", "Undefined identifier \"q\".";
     "get_path_info(\"a\", 1)" => "1:20", "Wrong type of value.";
     "label_matches(\":b\", \"*\")" => "1:21", "Wrong type of value.";
@@ -333,21 +359,34 @@ const FAULTS: &str = faults! {
     "print(rebase_path(\"../x\"))" => "1:19", "Path is above the source root.";
     "rebase_path(\"a\", \"../b\")" => "1:18", "Path is above the source root.";
     "write_file(\"x\")" => "1:1", "Wrong arguments to \"write_file\".";
+    "write_file(q, q, q)" => "1:1", "Wrong arguments to \"write_file\".";
+    "write_file(q, q) {\n}" => "1:1", "Wrong arguments to \"write_file\".";
     "write_file(1, 1)" => "1:12", "Wrong type of value.";
     "write_file(\"../x\", 1)" => "1:20", "Wrong type of value.";
     "write_file(\"x\", [ 1 ])" => "1:17", "Wrong type of value.";
     "write_file(\"../x\", \"\")" => "1:12", "Path is above the source root.";
     "write_file(\"//\", \"\")" => "1:12", "Invalid path.";
     "write_file(\"/x\", \"\")" => "1:12", "Invalid path.";
+    "write_file(\"\", \"\")" => "1:12", "Invalid path.";
+    "write_file(\"//out/a$0x00b\", \"\")" => "1:12", "Invalid path.";
+    "write_file(\"//out/a$0x0Ab\", \"\")" => "1:12", "Invalid path.";
+    "write_file(\"//out/$0xFF\", \"\")" => "1:12", "Invalid path.";
+    "write_file(\"//out/x\", { })" => "1:23", "Wrong type of value.";
+    "write_file(\"//out/x\", true)" => "1:23", "Wrong type of value.";
     "x = write_file(\"out/y\", \"\")" => "1:5", "Wrong type of value.";
     "write_file(\"y\", \"\")" => "1:12", "Invalid path.";
     "read_file(q)" => "1:1", "Wrong arguments to \"read_file\".";
+    "read_file(q, q, q)" => "1:1", "Wrong arguments to \"read_file\".";
+    "read_file(q, q) {\n}" => "1:1", "Wrong arguments to \"read_file\".";
     "read_file(1, 1)" => "1:11", "Wrong type of value.";
     "read_file(\"\", 1)" => "1:15", "Wrong type of value.";
     "read_file(\"\", \"json\")" => "1:1", "\"json\" is not in this profile.";
     "read_file(\"\", \"string\")" => "1:11", "Invalid path.";
     "read_file(\"../x\", \"\")" => "1:11", "Path is above the source root.";
     "read_file(\"/x\", \"string\")" => "1:11", "Invalid path.";
+    "read_file(\"a$0x00b\", \"\")" => "1:11", "Invalid path.";
+    "read_file(\"a$0x0Ab\", \"\")" => "1:11", "Invalid path.";
+    "read_file(\"$0xFF\", \"\")" => "1:11", "Invalid path.";
     "x = read_file(\"//BUILD.gn\", \"\")" => "1:5", "Wrong type of value.";
 };
 

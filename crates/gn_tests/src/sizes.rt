@@ -75,6 +75,50 @@ fn spaces_end<R: Threads + Sync>(
     tree_loads(rt, alloc, tree, units, end)
 }
 
+// Whether a build file ends so beside which so many bytes stand at `//x`, each of them this one.
+fn beside_says<R: Threads + Sync>(
+    rt: &R,
+    alloc: Global,
+    byte: u8,
+    size: usize,
+    file: &str,
+    end: &str,
+) -> Result<bool, AllocError> {
+    let mut bytes = Vec::new(alloc);
+    bytes.resize(size, byte)?;
+    let mut tree = base_tree(alloc)?;
+    tree.put("//BUILD.gn", file.as_bytes())?;
+    tree.put("//x", &bytes)?;
+    tree_loads(rt, alloc, tree, 1, end)
+}
+
+#[test]
+fn a_file_of_the_limit_can_be_asked_for_and_a_longer_one_is_too_big(
+    rt: HostRuntime,
+) -> Result<(), Fail> {
+    let file = "print(read_file(\"x\", \"string\") == \"\")\n";
+    let too_big = "1ERROR at //BUILD.gn:1:17: File \"//x\" is too big.\n";
+    assert!(rt; beside_says(&rt, rt.alloc(), b'a', 16_777_216, file, "0false\n")?);
+    assert!(rt; beside_says(&rt, rt.alloc(), b'a', 16_777_217, file, too_big)?);
+    Ok(())
+}
+
+#[test]
+fn a_file_has_as_many_lines_as_a_list_holds(rt: HostRuntime) -> Result<(), Fail> {
+    let file = "x = read_file(\"x\", \"list lines\")\nprint(x == [])\n";
+    let too_long = "1ERROR at //BUILD.gn:1:5: Value is too long.\n";
+    assert!(rt; beside_says(&rt, rt.alloc(), b'\n', 1_048_576, file, "0false\n")?);
+    assert!(rt; beside_says(&rt, rt.alloc(), b'\n', 1_048_577, file, too_long)?);
+    Ok(())
+}
+
+#[test]
+fn a_string_of_the_limit_is_written(rt: HostRuntime) -> Result<(), Fail> {
+    assert!(rt; doubled_says(&rt, rt.alloc(), "write_file(\"//out/x\", s)\n", "0")?);
+    assert!(rt; doubled_says(&rt, rt.alloc(), "write_file(\"//out/x\", [ s, s ])\n", "0")?);
+    Ok(())
+}
+
 #[test]
 fn a_dotfile_of_the_limit_is_read_and_a_longer_one_is_too_big(rt: HostRuntime) -> Result<(), Fail> {
     let empty = "1ERROR at //.gn:1:1: \"buildconfig\" is missing.\n";

@@ -133,7 +133,9 @@ fn leaves(alloc: Global, row: &str) -> Result<bool, PathError> {
         return Ok(false);
     };
     let done = executed(alloc, file.as_bytes())?;
-    Ok(shows(alloc, &done, text)?)
+    let shows = shows(alloc, &done, text);
+    drop(done);
+    Ok(shows?)
 }
 
 #[test]
@@ -154,7 +156,9 @@ fn is_bad_path(done: &Done) -> bool {
 // Whether the path of a file that is written is wrong.
 fn is_misplaced(alloc: Global, file: &[u8]) -> Result<bool, PathError> {
     let done = executed(alloc, file)?;
-    Ok(is_bad_path(&done))
+    let is_bad = is_bad_path(&done);
+    drop(done);
+    Ok(is_bad)
 }
 
 #[test]
