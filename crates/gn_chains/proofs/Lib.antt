@@ -1,0 +1,10 @@
+mod Places
+mod Thrice
+mod At
+mod WalkState
+mod Among
+mod Numbering
+mod Placing
+mod Tallies
+mod Offers
+mod Transfer

@@ -1,0 +1,7 @@
+use Rattle.std.proofs.Common.{◌≡◌, drop}
+use Rattle.std.specs.List.{flat_map}
+use Rattle.gn_dependencies.specs.Lists.{added}
+use Rattle.gn_chains.proofs.configurations.add_pushed_public.Given as goal
+
+abbrev pub invariant-loop-label : goal.invariant-loop-label
+invariant-loop-label g l = added l.initial.out (flat_map (g.G.Graph.records l.graph).pushed_public l.labels) ≡ added l.out (flat_map (g.G.Graph.records l.graph).pushed_public (drop l.label-index l.labels))

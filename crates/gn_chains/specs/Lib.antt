@@ -1,0 +1,4 @@
+pub mod Walking
+pub mod Numbers
+pub mod Counts
+pub mod Candidates

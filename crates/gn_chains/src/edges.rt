@@ -1,0 +1,77 @@
+// Which walked labels each of them depends on, by their numbers.
+
+ghost use Rattle.std.specs.Prelude.{◌≡◌, ℕ, OnOk, IfOk, ◌||◌, slice_get, nat_eq};
+ghost use Rattle.std.specs.List.{IsDistinct};
+ghost use Rattle.gn_dependencies.specs.Shape.{near};
+ghost use Rattle.gn_chains.specs.Numbers.{among, is_label, has_some, lists_in, AreEdges};
+
+use crate::firsts::Firsts;
+use crate::graph::Graph;
+use gn_labels::Label;
+use gn_rows::Variable;
+use indexmap::IndexSet;
+use std::alloc::{AllocError, Global};
+
+// Puts the number of a label with the others, if it was walked.
+fn add_number(out: &mut IndexSet<usize>, walked: &Firsts, label: &Label) -> Result<(), AllocError>
+    ensures { OnOk result ((n : ℕ) → among out.new.keys n ≡ (among out.old.keys n || is_label label.now (slice_get walked.now n))) }
+{
+    if let Some(number) = walked.number(label) {
+        out.insert(number)?;
+    }
+    Ok(())
+}
+
+// Puts the numbers of those of the labels with the others that were walked.
+fn add_numbers(
+    out: &mut IndexSet<usize>,
+    walked: &Firsts,
+    labels: &[Label],
+) -> Result<(), AllocError>
+    ensures { OnOk result ((n : ℕ) → among out.new.keys n ≡ (among out.old.keys n || has_some labels.now (slice_get walked.now n))) }
+{
+    for label in labels {
+        add_number(out, walked, label)?;
+    }
+    Ok(())
+}
+
+// The numbers, none of them twice.
+fn into_numbers(alloc: Global, numbers: IndexSet<usize>) -> Result<Vec<usize>, AllocError>
+    ensures numbers { IfOk result (λ list. list.items ≡ numbers.keys) }
+    ensures once { IfOk result (λ list. IsDistinct nat_eq list.items) }
+{
+    numbers.into_iter().collect(alloc)
+}
+
+// The numbers of the walked labels on which a label depends, by public and private dependencies.
+fn edges_from<G: Graph>(
+    alloc: Global,
+    graph: &G,
+    walked: &Firsts,
+    label: &Label,
+) -> Result<Vec<usize>, AllocError>
+    ensures numbers { IfOk result (λ list. (n : ℕ) → among list.items n ≡ has_some (near (G.shape graph.now) label.now) (slice_get walked.now n)) }
+    ensures once { IfOk result (λ list. IsDistinct nat_eq list.items) }
+{
+    let mut out = IndexSet::new(alloc);
+    add_numbers(&mut out, walked, graph.labels(label, Variable::PublicDeps))?;
+    add_numbers(&mut out, walked, graph.labels(label, Variable::Deps))?;
+    into_numbers(alloc, out)
+}
+
+// The numbers of the walked labels on which each of them depends.
+pub(crate) fn edges<G: Graph>(
+    alloc: Global,
+    graph: &G,
+    walked: &Firsts,
+) -> Result<Vec<Vec<usize>>, AllocError>
+    ensures { IfOk result (λ edges. AreEdges (G.shape graph.now) walked.now (lists_in edges.items)) }
+{
+    let mut edges = Vec::new(alloc);
+    for label in walked.as_slice() {
+        let list = edges_from(alloc, graph, walked, label)?;
+        edges.push(list)?;
+    }
+    Ok(edges)
+}
