@@ -1,0 +1,3 @@
+pub mod LeftSides
+pub mod OneText
+pub mod Named
