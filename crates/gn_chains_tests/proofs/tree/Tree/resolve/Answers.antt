@@ -1,0 +1,6 @@
+use Rattle.std.proofs.Common.{sym, ◌∙◌}
+use Rattle.gn_chains_tests.proofs.Records.{ready}
+use Rattle.gn_chains_tests.proofs.tree.Tree.resolve.Goals as goal
+
+pub made-requires : goal.made-requires
+made-requires c = ready c.args.self.now c.args.target.now c.requires (sym c.is_ready.ensures ∙ c.if-is_ready.true)

@@ -1,0 +1,165 @@
+// Graphs that texts describe. `;` separates items, and ` ` the name of an item, its kind and its lists. A list stands as `deps=a,b`.
+// All items stand in the root directory under the default toolchain `//t:t`. Each stands behind those that it depends on.
+
+ghost use Rattle.std.specs.Prelude.{IfOk};
+ghost use Rattle.gn_chains_tests.specs.Trees.{HoldsRecords};
+
+use crate::tree::{Item, Tree};
+use gn_labels::{Label, Pattern, PatternError};
+use gn_paths::{Path, Text};
+use gn_rows::ItemKind;
+use indexmap::IndexMap;
+use std::alloc::{AllocError, Global};
+use std::test::Fail;
+
+/// What stands at a place, from 0, between marks; nothing where there is none.
+pub(crate) fn part(text: &str, mark: char, place: usize) -> &str {
+    text.split(mark).nth(place).unwrap_or("")
+}
+
+/// The label of a name.
+pub(crate) fn label(alloc: Global, name: &str) -> Result<Label, AllocError> {
+    Ok(Label {
+        dir: Path::root(alloc)?,
+        name: Text::from_bytes(alloc, name.as_bytes())?,
+        toolchain: Text::from_bytes(alloc, b"//t:t")?,
+    })
+}
+
+fn push(alloc: Global, list: &mut Vec<Label>, name: &str) -> Result<(), AllocError> {
+    let label = label(alloc, name)?;
+    list.push(label)?;
+    Ok(())
+}
+
+fn push_all(alloc: Global, list: &mut Vec<Label>, names: &str) -> Result<(), AllocError> {
+    for name in names.split_terminator(',') {
+        push(alloc, list, name)?;
+    }
+    Ok(())
+}
+
+fn kind_named(name: &str) -> ItemKind {
+    match name {
+        "config" => ItemKind::Config,
+        "executable" => ItemKind::Executable,
+        "loadable_module" => ItemKind::LoadableModule,
+        "shared_library" => ItemKind::SharedLibrary,
+        "source_set" => ItemKind::SourceSet,
+        "static_library" => ItemKind::StaticLibrary,
+        "action" => ItemKind::Action,
+        _ => ItemKind::Group,
+    }
+}
+
+fn list_named<'a>(item: &'a mut Item, variable: &str) -> &'a mut Vec<Label> {
+    match variable {
+        "public_deps" => &mut item.public_deps,
+        "deps" => &mut item.deps,
+        "data_deps" => &mut item.data_deps,
+        "all_dependent_configs" => &mut item.all_dependent_configs,
+        "public_configs" => &mut item.public_configs,
+        _ => &mut item.configs,
+    }
+}
+
+fn pattern(alloc: Global, text: &str) -> Result<Pattern, PatternError> {
+    match Path::root(alloc) {
+        Ok(root) => Pattern::read(alloc, text.as_bytes(), &root),
+        Err(_) => Err(PatternError::Memory),
+    }
+}
+
+fn push_pattern(alloc: Global, list: &mut Vec<Pattern>, text: &str) -> Result<(), Fail> {
+    let pattern = pattern(alloc, text)?;
+    list.push(pattern)?;
+    Ok(())
+}
+
+/// The patterns of a list.
+pub(crate) fn patterns(alloc: Global, texts: &str) -> Result<Vec<Pattern>, Fail> {
+    let mut list = Vec::new(alloc);
+    for text in texts.split_terminator(',') {
+        push_pattern(alloc, &mut list, text)?;
+    }
+    Ok(list)
+}
+
+fn set(alloc: Global, item: &mut Item, variable: &str, names: &str) -> Result<(), Fail> {
+    match variable {
+        "testonly" => item.testonly = true,
+        "visibility" => item.visibility = Some(patterns(alloc, names)?),
+        _ => push_all(alloc, list_named(item, variable), names)?,
+    }
+    Ok(())
+}
+
+fn item(alloc: Global, text: &str) -> Result<Item, Fail> {
+    let mut item = Item::new(alloc, kind_named(part(text, ' ', 1)));
+    for list in text.split(' ').skip(2) {
+        set(alloc, &mut item, part(list, '=', 0), part(list, '=', 1))?;
+    }
+    Ok(item)
+}
+
+fn put(alloc: Global, items: &mut IndexMap<Label, Item>, text: &str) -> Result<(), Fail> {
+    let item = item(alloc, text)?;
+    let label = label(alloc, part(text, ' ', 0))?;
+    match items.insert(label, item) {
+        Ok(_) => Ok(()),
+        Err(_) => Err(AllocError)?,
+    }
+}
+
+fn items(alloc: Global, graph: &str) -> Result<IndexMap<Label, Item>, Fail> {
+    let mut items = IndexMap::new(alloc);
+    for text in graph.split(';') {
+        put(alloc, &mut items, text)?;
+    }
+    Ok(items)
+}
+
+fn labels(alloc: Global, graph: &str) -> Result<Vec<Label>, AllocError> {
+    let mut labels = Vec::new(alloc);
+    for text in graph.split(';') {
+        push(alloc, &mut labels, part(text, ' ', 0))?;
+    }
+    Ok(labels)
+}
+
+/// The graph that a text describes, with no target resolved.
+pub(crate) fn unresolved(alloc: Global, graph: &str) -> Result<Tree, Fail>
+    ensures { IfOk result HoldsRecords }
+{
+    let items = items(alloc, graph)?;
+    let default = Text::from_bytes(alloc, b"//t:t")?;
+    Ok(Tree::new(alloc, default, items))
+}
+
+/// The graph that a text describes, with all of its targets resolved.
+pub(crate) fn resolved(alloc: Global, graph: &str) -> Result<Tree, Fail>
+    ensures { IfOk result HoldsRecords }
+{
+    let labels = labels(alloc, graph)?;
+    let mut tree = unresolved(alloc, graph)?;
+    tree.resolve_all(alloc, &labels)?;
+    Ok(tree)
+}
+
+fn is_named(label: &Label, name: Option<&str>) -> bool {
+    match name {
+        None => false,
+        Some(name) => label.name.as_bytes() == name.as_bytes(),
+    }
+}
+
+/// Whether the labels have these names, in this order.
+pub(crate) fn are_named(labels: &[Label], names: &str) -> bool {
+    let mut names = names.split_terminator(',');
+    for label in labels {
+        if !is_named(label, names.next()) {
+            return false;
+        }
+    }
+    names.next().is_none()
+}
