@@ -10,6 +10,10 @@ const LISTS: &str = calls! {
     filter_include(many(1048576, "a"), ["a"]) => many(1048576);
     filter_include([long(16777216), "b"], ["*a"]) => many(1);
     filter_include(["a"], [long(16777216)]) => [];
+    filter_include(["a"], many(1048576, "b")) => [];
+    filter_exclude(many(1048576, "a"), ["b"]) => many(1048576);
+    filter_exclude([long(16777216), "b"], ["*a"]) => ["b"];
+    filter_exclude(["a"], many(1048576, "b")) => ["a"];
     split_list(deep(199), 1) => many(1);
     split_list(many(1048576, ""), 1048576) => many(1048576);
     split_list([long(16777216)], 1) => many(1);
@@ -94,6 +98,7 @@ fn the_longest_labels_are_matched(rt: HostRuntime) -> Result<(), Fail> {
 const TEMPLATES: &str = calls! {
     root: process_file_template(many(1024, "f"), many(1024, "a")) => many(1048576);
     root: process_file_template(many(1024, "f"), many(1025, "a")) => TooLong;
+    root: process_file_template(many(1048576, "f"), ["a"]) => many(1048576);
     root: process_file_template(["f"], long(16777216)) => many(1);
     root: process_file_template(["f"], long(16777206, "{{source}}")) => many(1);
     root: process_file_template(["ffffffff"], long(16777206, "{{source}}")) => many(1);
@@ -112,6 +117,7 @@ const REBASED: &str = calls! {
     root: rebase_path(long(16777211)) => long(16777216);
     root: rebase_path(long(16777212)) => TooLong;
     root: rebase_path("a", long(16777216)) => "../a";
+    root: rebase_path(many(1048576, "a"), "//c") => many(1048576);
     root: rebase_path(["b", long(16777214)], "//c") => TooLong;
 };
 

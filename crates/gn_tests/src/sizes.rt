@@ -113,6 +113,13 @@ fn a_file_has_as_many_lines_as_a_list_holds(rt: HostRuntime) -> Result<(), Fail>
 }
 
 #[test]
+fn a_list_of_the_limit_is_written(rt: HostRuntime) -> Result<(), Fail> {
+    let file = "x = read_file(\"x\", \"list lines\")\nwrite_file(\"//out/x\", x)\n";
+    assert!(rt; beside_says(&rt, rt.alloc(), b'\n', 1_048_576, file, "0")?);
+    Ok(())
+}
+
+#[test]
 fn a_string_of_the_limit_is_written(rt: HostRuntime) -> Result<(), Fail> {
     assert!(rt; doubled_says(&rt, rt.alloc(), "write_file(\"//out/x\", s)\n", "0")?);
     assert!(rt; doubled_says(&rt, rt.alloc(), "write_file(\"//out/x\", [ s, s ])\n", "0")?);
