@@ -13,8 +13,8 @@ ghost use Rattle.gn_meaning.specs.PlainCalls.{refuses, settled_of};
 ghost use Rattle.gn_calls_plain.specs.Answers.{settled_view};
 ghost use Rattle.gn_calls_plain.specs.Contents.{IsReading, read_view, IsShallowRead};
 
-use crate::plain::{Settled, refusal};
-use gn_calls_text::{CallError, Conversion, Form, convert};
+use crate::plain::{Settled, answered};
+use gn_calls_text::{Conversion, Form, convert};
 use gn_env::Env;
 use gn_faults::Code;
 use gn_paths::{Path, Text, Texts, path_meant};
@@ -155,11 +155,7 @@ pub fn begin_reading(
 fn answer_form(alloc: Global, form: Form, bytes: &[u8]) -> Result<Settled, AllocError>
     ensures { IfOk result (λ s. settled_view s ≡ settled_of (converted form bytes.now)) }
 {
-    match convert(alloc, form, bytes) {
-        Ok(value) => Ok(Settled::Value(value)),
-        Err(CallError::Refused { code, argument }) => Ok(refusal(alloc, code, argument)),
-        Err(CallError::Memory) => Err(AllocError),
-    }
+    answered(alloc, convert(alloc, form, bytes))
 }
 
 // The expression that the bytes are, if they are one.

@@ -5,7 +5,9 @@ ghost use Rattle.std.specs.List.{join_by};
 ghost use Rattle.gn_values.specs.Text.{text_of};
 ghost use Rattle.gn_environment.specs.Faults.{fault_in};
 ghost use Rattle.gn_values.specs.View.{val_of};
+ghost use Rattle.gn_calls_text.specs.Answers.{Settled as Answered};
 ghost use Rattle.gn_calls_text.specs.Calls.{text_call};
+ghost use Rattle.gn_calls_text.specs.Views.{Settles};
 ghost use Rattle.gn_calls_path.specs.Calls.{path_call};
 ghost use Rattle.gn_items.specs.Effects.{with_written};
 ghost use Rattle.gn_meaning.specs.Imports.{place_here};
@@ -17,7 +19,7 @@ ghost use Rattle.gn_calls_plain.specs.Answers.{settled_view};
 
 use crate::outputs::get_target_outputs;
 use crate::writes::answer_write;
-use gn_calls_path::{PathCall, Where, call_path};
+use gn_calls_path::{PathCall, call_path};
 use gn_calls_text::{CallError, TextCall, call_text};
 use gn_env::Env;
 use gn_faults::Code;
@@ -115,8 +117,8 @@ fn print_texts(alloc: Global, first: &Value, rest: &[Value]) -> Result<Text, All
     Ok(line)
 }
 
-/// What a call on texts and lists or on paths and labels refuses.
-pub(crate) fn refusal(alloc: Global, code: Code, argument: Option<u32>) -> Settled
+// What a call refuses that another crate answers.
+fn refusal(alloc: Global, code: Code, argument: Option<u32>) -> Settled
     ensures { settled_view result ≡ refusal code argument }
 {
     match code {
@@ -125,35 +127,26 @@ pub(crate) fn refusal(alloc: Global, code: Code, argument: Option<u32>) -> Settl
     }
 }
 
+/// The answer of a plain call that another crate answers.
+pub(crate) fn answered(alloc: Global, done: Result<Value, CallError>) -> Result<Settled, AllocError>
+    ensures { (answer : Answered) → Settles val_of done answer → IfOk result (λ s. settled_view s ≡ settled_of answer) }
+{
+    match done {
+        Ok(value) => Ok(Settled::Value(value)),
+        Err(CallError::Refused { code, argument }) => Ok(refusal(alloc, code, argument)),
+        Err(CallError::Memory) => Err(AllocError),
+    }
+}
+
 // What a call on texts and lists answers to these values.
 fn answer_text(alloc: Global, call: TextCall, values: &[Value]) -> Result<Settled, AllocError>
     ensures { IfOk result (λ s. settled_view s ≡ settled_of (text_call call (map val_of values.now))) }
 {
-    match call_text(alloc, call, values) {
-        Ok(value) => Ok(Settled::Value(value)),
-        Err(CallError::Refused { code, argument }) => Ok(refusal(alloc, code, argument)),
-        Err(CallError::Memory) => Err(AllocError),
-    }
+    answered(alloc, call_text(alloc, call, values))
 }
 
 // What a call on paths and labels answers to these values where it stands.
 fn answer_path(
-    alloc: Global,
-    call: PathCall,
-    values: &[Value],
-    at: &Where,
-) -> Result<Settled, AllocError>
-    ensures { IfOk result (λ s. settled_view s ≡ settled_of (path_call call at.now (map val_of values.now))) }
-{
-    match call_path(alloc, call, values, at) {
-        Ok(value) => Ok(Settled::Value(value)),
-        Err(CallError::Refused { code, argument }) => Ok(refusal(alloc, code, argument)),
-        Err(CallError::Memory) => Err(AllocError),
-    }
-}
-
-// The same in an environment.
-fn answer_path_here(
     alloc: Global,
     call: PathCall,
     values: &[Value],
@@ -162,7 +155,7 @@ fn answer_path_here(
     ensures { IfOk result (λ s. settled_view s ≡ settled_of (path_call call (where_here env.now.setting) (map val_of values.now))) }
 {
     let at = where_here(alloc, env)?;
-    answer_path(alloc, call, values, &at)
+    answered(alloc, call_path(alloc, call, values, &at))
 }
 
 // What `get_target_outputs` answers to these values, where the outcome's items have been defined.
@@ -174,11 +167,7 @@ fn answer_outputs(
 ) -> Result<Settled, AllocError>
     ensures { IfOk result (λ s. settled_view s ≡ settled_of (target_outputs env.now.setting out.now.items (map val_of values.now))) }
 {
-    match get_target_outputs(alloc, values, env, out) {
-        Ok(value) => Ok(Settled::Value(value)),
-        Err(CallError::Refused { code, argument }) => Ok(refusal(alloc, code, argument)),
-        Err(CallError::Memory) => Err(AllocError),
-    }
+    answered(alloc, get_target_outputs(alloc, values, env, out))
 }
 
 // What the call answers to these values where it stands, and where the outcome's items have been defined.
@@ -197,7 +186,7 @@ fn answer_plain(
         Plain::Print => Ok(Settled::Line(print_line(alloc, values)?)),
         Plain::WriteFile => answer_write(alloc, values, env),
         Plain::Text(call) => answer_text(alloc, call, values),
-        Plain::Path(call) => answer_path_here(alloc, call, values, env),
+        Plain::Path(call) => answer_path(alloc, call, values, env),
         Plain::TargetOutputs => answer_outputs(alloc, values, env, out),
     }
 }

@@ -12,7 +12,7 @@ use gn_tree::Position;
 use std::alloc::{AllocError, Global};
 
 /// Why an item isn't made.
-#[derive(Debug, Drop)]
+#[derive(Drop)]
 pub enum DefineError {
     /// The first fault of the definition.
     Wrong(Fault),

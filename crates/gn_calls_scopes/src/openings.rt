@@ -74,11 +74,11 @@ fn begin_template(
 ) -> Result<Opened, StepEnd>
     ensures runs { (out : Effects) → IsStep opened_view result env.new out (template_begun_runs definition.value depth kind_name.now name.now position env.old out) }
 {
-    let given = name.copy(alloc)?;
     begin_scope(alloc, kind_name, name, position, env)?;
+    let name = name.copy(alloc)?;
     Ok(Opened::Template {
         definition,
-        name: given,
+        name,
         depth,
     })
 }
@@ -95,9 +95,9 @@ fn begin_item_of(
 ) -> Result<Opened, StepEnd>
     ensures runs { (out : Effects) → IsStep opened_view result env.new out (item_begun_runs kind kind_name.now name.now position env.old out) }
 {
-    let given = name.copy(alloc)?;
     begin_item(alloc, kind, kind_name, name, position, env)?;
-    Ok(Opened::Item { kind, name: given })
+    let name = name.copy(alloc)?;
+    Ok(Opened::Item { kind, name })
 }
 
 // `target`, where no template has the name of its kind.
@@ -222,8 +222,8 @@ fn begin_defaults(
     let Value::Str(kind) = kind else {
         return Err(wrong(alloc, env, Code::BadTypes, argument_position(call, 0)));
     };
-    let kind = kind.copy(alloc)?;
     env.enter(false)?;
+    let kind = kind.copy(alloc)?;
     Ok(Opened::Defaults { kind })
 }
 

@@ -50,6 +50,10 @@ plain_of name =
     else if bytes_eq name (codes "get_target_outputs") then Some TargetOutputs
     else None
 
+-- what a name is that calls nothing
+abbrev pub excluded_or_unknown : List ℕ → Named
+excluded_or_unknown name = if list_any (bytes_eq name) excluded_names then Excluded else Unknown
+
 -- what a name calls that is no plain call's and defines no item
 unfoldable pub other_function_of : List ℕ → Named
 other_function_of name =
@@ -64,8 +68,7 @@ other_function_of name =
     else if bytes_eq name (codes "not_needed") then OfFunction (Changing NotNeeded)
     else if bytes_eq name (codes "read_file") then OfFunction ReadFile
     else if bytes_eq name (codes "set_default_toolchain") then OfFunction (Changing SetDefaultToolchain)
-    else if list_any (bytes_eq name) excluded_names then Excluded
-    else Unknown
+    else excluded_or_unknown name
 
 -- the name of a kind of items calls that kind
 abbrev pub item_or_other : Option ItemKind → List ℕ → Named

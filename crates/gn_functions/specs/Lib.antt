@@ -1,3 +1,4 @@
+pub mod Rows
 pub mod Functions
 pub mod Rules
 pub mod Laws

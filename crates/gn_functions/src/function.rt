@@ -3,14 +3,15 @@
 ghost use Rattle.std.specs.Prelude.{◌≡◌};
 ghost use Rattle.std.specs.List.{list_any};
 ghost use Rattle.std.specs.Str.{bytes_eq};
-ghost use Rattle.gn_functions.specs.Functions.{excluded_names, plain_of, other_function_of, item_or_other, function_of, as_target, target_kind_of};
+ghost use Rattle.gn_functions.specs.Rows.{first_named};
+ghost use Rattle.gn_functions.specs.Functions.{excluded_names, plain_of, excluded_or_unknown, other_function_of, item_or_other, function_of, as_target, target_kind_of};
 
 use gn_calls_path::PathCall;
 use gn_calls_text::TextCall;
 use gn_rows::ItemKind;
 
 /// A function that needs nothing but the values of its arguments, where it stands and what has been defined before.
-#[derive(Clone, Copy, Debug, PartialEq, Eq)]
+#[derive(Clone, Copy, PartialEq, Eq)]
 pub enum Plain {
     /// `assert`
     Assert,
@@ -27,7 +28,7 @@ pub enum Plain {
 }
 
 /// A function that needs the values of its arguments and changes where it stands.
-#[derive(Clone, Copy, Debug, PartialEq, Eq)]
+#[derive(Clone, Copy, PartialEq, Eq)]
 pub enum Changing {
     /// `import`
     Import,
@@ -42,7 +43,7 @@ pub enum Changing {
 }
 
 /// A function that opens a scope, in which its block runs.
-#[derive(Clone, Copy, Debug, PartialEq, Eq)]
+#[derive(Clone, Copy, PartialEq, Eq)]
 pub enum Opening {
     /// The definition of an item of this kind.
     Item(ItemKind),
@@ -55,7 +56,7 @@ pub enum Opening {
 }
 
 /// A function of the language.
-#[derive(Clone, Copy, Debug, PartialEq, Eq)]
+#[derive(Clone, Copy, PartialEq, Eq)]
 pub enum Function {
     /// A function that needs nothing but the values of its arguments and where it stands.
     Plain(Plain),
@@ -72,7 +73,7 @@ pub enum Function {
 }
 
 /// What a name calls.
-#[derive(Clone, Copy, Debug, PartialEq, Eq)]
+#[derive(Clone, Copy, PartialEq, Eq)]
 pub enum Named {
     /// A function.
     Function(Function),
@@ -81,6 +82,76 @@ pub enum Named {
     /// No function.
     Unknown,
 }
+
+// The plain calls by their names.
+const PLAIN: [(&[u8], Option<Plain>); 15] = [
+    (b"assert", Some(Plain::Assert)),
+    (b"print", Some(Plain::Print)),
+    (b"write_file", Some(Plain::WriteFile)),
+    (
+        b"filter_exclude",
+        Some(Plain::Text(TextCall::FilterExclude)),
+    ),
+    (
+        b"filter_include",
+        Some(Plain::Text(TextCall::FilterInclude)),
+    ),
+    (b"split_list", Some(Plain::Text(TextCall::SplitList))),
+    (b"string_join", Some(Plain::Text(TextCall::StringJoin))),
+    (
+        b"string_replace",
+        Some(Plain::Text(TextCall::StringReplace)),
+    ),
+    (b"string_split", Some(Plain::Text(TextCall::StringSplit))),
+    (b"get_label_info", Some(Plain::Path(PathCall::GetLabelInfo))),
+    (b"get_path_info", Some(Plain::Path(PathCall::GetPathInfo))),
+    (b"label_matches", Some(Plain::Path(PathCall::LabelMatches))),
+    (
+        b"process_file_template",
+        Some(Plain::Path(PathCall::ProcessFileTemplate)),
+    ),
+    (b"rebase_path", Some(Plain::Path(PathCall::RebasePath))),
+    (b"get_target_outputs", Some(Plain::TargetOutputs)),
+];
+
+// What else is called by a name, but for items.
+const OTHERS: [(&[u8], Named); 11] = [
+    (b"defined", Named::Function(Function::Defined)),
+    (b"foreach", Named::Function(Function::Foreach)),
+    (
+        b"import",
+        Named::Function(Function::Changing(Changing::Import)),
+    ),
+    (
+        b"template",
+        Named::Function(Function::Changing(Changing::Template)),
+    ),
+    (
+        b"target",
+        Named::Function(Function::Opening(Opening::Target)),
+    ),
+    (
+        b"set_defaults",
+        Named::Function(Function::Opening(Opening::SetDefaults)),
+    ),
+    (
+        b"declare_args",
+        Named::Function(Function::Opening(Opening::DeclareArguments)),
+    ),
+    (
+        b"forward_variables_from",
+        Named::Function(Function::Changing(Changing::ForwardVariablesFrom)),
+    ),
+    (
+        b"not_needed",
+        Named::Function(Function::Changing(Changing::NotNeeded)),
+    ),
+    (b"read_file", Named::Function(Function::ReadFile)),
+    (
+        b"set_default_toolchain",
+        Named::Function(Function::Changing(Changing::SetDefaultToolchain)),
+    ),
+];
 
 // The functions of GN that define no items and are left out: those that the profile leaves out for good, and those that aren't
 // built yet.
@@ -126,39 +197,7 @@ fn item_or_other(kind: Option<ItemKind>, name: &[u8]) -> Named
 fn plain_of(name: &[u8]) -> Option<Plain>
     ensures { result ≡ plain_of name.now }
 {
-    if name == b"assert".as_slice() {
-        Some(Plain::Assert)
-    } else if name == b"print".as_slice() {
-        Some(Plain::Print)
-    } else if name == b"write_file".as_slice() {
-        Some(Plain::WriteFile)
-    } else if name == b"filter_exclude".as_slice() {
-        Some(Plain::Text(TextCall::FilterExclude))
-    } else if name == b"filter_include".as_slice() {
-        Some(Plain::Text(TextCall::FilterInclude))
-    } else if name == b"split_list".as_slice() {
-        Some(Plain::Text(TextCall::SplitList))
-    } else if name == b"string_join".as_slice() {
-        Some(Plain::Text(TextCall::StringJoin))
-    } else if name == b"string_replace".as_slice() {
-        Some(Plain::Text(TextCall::StringReplace))
-    } else if name == b"string_split".as_slice() {
-        Some(Plain::Text(TextCall::StringSplit))
-    } else if name == b"get_label_info".as_slice() {
-        Some(Plain::Path(PathCall::GetLabelInfo))
-    } else if name == b"get_path_info".as_slice() {
-        Some(Plain::Path(PathCall::GetPathInfo))
-    } else if name == b"label_matches".as_slice() {
-        Some(Plain::Path(PathCall::LabelMatches))
-    } else if name == b"process_file_template".as_slice() {
-        Some(Plain::Path(PathCall::ProcessFileTemplate))
-    } else if name == b"rebase_path".as_slice() {
-        Some(Plain::Path(PathCall::RebasePath))
-    } else if name == b"get_target_outputs".as_slice() {
-        Some(Plain::TargetOutputs)
-    } else {
-        None
-    }
+    first_named(&PLAIN, name, None)
 }
 
 // What a name calls that is no plain call's and defines no item.
@@ -166,33 +205,19 @@ fn plain_of(name: &[u8]) -> Option<Plain>
 fn other_function_of(name: &[u8]) -> Named
     ensures { result ≡ other_function_of name.now }
 {
-    if name == b"defined".as_slice() {
-        Named::Function(Function::Defined)
-    } else if name == b"foreach".as_slice() {
-        Named::Function(Function::Foreach)
-    } else if name == b"import".as_slice() {
-        Named::Function(Function::Changing(Changing::Import))
-    } else if name == b"template".as_slice() {
-        Named::Function(Function::Changing(Changing::Template))
-    } else if name == b"target".as_slice() {
-        Named::Function(Function::Opening(Opening::Target))
-    } else if name == b"set_defaults".as_slice() {
-        Named::Function(Function::Opening(Opening::SetDefaults))
-    } else if name == b"declare_args".as_slice() {
-        Named::Function(Function::Opening(Opening::DeclareArguments))
-    } else if name == b"forward_variables_from".as_slice() {
-        Named::Function(Function::Changing(Changing::ForwardVariablesFrom))
-    } else if name == b"not_needed".as_slice() {
-        Named::Function(Function::Changing(Changing::NotNeeded))
-    } else if name == b"read_file".as_slice() {
-        Named::Function(Function::ReadFile)
-    } else if name == b"set_default_toolchain".as_slice() {
-        Named::Function(Function::Changing(Changing::SetDefaultToolchain))
-    } else if is_excluded(name) {
-        Named::Excluded
-    } else {
-        Named::Unknown
+    first_named(&OTHERS, name, excluded_or_unknown(name))
+}
+
+// What stands at the first of these rows that has the name, or the other value where none has it.
+fn first_named<T: Copy>(rows: &[(&[u8], T)], name: &[u8], otherwise: T) -> T
+    ensures { result ≡ first_named rows.now name.now otherwise }
+{
+    for (called, value) in rows {
+        if name == *called {
+            return *value;
+        }
     }
+    otherwise
 }
 
 // The kind, if it is one of targets.
@@ -213,6 +238,17 @@ pub fn target_kind(name: &[u8]) -> Option<ItemKind>
     as_target(ItemKind::named(name))
 }
 
+// What a name is that calls nothing.
+fn excluded_or_unknown(name: &[u8]) -> Named
+    ensures { result ≡ excluded_or_unknown name.now }
+{
+    if is_excluded(name) {
+        Named::Excluded
+    } else {
+        Named::Unknown
+    }
+}
+
 // Whether the name is one of a function that is left out.
 #[tactic(auto, unfolding(crate::specs::Functions::excluded_names))]
 fn is_excluded(name: &[u8]) -> bool
@@ -225,5 +261,10 @@ fn is_excluded(name: &[u8]) -> bool
 fn is_one_of(name: &[u8], names: &[&[u8]]) -> bool
     ensures { result ≡ list_any (λ other. bytes_eq name.now other.now) names.now }
 {
-    names.iter().any(|other| name == *other)
+    for other in names {
+        if name == *other {
+            return true;
+        }
+    }
+    false
 }

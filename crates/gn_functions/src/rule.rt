@@ -9,7 +9,7 @@ use gn_calls_text::TextCall;
 use gn_rows::ItemKind;
 
 /// Where a function may be called.
-#[derive(Clone, Copy, Debug, PartialEq, Eq)]
+#[derive(Clone, Copy)]
 pub enum Allowed {
     /// Everywhere.
     Everywhere,
@@ -26,7 +26,7 @@ pub enum Allowed {
 
 /// What is judged of a call before its arguments are evaluated, in this order: whether it is allowed where it stands, its
 /// number of arguments and its block, and how deep it nests.
-#[derive(Clone, Copy, Debug, PartialEq, Eq)]
+#[derive(Clone, Copy)]
 pub struct Rule {
     /// How many arguments it takes at least.
     pub least: usize,

@@ -3,7 +3,7 @@
 use gn_paths::{Place, Text};
 
 /// A build argument that an execution declares.
-#[derive(Debug, Drop)]
+#[derive(Drop)]
 pub struct Declaration {
     /// The name of the argument.
     pub name: Text,

@@ -4,7 +4,7 @@ use gn_labels::Named;
 use gn_paths::Place;
 
 /// The default toolchain, as a build configuration names it.
-#[derive(Debug, Drop)]
+#[derive(Drop)]
 pub struct DefaultToolchain {
     /// The directory and the name of its label.
     pub label: Named,

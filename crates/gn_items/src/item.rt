@@ -30,14 +30,14 @@ impl Item {
     pub fn copy(&self, alloc: Global) -> Result<Item, AllocError>
         ensures { IfOk result (λ item. item ≡ self.now) }
     {
-        let label = self.label.copy(alloc)?;
+        let fields = self.fields.copy()?;
         let place = self.place.copy(alloc)?;
         let tools = self.tools.copy(alloc)?;
         Ok(Item {
             kind: self.kind,
-            label,
+            label: self.label.copy(alloc)?,
             place,
-            fields: self.fields.copy()?,
+            fields,
             tools,
         })
     }

@@ -81,7 +81,7 @@ impl Key {
 }
 
 /// The leave to evaluate what a key names. It can't be copied: who has it alone may file the answer.
-#[derive(Debug, Drop)]
+#[derive(Drop)]
 pub struct Claim {
     /// What is to be evaluated.
     pub key: Key,

@@ -9,7 +9,7 @@ ghost use Rattle.gn_runs.specs.Runs.{content_of, import_of};
 use crate::declaration::Declaration;
 use crate::default_toolchain::DefaultToolchain;
 use crate::item::Item;
-use crate::places::note_place;
+use crate::places::make_place;
 use crate::question::Question;
 use crate::tool::Tool;
 use crate::tools::Tools;
@@ -100,10 +100,8 @@ impl Outcome {
         ensures ok { OnOk result (self.new ≡ with_item item self.old) }
         ensures err { OnErr result (self.new ≡ self.old) }
     {
-        self.items.reserve(1)?;
-        let place = self.items.as_slice().len();
-        note_place(self.alloc, &mut self.places, &item.label, place)?;
-        self.items.push(item)?;
+        make_place(self.alloc, &mut self.items, &mut self.places, &item.label)?;
+        self.items.push_reserved(item);
         Ok(())
     }
 

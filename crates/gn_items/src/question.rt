@@ -3,7 +3,7 @@
 use gn_paths::Path;
 
 /// What an evaluation asks.
-#[derive(Debug, Drop)]
+#[derive(Drop)]
 pub enum Question {
     /// The content of the file at the path.
     Content(Path),

@@ -3,7 +3,7 @@
 use gn_paths::{Path, Place, Text};
 
 /// A file that an execution writes.
-#[derive(Debug, Drop)]
+#[derive(Drop)]
 pub struct Written {
     /// The path of the file.
     pub path: Path,

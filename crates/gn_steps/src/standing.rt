@@ -7,19 +7,40 @@ use gn_calls_path::{Where as Calling, out_directory};
 use gn_define::Where;
 use gn_env::Env;
 use gn_items::ItemKind;
-use gn_paths::Path;
+use gn_paths::{Path, Text};
 use std::alloc::{AllocError, Global};
+
+// The toolchain under which the evaluation takes place, and the build directory.
+fn toolchain_here(alloc: Global, env: &Env) -> Result<(Text, Path), AllocError>
+    ensures { IfOk result (λ p. (p.0 ≡ env.now.setting.context.toolchain) × (p.1 ≡ env.now.setting.context.build_directory)) }
+{
+    let toolchain = env.context().toolchain.copy(alloc)?;
+    let build = env.context().build_directory.copy(alloc)?;
+    Ok((toolchain, build))
+}
+
+// The default toolchain, and the source root.
+fn root_here(alloc: Global, env: &Env) -> Result<(Text, Text), AllocError>
+    ensures { IfOk result (λ p. (p.0 ≡ env.now.setting.context.default_toolchain) × (p.1 ≡ env.now.setting.context.source_root)) }
+{
+    let default_toolchain = env.context().default_toolchain.copy(alloc)?;
+    let root = env.context().source_root.copy(alloc)?;
+    Ok((default_toolchain, root))
+}
 
 /// Where a call on paths and labels stands.
 pub fn where_here(alloc: Global, env: &Env) -> Result<Calling, AllocError>
     ensures { IfOk result (λ w. w ≡ where_here env.now.setting) }
 {
+    let directory = env.directory().copy(alloc)?;
+    let (toolchain, build) = toolchain_here(alloc, env)?;
+    let (default_toolchain, root) = root_here(alloc, env)?;
     Ok(Calling {
-        directory: env.directory().copy(alloc)?,
-        toolchain: env.context().toolchain.copy(alloc)?,
-        default_toolchain: env.context().default_toolchain.copy(alloc)?,
-        build: env.context().build_directory.copy(alloc)?,
-        root: env.context().source_root.copy(alloc)?,
+        directory,
+        toolchain,
+        default_toolchain,
+        build,
+        root,
     })
 }
 
@@ -40,11 +61,14 @@ fn out_here(alloc: Global, env: &Env) -> Result<Path, AllocError>
 pub fn context_here(alloc: Global, kind: ItemKind, env: &Env) -> Result<Where, AllocError>
     ensures { IfOk result (λ w. w ≡ context_here env.now.setting kind) }
 {
+    let out = out_here(alloc, env)?;
+    let directory = env.directory().copy(alloc)?;
+    let (toolchain, build) = toolchain_here(alloc, env)?;
     Ok(Where {
         kind,
-        directory: env.directory().copy(alloc)?,
-        toolchain: env.context().toolchain.copy(alloc)?,
-        build: env.context().build_directory.copy(alloc)?,
-        out: out_here(alloc, env)?,
+        directory,
+        toolchain,
+        build,
+        out,
     })
 }
