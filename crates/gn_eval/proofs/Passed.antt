@@ -15,7 +15,7 @@ use Rattle.gn_eval.specs.Telling.{covered, told_before, goes_on_further, then_fa
 
 -- a library goes on that isn't asked
 pub goes_on_still : (state : LibraryState) → GoesOn state state
-goes_on_still state = record { told = refl; later = omega arith }
+goes_on_still state = record { told = refl; later = omega arith; references = refl }
 
 -- of which answers something is claimed depends on the error alone
 covers_error : (T U : Type 0) (told : Option Answers) (e : EvalEnd) (a : Answers) → Covers {T = T} told (Err e) a → Covers {T = U} told (Err e) a

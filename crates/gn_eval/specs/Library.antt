@@ -14,21 +14,24 @@ pub record Need : Type 0 where
   pub question : Question
   pub place : Place
 
--- the answers that a library tells, if it does, what it noted last, and its count of stops
+-- the answers that a library tells, if it does, what it noted last, its count of stops, and the ghost names of the references behind which it stands,
+-- the outermost first: none where it stands by itself
 pub record LibraryState : Type 0 where
   pub told : Option Answers
   pub need : Need
   pub stops : ℕ
+  pub references : List ℕ
 
 -- what is told is among these answers; of a library that tells nothing nothing is claimed
 abbrev pub Includes : Option Answers → Answers → Type 0
 Includes None a = ⊥
 Includes (Some told) a = Below told a
 
--- the same library later: it tells the same
+-- the same library later: it tells the same, and stands behind the same references
 pub record GoesOn (before after : LibraryState) : Type 0 where
   pub told : after.told ≡ before.told
   pub later : before.stops ≤ after.stops
+  pub references : after.references ≡ before.references
 
 -- there is a file at the path, as far as is known
 abbrev pub IsThere : Option Content → Type 0

@@ -38,6 +38,7 @@ pub goes_on_further : (s t u : LibraryState) → GoesOn s t → GoesOn t u → G
 goes_on_further s t u first second = record {
   told = second.told ∙ first.told;
   later = omega (arith, first.later, second.later);
+  references = second.references ∙ first.references;
 }
 
 -- what fails, fails whatever comes behind it

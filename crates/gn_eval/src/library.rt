@@ -43,7 +43,7 @@ pub enum Found {
 /// lacks an answer it notes what is needed and where the call stands, counts a stop, and answers `Stopped`; its owner
 /// then brings the answer, and evaluates from the start again.
 pub trait Library {
-    /// What it tells, what it noted last, and its count of stops.
+    /// What it tells, what it noted last, its count of stops, and the references behind which it stands.
     ghost state: { Self → LibraryState };
 
     /// What an import of the file at the path leaves, for a call at the place. The content of the file is needed first,

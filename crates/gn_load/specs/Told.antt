@@ -1,5 +1,5 @@
 -- What contracts see of the library over some part of what is filed.
-use Rattle.std.specs.Prelude.{◌≡◌, Option, Some, None, Bool, true, false}
+use Rattle.std.specs.Prelude.{◌≡◌, [], Option, Some, None, Bool, true, false}
 use Rattle.gn_items.specs.Questions.{question_of}
 use Rattle.gn_runs.specs.Runs.{Imported, has_value, is_unusable}
 use Rattle.gn_eval.specs.Library.{Need, LibraryState}
@@ -19,6 +19,7 @@ told_state answers t = record {
   told = Some (shown (answers t.part.now) (layer_at t.when t.toolchain.now));
   need = need_view t.need;
   stops = t.stops;
+  references = [];
 }
 
 -- what an import leaves, as far as it is known

@@ -10,12 +10,9 @@ use crate::answer::{Executed, FileContent, Filed};
 use crate::keys::import_key;
 use crate::part::Part;
 use gn_definitions::ImportValue;
-use gn_env::Env;
-use gn_eval::{DefineError, Definer, Found, Imported, LibStop, Library};
-use gn_items::{Item, ItemKind, Key, Question, When};
+use gn_eval::{Found, Imported, LibStop, Library};
+use gn_items::{Key, Question, When};
 use gn_paths::{Path, Place, Text};
-use gn_tree::Position;
-use gn_unit::define_item;
 use std::alloc::{AllocError, Global};
 
 /// An answer that is needed: the question, and the place of the call that asks.
@@ -286,18 +283,5 @@ impl<P: Part> Library for Told<'_, P> {
             Ok(None) => Err(self.lacks_content(alloc, path, place)),
             Err(_) => Err(LibStop::Memory),
         }
-    }
-}
-
-impl<P: Part> Definer for Told<'_, P> {
-    fn define(
-        &mut self,
-        alloc: Global,
-        kind: ItemKind,
-        name: &Text,
-        env: &mut Env,
-        position: Position,
-    ) -> Result<Item, DefineError> {
-        define_item(alloc, kind, name, env, position)
     }
 }

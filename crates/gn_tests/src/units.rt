@@ -1,11 +1,9 @@
 // Executions over a library that has one file.
 
-use gn_env::Env;
-use gn_eval::{DefineError, Definer, Found, Imported, LibStop, Library};
+use gn_eval::{Found, Imported, LibStop, Library};
 use gn_faults::{Code, Fault};
-use gn_items::{Claim, Item, ItemKind, Key, Outcome, Question, When};
+use gn_items::{Claim, Key, Outcome, Question, When};
 use gn_paths::{Path, Place, Text, resolve};
-use gn_tree::Position;
 use gn_unit::{Base, EvalStop, Unit, evaluate};
 use std::alloc::Global;
 use std::test::Fail;
@@ -42,6 +40,7 @@ impl Library for OneFile<'_> {
       told = None;
       need = record { question = content_of []; place = record { file = []; line = 1; column = 1 } };
       stops = s.stops;
+      references = [];
     } };
 
     fn import(&mut self, _: Global, _: &Path, _: &Place) -> Result<Imported, LibStop> {
@@ -67,19 +66,6 @@ impl Library for OneFile<'_> {
             File::Unkept => Err(LibStop::Memory),
             _ => Ok(Found::TooBig),
         }
-    }
-}
-
-impl Definer for OneFile<'_> {
-    fn define(
-        &mut self,
-        _: Global,
-        _: ItemKind,
-        _: &Text,
-        _: &mut Env,
-        _: Position,
-    ) -> Result<Item, DefineError> {
-        Err(DefineError::Memory)
     }
 }
 

@@ -77,7 +77,7 @@ setup_from base toolchain path execution env is at named =
 
 -- a library goes on that isn't asked
 goes_on_still : (state : LibraryState) → GoesOn state state
-goes_on_still state = record { told = refl; later = omega arith }
+goes_on_still state = record { told = refl; later = omega arith; references = refl }
 
 -- a step behind a content that was told
 module _ (before later : LibraryState) (path : List ℕ) (env : Environment) (out out1 : Effects) (found : Found) (next : Answers → Content → Environment → Effects → Run (Left BlockTree))

@@ -61,6 +61,7 @@ impl Library for NothingThere {
       told = Some nothing_there;
       need = record { question = content_of []; place = record { file = []; line = 1; column = 1 } };
       stops = 0;
+      references = [];
     } };
 
     fn import(&mut self, _: Global, _: &Path, _: &Place) -> Result<Imported, LibStop> {

@@ -1,4 +1,4 @@
-// The definition of items.
+// The definition of items, and the library that defines them.
 
 ghost use Rattle.std.specs.Prelude.{◌≡◌, Ok, Err, IfOk, IfErr, OnOk, option_map};
 ghost use Rattle.gn_rows.specs.Tables.{rows_of};
@@ -8,11 +8,11 @@ ghost use Rattle.gn_calls_scopes.specs.Definitions.{IfWrong};
 
 use gn_define::{Block, DefineError as FieldsError, Fields, ItemFault, define};
 use gn_env::Env;
-use gn_eval::DefineError;
+use gn_eval::{DefineError, Definer, Found, Imported, LibStop, Library};
 use gn_faults::Fault;
 use gn_items::{Item, ItemKind, Tools};
 use gn_labels::Label;
-use gn_paths::{Place, Text, Texts};
+use gn_paths::{Path, Place, Text, Texts};
 use gn_rows::{Row, rows_of};
 use gn_steps::context_here;
 use gn_tree::Position;
@@ -35,10 +35,48 @@ impl Block for EndedBlock<'_> {
     }
 }
 
-/// The item of this kind and name whose block has ended, by the rows of its kind; the names of these count as read
-/// from then on. `Wrong` has the first fault, and comes exactly where there is one, but for want of memory.
+/// A library that defines items too. What it answers is what the library behind the reference answers.
+#[derive(Drop)]
+pub(crate) struct Defining<'a, L> {
+    pub(crate) library: &'a mut L,
+}
+
+impl<L: Library> Library for Defining<'_, L> {
+    ghost use Rattle.std.specs.Prelude.{◌∷◌};
+
+    ghost state = { λ w. record {
+      told = (L.state w.library.now).told;
+      need = (L.state w.library.now).need;
+      stops = (L.state w.library.now).stops;
+      references = w.library.ghost_name ∷ (L.state w.library.now).references;
+    } };
+
+    fn import(&mut self, alloc: Global, path: &Path, place: &Place) -> Result<Imported, LibStop> {
+        self.library.import(alloc, path, place)
+    }
+
+    fn bytes(&mut self, alloc: Global, path: &Path, place: &Place) -> Result<Found, LibStop> {
+        self.library.bytes(alloc, path, place)
+    }
+}
+
+impl<L> Definer for Defining<'_, L> {
+    fn define(
+        &mut self,
+        alloc: Global,
+        kind: ItemKind,
+        name: &Text,
+        env: &mut Env,
+        position: Position,
+    ) -> Result<Item, DefineError> {
+        define_item(alloc, kind, name, env, position)
+    }
+}
+
+// The item of this kind and name whose block has ended, by the rows of its kind; the names of these count as read
+// from then on. `Wrong` has the first fault, and comes exactly where there is one, but for want of memory.
 #[tactic(auto, unfolding(gn_meaning::specs::Items::defined))]
-pub fn define_item(
+fn define_item(
     alloc: Global,
     kind: ItemKind,
     name: &Text,

@@ -9,6 +9,7 @@ ghost use Rattle.gn_executions.specs.Setups.{setup_execution};
 
 use crate::base::Base;
 use crate::configuration::execute_setup;
+use crate::defining::Defining;
 use crate::execution::{execute_import, execute_load};
 use crate::unit::{EvalStop, Unit};
 use gn_eval::{Definer, EvalEnd, Library};
@@ -109,7 +110,7 @@ fn unit_of<L: Library + Definer>(
 /// told, and what it asked. `Stopped` comes where the library lacks an answer: over just what it tells, the execution needs
 /// the one that it has noted, and asks it behind the questions that come back. The base is that of the evaluations under this
 /// toolchain: what its context says is taken.
-pub fn evaluate<L: Library + Definer>(
+pub fn evaluate<L: Library>(
     alloc: Global,
     claim: Claim,
     base: &Base,
@@ -125,7 +126,8 @@ pub fn evaluate<L: Library + Definer>(
     ensures goes { GoesOn (L.state library.old) (L.state library.new) }
     ensures rose { IfErr result (λ r. WhereStopped r.1 (λ asked. (L.state library.old).stops < (L.state library.new).stops)) }
 {
-    match unit_of(alloc, base, &claim.key, library) {
+    let mut defining = Defining { library };
+    match unit_of(alloc, base, &claim.key, &mut defining) {
         Ok(unit) => Ok((claim, unit)),
         Err(stop) => Err((claim, stop)),
     }

@@ -16,7 +16,6 @@ mod unit;
 
 pub use alone::UnitEnd;
 pub use base::Base;
-pub use defining::define_item;
 pub use evaluation::evaluate;
 pub use first_stage::{arguments, dotfile};
 pub use said::Dotfile;
