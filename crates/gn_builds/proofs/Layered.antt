@@ -20,6 +20,7 @@ use Rattle.gn_executions.specs.Setups.{setup_execution}
 use Rattle.gn_executions.specs.Base.{BaseState}
 use Rattle.gn_executions.proofs.ExecutionTrees.{import_execution_tree, import_meaning_tree, load_execution_tree, setup_execution_tree, absent_import}
 use Rattle.gn_core.specs.Keys.{Layer, early, usual, Key, Unit_of, Answer, unit_in, Filed, Leaving, UnitLeft, layer_of, seen}
+use Rattle.gn_core.specs.Worlds.{true_meaning}
 use Rattle.gn_core.specs.Layered.{IsPart, HasLayer}
 use Rattle.gn_builds.specs.Worlds.{Files, files_of, content_at, content_in, when_of, toolchain_of, left_end, left_run, base_filed, base_of_layer, configuration_leaves, file_leaves, import_of_layer, unit_over, stage_of_layer, stage_of, world_of}
 use Rattle.gn_builds.specs.Laws.{TodayIsLayered}
@@ -62,20 +63,21 @@ pub unit_tree : (base : BaseState) (k : Unit_key) → IsTree (λ answers. unit_o
 unit_tree base (Setup toolchain) = left_tree configuration_leaves (setup_execution base toolchain) (setup_execution_tree base toolchain)
 unit_tree base (Load dir toolchain) = left_tree file_leaves (load_execution base dir toolchain) (load_execution_tree base dir toolchain)
 
-seen_tree : (base : BaseState) (l : Layer) (path : List ℕ) → IsTree (λ answers. seen (import_of_layer base l path answers))
+pub seen_tree : (base : BaseState) (l : Layer) (path : List ℕ) → IsTree (λ answers. seen (import_of_layer base l path answers))
 seen_tree base l path =
     tree_same (λ answers. seen (import_of_layer base l path answers)) (import_meaning base (when_of l) (toolchain_of l) path) (λ a. seen_followed (import_execution base (when_of l) (toolchain_of l) path a))
     (import_meaning_tree base (when_of l) (toolchain_of l) path)
 
-seen_absent : (base : BaseState) (l : Layer) (path : List ℕ) (a : Answers) → a.contents path ≡ Some is_absent → IsWrong (seen (import_of_layer base l path a)).end
+pub seen_absent : (base : BaseState) (l : Layer) (path : List ℕ) (a : Answers) → a.contents path ≡ Some is_absent → IsWrong (seen (import_of_layer base l path a)).end
 seen_absent base l path a h =
     subst (λ (r : Run ImportState). IsWrong r.end) (sym (seen_followed (import_execution base (when_of l) (toolchain_of l) path a)))
     (subst IsWrong (sym (absent_import base (when_of l) (toolchain_of l) path a h)) tt)
 
 -- the base of a layer is what stands in an earlier stage
-base_sees : (start : BaseState) (l : Layer) (b c : Filed) → ((q : Key) → stage_of q < stage_of_layer l → b q ≡ c q) → base_of_layer start b l ≡ base_of_layer start c l
-base_sees start (early toolchain) b c h = refl
-base_sees start (usual toolchain) b c h = ap (base_filed start) (h (Unit_of (Setup [])) (omega arith))
+base_sees : (files : Files) (l : Layer) (b c : Filed) → ((q : Key) → stage_of q < stage_of_layer l → b q ≡ Some (true_meaning (world_of files) q)) → ((q : Key) → stage_of q < stage_of_layer l → c q ≡ Some (true_meaning (world_of files) q))
+    → base_of_layer files.start b l ≡ base_of_layer files.start c l
+base_sees files (early toolchain) b c h g = refl
+base_sees files (usual toolchain) b c h g = ap (base_filed files.start) (h (Unit_of (Setup [])) (omega arith) ∙ sym (g (Unit_of (Setup [])) (omega arith)))
 
 -- a unit that is done has an answer
 has_unit : (x : Option Answer) (y : Option Done) → unit_in x ≡ Some y → (v : Answer) × (x ≡ Some v)
@@ -103,7 +105,7 @@ path_any (p ∷ ps) q (inl e) = or_left (bytes_eq q p) (list_any (bytes_eq q) ps
 path_any (p ∷ ps) q (inr i) = or_right (bytes_eq q p) (list_any (bytes_eq q) ps) (path_any ps q i)
 
 -- a path at which there is something is that of a file
-listed : (files : Files) (path : List ℕ) → (content_at files path ≡ is_absent) ⊎ IsOneOf path files.paths
+pub listed : (files : Files) (path : List ℕ) → (content_at files path ≡ is_absent) ⊎ IsOneOf path files.paths
 listed files path = by (list_any (bytes_eq path) files.paths) refl
   where
     by : (b : Bool) → list_any (bytes_eq path) files.paths ≡ b → ((if b then files.given path else is_absent) ≡ is_absent) ⊎ IsOneOf path files.paths
@@ -130,9 +132,9 @@ today_is_layered files = record {
     imports = λ base l path. import_tree (base_of_layer files.start base l) l path;
     trees = λ base k. unit_tree (base_of_layer files.start base (layer_of k)) k;
   };
-  imports_see = λ l path b c h. ap {B = Answers → Run (Leaving ImportState)} (λ (base : BaseState) (a : Answers). import_of_layer base l path a) (base_sees files.start l b c h);
-  units_see = λ k b c h. ap {B = Answers → Run (Leaving UnitLeft)} (λ (base : BaseState) (a : Answers). unit_over base k a) (base_sees files.start (layer_of k) b c h);
-  records_see = λ l b c h. refl;
+  imports_see = λ l path b c h g. ap {B = Answers → Run (Leaving ImportState)} (λ (base : BaseState) (a : Answers). import_of_layer base l path a) (base_sees files l b c h g);
+  units_see = λ k b c h g. ap {B = Answers → Run (Leaving UnitLeft)} (λ (base : BaseState) (a : Answers). unit_over base k a) (base_sees files (layer_of k) b c h g);
+  records_see = λ l b c h g. refl;
   one_stage = λ l p q. refl;
   asks_low = λ k path. omega arith;
   imports_based = λ l path b c h le. ap {B = Answers → Run (Leaving ImportState)} (λ (base : BaseState) (a : Answers). import_of_layer base l path a) (base_based files l b c h le);

@@ -8,7 +8,7 @@ use Rattle.gn_closure.proofs.GroundRules.{holds_grows}
 use Rattle.gn_core.specs.Keys.{Layer, early, usual, Key, Read, Import, Unit_of, Resolve, Answer, Filed, layer_of, key_of, unit_in, units}
 use Rattle.gn_core.specs.Worlds.{World}
 use Rattle.gn_core.specs.Machine.{IsLoaded, IsDone, Defines, HasTools, IsFiled, IsReachedKey}
-use Rattle.gn_core.specs.Layered.{IsPart, HasLayer, IsBased, for_read, for_import, for_unit, for_label}
+use Rattle.gn_core.specs.Layered.{IsPart, HasDefinition, HasLayer, IsBased, for_read, for_import, for_unit, for_label}
 
 -- Generated labels are of units that are done
 
@@ -66,11 +66,14 @@ module _ (w : World) (b c : Filed) (le : IsPart b c) where
       let same : Some (Some u.0) ≡ Some (Some h.0) = sym (units_part b c le (Load m.dir m.toolchain) u.0 u.2) ∙ h.1.1 in
       (h.0, (u.1, u.2 ∙ same), h.2, h.3)
 
+  definition_grows : (tc : List ℕ) → HasDefinition w b tc → HasDefinition w c tc
+  definition_grows tc (inl e) = inl e
+  definition_grows tc (inr (d, u, t, x, y, i, n)) = inr (d, u, t, units_part b c le (Setup []) d x, units_part b c le (Load (w.home tc) d.default) u y, i, n)
+
   pub layer_grows : (l : Layer) → HasLayer w b l → HasLayer w c l
-  layer_grows (early tc) (inl e) = inl e
-  layer_grows (early tc) (inr (d, u, t, x, y, i, n)) = inr (d, u, t, units_part b c le (Setup []) d x, units_part b c le (Load (w.home tc) d.default) u y, i, n)
+  layer_grows (early tc) h = definition_grows tc h
   layer_grows (usual tc) (d, x, inl e) = (d, units_part b c le (Setup []) d x, inl e)
-  layer_grows (usual tc) (d, x, inr (s, y)) = (d, units_part b c le (Setup []) d x, inr (s, units_part b c le (Setup tc) s y))
+  layer_grows (usual tc) (d, x, inr (h, (s, y))) = (d, units_part b c le (Setup []) d x, inr (definition_grows tc h, (s, units_part b c le (Setup tc) s y)))
 
   pub based_grows : (k : Key) → IsBased w b k → IsBased w c k
   based_grows k (for_read path) = for_read path
@@ -85,28 +88,28 @@ module _ (w : World) (b c : Filed) (le : IsPart b c) where
 -- What is reached
 
 reached_by : (home : List ℕ → List ℕ) (w : World) (b : Filed) (fs : List Fact) (ts : List Told) (f : Fact) → w.home ≡ home → Rule home fs ts f → ((t : Told) → In ts t → units b t.unit ≡ Some (Some t.done))
-    → (k : Unit_key) → f ≡ Is_reached k → HasLayer w b (layer_of k)
-reached_by home w b fs ts f s first e k g = let same : Setup [] ≡ k = cc in subst (λ z. HasLayer w b (layer_of z)) same (inl refl)
-reached_by home w b fs ts f s (root d) e k g = cc
-reached_by home w b fs ts f s (own d) e k g = cc
-reached_by home w b fs ts f s (target d u dir t i) e k g = cc
-reached_by home w b fs ts f s (dependency u v m n t x i j o y z) e k g = cc
-reached_by home w b fs ts f s (want u m n t i j x) e k g = cc
-reached_by home w b fs ts f s (want_toolchain d u m t i n) e k g = cc
-reached_by home w b fs ts f s (want_pool d u v m n t c i j x y z) e k g = cc
-reached_by home w b fs ts f s (load d dir) e k g =
+    → ((t : Told) → In ts t → HasLayer w b (layer_of t.unit)) → (k : Unit_key) → f ≡ Is_reached k → HasLayer w b (layer_of k)
+reached_by home w b fs ts f s first e ih k g = let same : Setup [] ≡ k = cc in subst (λ z. HasLayer w b (layer_of z)) same (inl refl)
+reached_by home w b fs ts f s (root d) e ih k g = cc
+reached_by home w b fs ts f s (own d) e ih k g = cc
+reached_by home w b fs ts f s (target d u dir t i) e ih k g = cc
+reached_by home w b fs ts f s (dependency u v m n t x i j o y z) e ih k g = cc
+reached_by home w b fs ts f s (want u m n t i j x) e ih k g = cc
+reached_by home w b fs ts f s (want_toolchain d u m t i n) e ih k g = cc
+reached_by home w b fs ts f s (want_pool d u v m n t c i j x y z) e ih k g = cc
+reached_by home w b fs ts f s (load d dir) e ih k g =
     let same : Load dir d.default ≡ k = cc in
     subst (λ z. HasLayer w b (layer_of z)) same (d, e _ (inl refl), inl refl)
-reached_by home w b fs ts f s (want_home d dir tc ne) e k g = cc
-reached_by home w b fs ts f s (setup d u dir c ne i) e k g =
+reached_by home w b fs ts f s (want_home d dir tc ne) e ih k g = cc
+reached_by home w b fs ts f s (setup d u dir c ne i) e ih k g =
     let same : Setup c.name ≡ k = cc in
     subst (λ z. HasLayer w b (layer_of z)) same (inr (d, u, c, e _ (inl refl), subst (λ (h : List ℕ → List ℕ). units b (Load (h c.name) d.default) ≡ Some (Some u)) (sym s) (e _ (inr (inl refl))), i, refl))
-reached_by home w b fs ts f s (other_load d x dir tc ne) e k g =
+reached_by home w b fs ts f s (other_load d x dir tc ne) e ih k g =
     let same : Load dir tc ≡ k = cc in
-    subst (λ z. HasLayer w b (layer_of z)) same (d, e _ (inl refl), inr (x, e _ (inr (inl refl))))
+    subst (λ z. HasLayer w b (layer_of z)) same (d, e _ (inl refl), inr (ih _ (inr (inl refl)), (x, e _ (inr (inl refl)))))
 
 unit_based : (w : World) (b : Filed) (k : Unit_key) → Holds w.home (units b) (Is_reached k) → HasLayer w b (layer_of k)
-unit_based w b k (by_rule fs ts f r hf ht e) = reached_by w.home w b fs ts f refl r e k refl
+unit_based w b k (by_rule fs ts f r hf ht e) = reached_by w.home w b fs ts f refl r e (λ t i. unit_based w b t.unit (ht t i)) k refl
 
 pub reached_based : (w : World) (b : Filed) → ((m : Label) → IsFiled b (Resolve m) → IsBased w b (Resolve m)) → (k : Key) → IsReachedKey w b k → IsBased w b k
 reached_based w b filed (Read path) h = for_read path

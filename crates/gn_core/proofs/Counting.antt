@@ -25,7 +25,7 @@ use Rattle.gn_closure.proofs.Closed.{same_equiv, member_first, member_more, memb
 use Rattle.gn_closure.proofs.Opened.{in_flat, flat_in}
 use Rattle.gn_closure.proofs.SameStep.{step_tested}
 use Rattle.gn_closure.proofs.Least.{limits_exact, computed_sound, computed_least}
-use Rattle.gn_core.specs.Keys.{Layer, Key, Read, Import, Unit_of, Answer, layer_of, key_of, units, same_key, Leaving, seen}
+use Rattle.gn_core.specs.Keys.{Layer, Key, Read, Import, Unit_of, Answer, layer_of, key_of, units, same_key, Leaving}
 use Rattle.gn_core.specs.Worlds.{World, project, last_run, import_as, all_meanings}
 use Rattle.gn_core.specs.Layered.{IsLayered}
 use Rattle.gn_core.specs.Machine.{import_limit, read_limit, asked_in, IsNeeded, by_unit, by_import, NeededBy, itself, through, HasMore, IsImport, Exceeds}
@@ -154,7 +154,7 @@ as_asked (spoiled path place) asked = refl
 as_asked (needs (content_of path) place) asked = refl
 as_asked (needs (import_of path) place) asked = refl
 
-key_import : (m n : Layer) (path : List ℕ) (q : Question) → Import m path ≡ key_of n q → (q ≡ import_of path) × (m ≡ n)
+pub key_import : (m n : Layer) (path : List ℕ) (q : Question) → Import m path ≡ key_of n q → (q ≡ import_of path) × (m ≡ n)
 key_import m n path (content_of r) e = cc
 key_import m n path (import_of r) e = (cc, cc)
 
@@ -192,10 +192,10 @@ module _ (w : World) (l : IsLayered w) where
       ∙ as_asked (last_run w (all_meanings w) m path).end (last_run w (all_meanings w) m path).asked
       ∙ sym (ap (λ (r : Run (Leaving ImportState)). r.asked) (final_run (layer_project m) (w.import_run m (all_meanings w) path) (l.is.imports (all_meanings w) m path)))
 
-  asked_there : (m : Layer) (path : List ℕ) (q : Question) → IsAsked (asked_in (all_meanings w (Import m path))) q → IsAsked (asked_by (layer_project m) path) q
+  pub asked_there : (m : Layer) (path : List ℕ) (q : Question) → IsAsked (asked_in (all_meanings w (Import m path))) q → IsAsked (asked_by (layer_project m) path) q
   asked_there m path q i = subst (λ (z : List Question). IsAsked z q) (asked_is m path) i
 
-  there_asked : (m : Layer) (path : List ℕ) (q : Question) → IsAsked (asked_by (layer_project m) path) q → IsAsked (asked_in (all_meanings w (Import m path))) q
+  pub there_asked : (m : Layer) (path : List ℕ) (q : Question) → IsAsked (asked_by (layer_project m) path) q → IsAsked (asked_in (all_meanings w (Import m path))) q
   there_asked m path q i = subst (λ (z : List Question). IsAsked z q) (sym (asked_is m path)) i
 
   -- by one import
@@ -267,14 +267,14 @@ module _ (w : World) (l : IsLayered w) where
   -- Where no limit of units is exceeded
 
   module _ (small : IsTooLarge w.home (units (all_meanings w)) → ⊥) where
-    reached_listed : (u : Unit_key) → Holds w.home (units (all_meanings w)) (Is_reached u) → In (units_reached w) u
+    pub reached_listed : (u : Unit_key) → Holds w.home (units (all_meanings w)) (Is_reached u) → In (units_reached w) u
     unfolding units_reached
     reached_listed u h =
         flat_in unit_in_step (all_facts w.home (units (all_meanings w))) (Holding (Is_reached u)) u
         (member_in same_step step_tested (all_facts w.home (units (all_meanings w))) (Holding (Is_reached u)) ((computed_least w.home (units (all_meanings w)) small (Is_reached u)).1 h))
         (inl refl)
 
-    listed_reached : (u : Unit_key) → In (units_reached w) u → Holds w.home (units (all_meanings w)) (Is_reached u)
+    pub listed_reached : (u : Unit_key) → In (units_reached w) u → Holds w.home (units (all_meanings w)) (Is_reached u)
     unfolding units_reached
     listed_reached u i =
         let k = in_flat unit_in_step (all_facts w.home (units (all_meanings w))) u i in

@@ -1,5 +1,5 @@
 -- A world whose loads see what the default setup left: the laws of layers can be met.
-use Rattle.std.proofs.Common.{◌≡◌, ℕ, ◌<◌, ◌≤◌, List, [], Option, Some, None, refl, sym, ◌∙◌, ap, inl, arith}
+use Rattle.std.proofs.Common.{◌≡◌, ℕ, ◌≤◌, List, [], Option, Some, None, refl, sym, ◌∙◌, ap, inl, arith}
 use mathlib.Core.Path.{fun_ext}
 use Rattle.gn_faults.specs.declared.fault.Fault.{Fault}
 use Rattle.gn_runs.specs.Runs.{is_absent, Answers, Run, leaves, fails, IsTree}
@@ -8,7 +8,7 @@ use Rattle.gn_items.specs.Effects.{no_effects}
 use Rattle.gn_closure.specs.Reach.{Unit_key, Setup, Load, Done}
 use Rattle.gn_core.specs.Keys.{Layer, early, usual, Key, Read, Import, Unit_of, Resolve, Answer, Filed, layer_of, unit_in, units, Leaving, UnitLeft}
 use Rattle.gn_core.specs.Worlds.{World}
-use Rattle.gn_core.specs.Layered.{IsPart, HasLayer, IsLayered}
+use Rattle.gn_core.specs.Layered.{IsPart, HasLayer, HasBelow, IsLayered}
 use Rattle.gn_core.proofs.Based.{units_part}
 
 -- a unit that has no items
@@ -52,9 +52,10 @@ unit_trees : (fault : Fault) (d : Done) (b : Filed) (k : Unit_key) → IsTree (u
 unit_trees fault d b (Setup t) = tree_leaves (nothing_more d)
 unit_trees fault d b (Load dir t) = left_tree fault (units b (Setup []))
 
-unit_sees : (fault : Fault) (d : Done) (k : Unit_key) (b c : Filed) → ((q : Key) → stage_of q < stage_of (Unit_of k) → b q ≡ c q) → unit_run fault d k b ≡ unit_run fault d k c
-unit_sees fault d (Setup t) b c same = refl
-unit_sees fault d (Load dir t) b c same = fun_ext (λ (a : Answers). ap (λ (x : Option Answer). left fault (unit_in x)) (same (Unit_of (Setup [])) (omega arith)))
+unit_sees : (fault : Fault) (d : Done) (k : Unit_key) (b c : Filed) → HasBelow (example fault d) b (Unit_of k) → HasBelow (example fault d) c (Unit_of k) → unit_run fault d k b ≡ unit_run fault d k c
+unit_sees fault d (Setup t) b c has_b has_c = refl
+unit_sees fault d (Load dir t) b c has_b has_c =
+    fun_ext (λ (a : Answers). ap (λ (x : Option Answer). left fault (unit_in x)) (has_b (Unit_of (Setup [])) (omega arith) ∙ sym (has_c (Unit_of (Setup [])) (omega arith))))
 
 unit_based : (fault : Fault) (d : Done) (k : Unit_key) (b c : Filed) → HasLayer (example fault d) b (layer_of k) → IsPart b c → unit_run fault d k c ≡ unit_run fault d k b
 unit_based fault d (Setup t) b c h le = refl
@@ -75,9 +76,9 @@ example_layered fault d = record {
     imports = λ b l path. tree_fails fault;
     trees = unit_trees fault d;
   };
-  imports_see = λ l path b c h. refl;
+  imports_see = λ l path b c h g. refl;
   units_see = unit_sees fault d;
-  records_see = λ l b c h. refl;
+  records_see = λ l b c h g. refl;
   one_stage = layer_stage;
   asks_low = layer_low;
   imports_based = λ l path b c h le. refl;

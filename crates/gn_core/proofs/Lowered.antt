@@ -16,35 +16,39 @@ use Rattle.gn_core.specs.Statements.{FiledAreMeanings}
 use Rattle.gn_core.proofs.Puts.{put_some, put_none, put_grows}
 use Rattle.gn_core.proofs.Kept.{Inv, event_kept}
 
--- two bases that agree below a stage
-module _ (w : World) (l : IsLayered w) (b c : Filed) (s : ℕ) (same : (q : Key) → w.stage q < s → b q ≡ c q) where
+-- two bases that have the meanings of all keys below a stage
+module _ (w : World) (l : IsLayered w) (b c : Filed) (s : ℕ) (left : (q : Key) → w.stage q < s → b q ≡ Some (true_meaning w q)) (right : (q : Key) → w.stage q < s → c q ≡ Some (true_meaning w q)) where
   layer_same : (m : Layer) → ((path : List ℕ) → w.stage (Import m path) ≤ s) → project w b m ≡ project w c m
   layer_same m low =
       ap (λ (f : List ℕ → Answers → Run (Leaving ImportState)). record { content = w.content; paths = w.paths; execute = λ path answers. seen (f path answers) })
-      (fun_ext (λ path. l.imports_see m path b c (λ q h. same q (omega (arith, h, low path)))))
+      (fun_ext (λ path. l.imports_see m path b c (λ q h. left q (omega (arith, h, low path))) (λ q h. right q (omega (arith, h, low path)))))
 
   meaning_same : (k : Key) → w.stage k ≤ s → meaning w b k ≡ meaning w c k
   unfolding last_run
   meaning_same (Read path) low = refl
   meaning_same (Import m path) low =
       let same_project : project w b m ≡ project w c m = layer_same m (λ q. omega (arith, l.one_stage m q path, low)) in
-      ap import_answer (λ i. l.imports_see m path b c (λ q h. same q (omega (arith, h, low))) i (knowing (same_project i) (values (same_project i))))
+      ap import_answer (λ i. l.imports_see m path b c (λ q h. left q (omega (arith, h, low))) (λ q h. right q (omega (arith, h, low))) i (knowing (same_project i) (values (same_project i))))
   meaning_same (Unit_of k) low =
       ap (λ (p : Project). unit_is (w.unit_run k b (final p))) (layer_same (layer_of k) (λ q. omega (arith, l.asks_low k q, low)))
-      ∙ ap (λ (f : Answers → Run (Leaving UnitLeft)). unit_is (f (final (project w c (layer_of k))))) (l.units_see k b c (λ q h. same q (omega (arith, h, low))))
-  meaning_same (Resolve m) low = ap record_is (l.records_see m b c (λ q h. same q (omega (arith, h, low))))
+      ∙ ap (λ (f : Answers → Run (Leaving UnitLeft)). unit_is (f (final (project w c (layer_of k))))) (l.units_see k b c (λ q h. left q (omega (arith, h, low))) (λ q h. right q (omega (arith, h, low))))
+  meaning_same (Resolve m) low = ap record_is (l.records_see m b c (λ q h. left q (omega (arith, h, low))) (λ q h. right q (omega (arith, h, low))))
 
-below_same : (w : World) → IsLayered w → (n m : ℕ) (q : Key) → w.stage q < n → w.stage q < m → below w n q ≡ below w m q
-below_same w l zero m q h g = absurd (omega (arith, h))
-below_same w l (suc n) zero q h g = absurd (omega (arith, g))
-below_same w l (suc n) (suc m) q h g =
-    ap Some (meaning_same w l (below w n) (below w m) (w.stage q)
-    (λ z low. below_same w l n m z (omega (arith, low, h)) (omega (arith, low, g))) q (omega arith))
+-- the meanings below a number have those of all keys of lower stages
+below_within : (w : World) → IsLayered w → (n m : ℕ) → m ≤ n → (q : Key) → w.stage q < m → below w m q ≡ Some (true_meaning w q)
+below_within w l zero m le q h = absurd (omega (arith, le, h))
+below_within w l (suc n) zero le q h = absurd (omega (arith, h))
+below_within w l (suc n) (suc m) le q h =
+    ap Some (meaning_same w l (below w m) (below w (w.stage q)) (w.stage q)
+    (λ z low. below_within w l n m (omega (arith, le)) z (omega (arith, low, h)))
+    (λ z low. below_within w l n (w.stage q) (omega (arith, le, h)) z low) q (omega arith))
+
+pub below_true : (w : World) → IsLayered w → (n : ℕ) (q : Key) → w.stage q < n → below w n q ≡ Some (true_meaning w q)
+below_true w l n q h = below_within w l n n (omega arith) q h
 
 pub true_fixed : (w : World) → IsLayered w → (k : Key) → true_meaning w k ≡ meaning w (all_meanings w) k
 true_fixed w l k =
-    meaning_same w l (below w (w.stage k)) (all_meanings w) (w.stage k)
-    (λ z low. below_same w l (w.stage k) (suc (w.stage z)) z low (omega arith)) k (omega arith)
+    meaning_same w l (below w (w.stage k)) (all_meanings w) (w.stage k) (λ z low. below_true w l (w.stage k) z low) (λ z low. refl) k (omega arith)
 
 -- what is claimed or filed has its base
 pub record AllBased (w : World) (s : State) : Type 0 where

@@ -12,7 +12,7 @@ use Rattle.gn_labels.specs.declared.label.Label.{Label}
 use Rattle.gn_closure.specs.Reach.{Unit_key, Setup, Load, Target, Done, Fact, Is_reached, Is_generated, Holds}
 use Rattle.gn_closure.proofs.GroundRules.{holds_grows, holds_back}
 use Rattle.gn_closure.proofs.Least.{first_held}
-use Rattle.gn_core.specs.Keys.{Layer, Key, Read, Import, Unit_of, Resolve, Answer, found, import_is, no_value, unit_is, record_is, Filed, layer_of, key_of, shown, unit_in, units, same_key, put, Leaving, seen}
+use Rattle.gn_core.specs.Keys.{Layer, Key, Read, Import, Unit_of, Resolve, Answer, found, import_is, no_value, unit_is, record_is, Filed, layer_of, key_of, shown, unit_in, units, same_key, put, Leaving}
 use Rattle.gn_core.specs.Worlds.{World, project, last_run, import_as, import_answer, all_meanings}
 use Rattle.gn_core.specs.Machine.{Blocked, State, Event, Claim, Block, File, Stop, happens, replay, NeedsAt, spoiled_as, ClosesCycle, IsRightImport, IsRight, IsLoaded, IsDone, Defines, HasTools, IsFiled, IsReachedKey, IsReady, asked_in, IsNeeded, by_unit, by_import, AllowedOver, Allowed, Runs, IsOverEvent, IsOver, IsQuiet, IsOpening}
 use Rattle.gn_core.specs.Layered.{IsPart, IsLayered}

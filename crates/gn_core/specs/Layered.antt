@@ -4,7 +4,7 @@ use Rattle.gn_closure.specs.Closure.{In}
 use Rattle.gn_labels.specs.declared.label.Label.{Label}
 use Rattle.gn_closure.specs.Reach.{Unit_key, Setup, Load, Target, Toolchain, Done, Is_generated, Holds}
 use Rattle.gn_core.specs.Keys.{Layer, early, usual, Key, Read, Import, Unit_of, Resolve, Answer, Filed, layer_of, units}
-use Rattle.gn_core.specs.Worlds.{World, IsWorld}
+use Rattle.gn_core.specs.Worlds.{World, true_meaning, IsWorld}
 use Rattle.gn_core.specs.Machine.{Defines, UnitsAreDone}
 
 abbrev pub IsPart : Filed → Filed → Type 0
@@ -17,14 +17,15 @@ HasDefinition w b toolchain =
     ⊎ ((d : Done) × (u : Done) × (c : Toolchain) × (units b (Setup []) ≡ Some (Some d)) × (units b (Load (w.home toolchain) d.default) ≡ Some (Some u))
     × In u.toolchains c × (c.name ≡ toolchain))
 
--- and behind it its finished build configuration
-abbrev pub HasSetup : Filed → List ℕ → Type 0
-HasSetup b toolchain =
-    (d : Done) × (units b (Setup []) ≡ Some (Some d)) × ((toolchain ≡ d.default) ⊎ ((s : Done) × (units b (Setup toolchain) ≡ Some (Some s))))
+-- and behind it its definition and its finished build configuration, where it isn't the default one
+abbrev pub HasSetup : World → Filed → List ℕ → Type 0
+HasSetup w b toolchain =
+    (d : Done) × (units b (Setup []) ≡ Some (Some d))
+    × ((toolchain ≡ d.default) ⊎ (HasDefinition w b toolchain × ((s : Done) × (units b (Setup toolchain) ≡ Some (Some s)))))
 
 abbrev pub HasLayer : World → Filed → Layer → Type 0
 HasLayer w b (early toolchain) = HasDefinition w b toolchain
-HasLayer w b (usual toolchain) = HasSetup b toolchain
+HasLayer w b (usual toolchain) = HasSetup w b toolchain
 
 -- the base has all that the evaluation of a key sees of it; that of a label sees the units of its targets and of all behind it
 pub data IsBased (w : World) (b : Filed) : Key → Type 0 where
@@ -37,12 +38,16 @@ pub data IsBased (w : World) (b : Filed) : Key → Type 0 where
       → ((t : Target) → Defines w (units b) l t → (m : Label) → In t.deps m → IsBased w b (Resolve m))
       → IsBased w b (Resolve l)
 
+-- the base has the meanings of all keys whose stage is lower than that of this one
+abbrev pub HasBelow : World → Filed → Key → Type 0
+HasBelow w b k = (q : Key) → w.stage q < w.stage k → b q ≡ Some (true_meaning w q)
+
 pub record IsLayered (w : World) : Type 0 where
   pub is : IsWorld w
-  -- an evaluation sees of the base only keys of a lower stage
-  pub imports_see : (l : Layer) (path : List ℕ) (b c : Filed) → ((q : Key) → w.stage q < w.stage (Import l path) → b q ≡ c q) → w.import_run l b path ≡ w.import_run l c path
-  pub units_see : (k : Unit_key) (b c : Filed) → ((q : Key) → w.stage q < w.stage (Unit_of k) → b q ≡ c q) → w.unit_run k b ≡ w.unit_run k c
-  pub records_see : (l : Label) (b c : Filed) → ((q : Key) → w.stage q < w.stage (Resolve l) → b q ≡ c q) → w.record_of l b ≡ w.record_of l c
+  -- of a base that has the meanings of lower stages an evaluation sees nothing else
+  pub imports_see : (l : Layer) (path : List ℕ) (b c : Filed) → HasBelow w b (Import l path) → HasBelow w c (Import l path) → w.import_run l b path ≡ w.import_run l c path
+  pub units_see : (k : Unit_key) (b c : Filed) → HasBelow w b (Unit_of k) → HasBelow w c (Unit_of k) → w.unit_run k b ≡ w.unit_run k c
+  pub records_see : (l : Label) (b c : Filed) → HasBelow w b (Resolve l) → HasBelow w c (Resolve l) → w.record_of l b ≡ w.record_of l c
   -- the imports of a layer have one stage, and no unit of the layer has a lower one
   pub one_stage : (l : Layer) (p q : List ℕ) → w.stage (Import l p) ≡ w.stage (Import l q)
   pub asks_low : (k : Unit_key) (path : List ℕ) → w.stage (Import (layer_of k) path) ≤ w.stage (Unit_of k)
