@@ -17,6 +17,7 @@ use Rattle.gn_syntax.specs.Reading.{reading}
 use Rattle.gn_executions.specs.Faults.{whole_file_fault}
 use Rattle.gn_executions.specs.Units.{reading_runs, content_runs, own_place, tree_runs, import_begins, import_runs, import_execution, import_meaning, build_file_of, load_begins, load_runs, load_execution}
 use Rattle.gn_executions.specs.Base.{BaseState, setting_of}
+use Rattle.gn_executions.specs.Found.{found_load_runs, found_load_execution}
 use Rattle.gn_executions.specs.Setups.{path_below, in_file, other_content_runs, content_or_other, content_in, secondary_tree_runs, setup_begins, setup_runs, setup_execution}
 
 reading_tree : (bytes : List ℕ) (x : Result BlockTree SyntaxFault) → AreQuiet (reading_runs bytes x)
@@ -75,6 +76,12 @@ pub setup_execution_tree : (base : BaseState) (toolchain : List ℕ) → IsTree 
 unfolding setup_runs
 setup_execution_tree base toolchain =
     whole_tree _ (tree_do _ _ (secondary_tree_runs_tree base.secondary (setup_begins base toolchain) no_effects) (λ tree env1 out1. configuration_file_tree tree env1 out1))
+
+-- and so is that of a build file that is looked for as it is
+pub found_load_execution_tree : (base : BaseState) (directory toolchain : List ℕ) → IsTree (found_load_execution base directory toolchain)
+unfolding found_load_runs
+found_load_execution_tree base directory toolchain =
+    whole_tree _ (tree_do _ _ (secondary_tree_runs_tree base.secondary (load_begins base directory toolchain (build_file_of directory)) no_effects) (λ tree env1 out1. file_tree tree env1 out1))
 
 wrong_after : {A B : Type 0} (run : Run A) (next : A → Run B) (fault : Fault) → run.end ≡ wrong fault → (followed run next).end ≡ wrong fault
 wrong_after {A} {B} run next fault h = ap (λ (e : End A). (after {B = B} e run.asked next).end) h

@@ -3,6 +3,7 @@ pub mod Base
 pub mod Faults
 pub mod Units
 pub mod Setups
+pub mod Found
 pub mod Alone
 pub mod Dotfile
 pub mod Laws

@@ -1,0 +1,5 @@
+pub mod Layered
+pub mod Whole
+pub mod Links
+pub mod Faults
+pub mod Quiet
