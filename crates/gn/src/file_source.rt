@@ -2,18 +2,15 @@
 ghost use Rattle.std.specs.Prelude.{◌≢◌, None, []};
 ghost use Rattle.gn.specs.Ends.{IsWithin};
 
-use gn_outside::{ReadStop, Source};
+use gn_outside::{MAX_BYTES, ReadStop, Source};
 use std::alloc::Global;
 use std::fs;
 use std::io::{ErrorKind, Read};
 use std::os::unix::fs::FileTypeExt;
 use std::rt::Files;
 
-// The longest file that is read, in bytes.
-const SIZE_LIMIT: usize = 16_777_216;
-
 // So many reads of a file may give nothing new.
-const IDLE_LIMIT: u32 = 16_777_217;
+const IDLE_LIMIT: u32 = MAX_BYTES as u32 + 1;
 
 // More reads than a file of the longest size and idle reads up to their limit can take.
 const READ_LIMIT: u32 = 33_554_440;
@@ -51,7 +48,7 @@ impl<R: Files + Drop> Source for FileSource<R> {
         match read_named(&self.rt, alloc, file_name(path)) {
             FileEnd::Absent => Ok(None),
             FileEnd::Whole(bytes) => Ok(Some(bytes)),
-            FileEnd::TooBig => Err(ReadStop::TooBig(16_777_217)),
+            FileEnd::TooBig => Err(ReadStop::TooBig(MAX_BYTES as u64 + 1)),
             FileEnd::Memory => Err(ReadStop::Memory),
             FileEnd::Failed if self.faults == u64::MAX => Err(ReadStop::Memory),
             FileEnd::Failed => {
@@ -108,7 +105,7 @@ fn read_file<F: Read>(alloc: Global, file: &mut F) -> FileEnd
     for _ in 0..READ_LIMIT {
         match file.read(&mut chunk) {
             Ok(0) => return FileEnd::Whole(bytes),
-            Ok(count) if count > SIZE_LIMIT - bytes.len() => return FileEnd::TooBig,
+            Ok(count) if count > MAX_BYTES - bytes.len() => return FileEnd::TooBig,
             Ok(count) => {
                 if bytes.extend_from_slice(&chunk[..count]).is_err() {
                     return FileEnd::Memory;

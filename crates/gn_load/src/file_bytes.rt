@@ -1,6 +1,7 @@
 // The bytes of a file, and what they are read as.
 
 ghost use Rattle.std.specs.Prelude.{◌≡◌, ◌≤◌, IfOk, length};
+ghost use Rattle.gn_value_model.specs.Limits.{max_bytes};
 ghost use Rattle.gn_syntax.specs.Reading.{reading};
 ghost use Rattle.gn_load.specs.Parsing.{IsReadAs};
 
@@ -26,7 +27,7 @@ pub struct FileBytes {
     /// What they are read as.
     pub read_as: ReadAs,
 
-    ghost small: { length bytes ≤ 16777216 },
+    ghost small: { length bytes ≤ max_bytes },
     ghost read: { ∥ IsReadAs read_as (reading bytes) ∥₁ },
 }
 
@@ -46,7 +47,7 @@ fn parsed(alloc: Global, bytes: &[u8]) -> Result<ReadAs, AllocError>
 impl FileBytes {
     /// The bytes of a file, parsed.
     pub(crate) fn new(alloc: Global, bytes: Vec<u8>) -> Result<Arc<FileBytes>, AllocError>
-        requires { length bytes.items ≤ 16777216 }
+        requires { length bytes.items ≤ max_bytes }
         ensures { IfOk result (λ file. file.value.bytes ≡ bytes.items) }
     {
         let read_as = parsed(alloc, bytes.as_slice())?;

@@ -1,6 +1,7 @@
 // The work on the claim of a read.
 
 ghost use Rattle.std.specs.Prelude.{◌≡◌, ◌≤◌, Some, IfOk, length};
+ghost use Rattle.gn_value_model.specs.Limits.{max_bytes};
 ghost use Rattle.gn_executions.specs.Base.{BaseState};
 ghost use Rattle.gn_load.specs.declared.work.Performed.TheVariants.{Answered};
 ghost use Rattle.gn_load.specs.declared.answer.Filed.TheVariants.{Content as content_filed};
@@ -19,7 +20,7 @@ use std::alloc::Global;
 
 // The bytes of a file, parsed.
 fn content_of(alloc: Global, bytes: Vec<u8>) -> Result<FileContent, PerformStop>
-    requires { length bytes.items ≤ 16777216 }
+    requires { length bytes.items ≤ max_bytes }
     ensures { IsContent bytes.items result }
 {
     match FileBytes::new(alloc, bytes) {

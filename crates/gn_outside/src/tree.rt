@@ -10,7 +10,8 @@ use std::alloc::{AllocError, Global};
 use std::collections::BTreeMap;
 use std::marker::Model;
 
-const SIZE_LIMIT: usize = 16_777_216;
+/// How many bytes a file may have whose bytes are read: a longer one is too big.
+pub const MAX_BYTES: usize = 16_777_216;
 
 /// What a tree has at a path.
 #[derive(Clone, Copy, Debug, PartialEq, Eq)]
@@ -93,7 +94,7 @@ fn shown(found: Option<&Option<Vec<u8>>>) -> Option<TreeFile<'_>>
 {
     let bytes = found?;
     Some(match bytes {
-        Some(bytes) if bytes.len() <= SIZE_LIMIT => TreeFile::Bytes(bytes),
+        Some(bytes) if bytes.len() <= MAX_BYTES => TreeFile::Bytes(bytes),
         _ => TreeFile::TooBig,
     })
 }

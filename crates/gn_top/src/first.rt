@@ -1,6 +1,7 @@
 // The first stage of a build: the dotfile, and the build arguments.
 
 ghost use Rattle.std.specs.Prelude.{◌≡◌, ℕ, ◌≤◌, List, [], ◌∷◌, Result, IfOk, OnOk, length, Some, codes, is_some, option_map};
+ghost use Rattle.gn_value_model.specs.Limits.{max_bytes};
 ghost use Rattle.gn_values.specs.Tables.{at_name};
 ghost use Rattle.gn_values.specs.Val.{Val};
 ghost use Rattle.gn_faults.specs.declared.fault.Fault.{Fault as FaultRead};
@@ -236,7 +237,7 @@ fn arguments_of(
     file: &Text,
     bytes: &[u8],
 ) -> Result<ArgumentsEnd, AllocError>
-    requires { length bytes.now ≤ 16777216 }
+    requires { length bytes.now ≤ max_bytes }
     ensures { IfOk result (λ end. AreArgumentsEnd end (arguments_of_file (outer_view outer.now) directory.now file.now (has_bytes bytes.now))) }
 {
     let host = &outer.names;

@@ -5,8 +5,10 @@ ghost use Rattle.std.specs.List.{position_or_len};
 ghost use Rattle.gn_top.specs.Words.{is_equals, name_said, value_said, switch_named, is_digit, is_first_digit, threads_of, with_threads, with_arguments, with_switch};
 ghost use Rattle.gn_top.specs.Commands.{options_view};
 
+use gn_values::MAX_BYTES;
+
 // Build arguments can be written to a file with a newline behind them, and read again.
-const MAX_ARGUMENTS: usize = 16_777_215;
+const MAX_ARGUMENTS: usize = MAX_BYTES - 1;
 
 /// A switch, which has a value.
 #[derive(Clone, Copy, Debug, PartialEq, Eq)]
