@@ -1,6 +1,5 @@
 mod Places
 mod Thrice
-mod At
 mod WalkState
 mod Among
 mod Numbering

@@ -16,7 +16,7 @@ use Rattle.gn_dependencies.proofs.OrderLaws.{has_at, at_some}
 use Rattle.gn_dependencies.proofs.OrderLaws.{within as place_within}
 use Rattle.gn_chains.specs.Numbers.{among, is_label, has_some, list_of, list_at, lists_in, AreEdges}
 use Rattle.gn_chains.proofs.Among.{among-push, or_false, none_twice}
-use Rattle.gn_chains.proofs.At.{left_at, last_at, one_there}
+use Rattle.gn_dependencies.proofs.At.{left_at, last_at, one_there}
 
 -- no label has two places
 pub same_place : (ws : List Label) → IsDistinct same_label ws → (i j : ℕ) (x : Label) → slice_get ws i ≡ Some x → slice_get ws j ≡ Some x → i ≡ j

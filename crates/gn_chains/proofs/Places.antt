@@ -10,7 +10,7 @@ use Rattle.gn_dependencies.specs.Lists.{has}
 use Rattle.gn_dependencies.proofs.Same.{same}
 use Rattle.gn_dependencies.proofs.SameLabel.{tie}
 
-any_tie : (xs : List Label) (q : Label) → list_any (eq-value.it q) xs ≡ has xs q
+pub any_tie : (xs : List Label) (q : Label) → list_any (eq-value.it q) xs ≡ has xs q
 any_tie xs q = λ i. list_any (λ k. tie q k i) xs
 
 pub is_there : (xs : List Label) (q : Label) (b : Bool) → b ≡ list_any (eq-value.it q) xs → b ≡ true → xs ≡ (if has xs q then xs else xs ++ q ∷ [])

@@ -12,7 +12,7 @@ use Rattle.gn_dependencies.proofs.OrderLaws.{within as place_within}
 use Rattle.gn_chains.specs.Numbers.{among, NumbersEnd}
 use Rattle.gn_chains.specs.Counts.{open_count, count_at, is_zero, lessened}
 use Rattle.gn_chains.proofs.Among.{among_own, among-push, or_true, or_false}
-use Rattle.gn_chains.proofs.At.{was_at, last_at, one_there}
+use Rattle.gn_dependencies.proofs.At.{was_at, last_at, one_there}
 
 -- what the list has
 abbrev pub Listed : List ℕ → ℕ → Type 0

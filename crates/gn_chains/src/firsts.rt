@@ -9,9 +9,9 @@ use indexmap::IndexSet;
 use std::alloc::{AllocError, Global};
 use std::marker::Model;
 
-// Labels of which each stands once, at its first place.
+/// Labels of which each stands once, at its first place. Contracts see the list of them.
 #[derive(Drop)]
-pub(crate) struct Firsts {
+pub struct Firsts {
     alloc: Global,
     labels: IndexSet<Label>,
 }
@@ -34,8 +34,8 @@ impl Model for Firsts {
 }
 
 impl Firsts {
-    // No labels. It takes no memory.
-    pub(crate) fn new(alloc: Global) -> Firsts
+    /// No labels. It takes no memory.
+    pub fn new(alloc: Global) -> Firsts
         ensures { result ≡ [] }
     {
         Firsts {
@@ -44,8 +44,8 @@ impl Firsts {
         }
     }
 
-    // Puts a label behind the others, unless it is there.
-    pub(crate) fn add(&mut self, label: &Label) -> Result<(), AllocError>
+    /// Puts a label behind the others, unless it is there.
+    pub fn add(&mut self, label: &Label) -> Result<(), AllocError>
         ensures { OnOk result (self.new ≡ (if has self.old label.now then self.old else self.old ++ label.now ∷ [])) }
     {
         if self.labels.contains(label) {
@@ -56,8 +56,8 @@ impl Firsts {
         Ok(())
     }
 
-    // Puts those of the labels behind the others that aren't there.
-    pub(crate) fn add_all(&mut self, labels: &[Label]) -> Result<(), AllocError>
+    /// Puts those of the labels behind the others that aren't there.
+    pub fn add_all(&mut self, labels: &[Label]) -> Result<(), AllocError>
         ensures { OnOk result (self.new ≡ added self.old labels.now) }
     {
         for label in labels {
@@ -66,32 +66,39 @@ impl Firsts {
         Ok(())
     }
 
-    // The labels, in order.
-    pub(crate) fn as_slice(&self) -> &[Label]
+    /// Whether a label is there. It takes no memory.
+    pub fn has(&self, label: &Label) -> bool
+        ensures { result ≡ has self.now label.now }
+    {
+        self.labels.contains(label)
+    }
+
+    /// The labels, in order. It takes no memory.
+    pub fn as_slice(&self) -> &[Label]
         ensures labels { result.now ≡ self.now }
         ensures once { IsDistinct same_label self.now }
     {
         self.labels.as_slice()
     }
 
-    // How many labels there are.
-    pub(crate) fn len(&self) -> usize
+    /// How many labels there are. It takes no memory.
+    pub fn len(&self) -> usize
         ensures len { result ≡ length self.now }
         ensures once { IsDistinct same_label self.now }
     {
         self.labels.as_slice().len()
     }
 
-    // The label at a place.
-    pub(crate) fn at(&self, place: usize) -> &Label
+    /// The label at a place, from 0, at which there must be one. It takes no memory.
+    pub fn at(&self, place: usize) -> &Label
         requires { place < length self.now }
         ensures { slice_get self.now place ≡ Some result.now }
     {
         &self.labels.as_slice()[place]
     }
 
-    // The place of a label; None where it isn't there.
-    pub(crate) fn number(&self, label: &Label) -> Option<usize>
+    /// The place of a label; None where it isn't there. It takes no memory.
+    pub fn number(&self, label: &Label) -> Option<usize>
         ensures found { IfSome result (λ n. slice_get self.now n ≡ Some label.now) }
         ensures lacking { IfNone result (has self.now label.now ≡ false) }
         ensures once { IsDistinct same_label self.now }
@@ -99,8 +106,8 @@ impl Firsts {
         self.labels.get_index_of(label)
     }
 
-    // The labels, in order.
-    pub(crate) fn into_vec(self) -> Result<Vec<Label>, AllocError>
+    /// The labels, in order.
+    pub fn into_vec(self) -> Result<Vec<Label>, AllocError>
         ensures { IfOk result (λ labels. labels.items ≡ self) }
     {
         self.labels.into_iter().collect(self.alloc)

@@ -8,7 +8,7 @@ ghost use Rattle.gn_chains.specs.Numbers.{among};
 
 use crate::edges::edges;
 use crate::graph::Graph;
-use crate::kinds::{is_library, links};
+use crate::kinds::{Walk, is_library, links};
 use crate::order::order;
 use crate::walk::walked;
 use gn_labels::Label;
@@ -57,7 +57,7 @@ fn libraries<G: Graph>(alloc: Global, target: &Label, graph: &G) -> Result<Vec<L
     requires { AreRecorded (G.shape graph.now) (G.records graph.now) target.now }
     ensures { IfOk result (λ labels. AreLibraries (G.default graph.now) (G.shape graph.now) target.now labels.items) }
 {
-    let walked = walked(alloc, target, graph)?;
+    let walked = walked(alloc, Walk::Libraries, target, graph)?;
     let edges = edges(alloc, graph, &walked)?;
     let order = order(alloc, graph.default_toolchain(), walked.as_slice(), &edges)?;
     libraries_at(alloc, graph, walked.as_slice(), &order)

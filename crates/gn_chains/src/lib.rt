@@ -1,5 +1,5 @@
-//! What comes along dependencies: the configurations that apply to a target and those that it hands on, and the libraries
-//! that it inherits.
+//! What comes along dependencies: the configurations that apply to a target and those that it hands on, the libraries that it
+//! inherits, and what walks from it meet.
 #![tactic(auto)]
 
 mod candidates;
@@ -14,5 +14,8 @@ mod order;
 mod walk;
 
 pub use configurations::{applied, pushed, pushed_public};
+pub use firsts::Firsts;
 pub use graph::Graph;
 pub use inheriting::inherited;
+pub use kinds::Walk;
+pub use walk::walked;

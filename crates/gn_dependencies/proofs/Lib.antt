@@ -10,5 +10,6 @@ pub mod OneRecord
 pub mod OrderLaws
 pub mod Inheriting
 pub mod Drops
+pub mod At
 pub mod Joins
 pub mod SameLabel

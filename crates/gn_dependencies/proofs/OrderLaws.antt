@@ -47,7 +47,7 @@ module _ {A : Type 0} (same : A → A → Bool) (own : (a : A) → same a a ≡ 
   has_at (x ∷ xs) zero q e = let s : x ≡ q = cc e in ap (λ b. b || list_any (same q) xs) (ap (same q) s ∙ own q)
   has_at (x ∷ xs) (suc k) q e = ap (λ b. same q x || b) (has_at xs k q e) ∙ or_true (same q x)
 
-  take_in : (xs : List A) (k j : ℕ) (q : A) → j ≤ k → list_any (same q) (take j xs) ≡ true → list_any (same q) (take k xs) ≡ true
+  pub take_in : (xs : List A) (k j : ℕ) (q : A) → j ≤ k → list_any (same q) (take j xs) ≡ true → list_any (same q) (take k xs) ≡ true
   take_in [] zero j q l h = absurd (none j h)
     where
       none : (j : ℕ) → list_any (same q) (take j []) ≡ true → ⊥
