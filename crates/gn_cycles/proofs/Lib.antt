@@ -1,0 +1,6 @@
+mod Orders
+mod Walks
+mod Steps
+mod NewLabel
+mod Searching
+mod Bounds
