@@ -5,7 +5,7 @@ use Rattle.gn_labels.specs.declared.label.Label.{Label}
 use Rattle.gn_labels.specs.declared.pattern.Pattern.{Pattern}
 use Rattle.gn_labels.specs.contracts.label.LabelPartialEq.TheImpl.{eq-value}
 use Rattle.gn_rows.specs.declared.variable.Variable.{Variable}
-use Rattle.gn_rows.specs.declared.variable.Variable.TheVariants.{PublicDeps, Deps, DataDeps, Configs, AllDependentConfigs, PublicConfigs}
+use Rattle.gn_rows.specs.declared.variable.Variable.TheVariants.{PublicDeps, Deps, DataDeps, Configs, AllDependentConfigs, PublicConfigs, Pool}
 use Rattle.gn_dependencies.specs.Shape.{Shape}
 use Rattle.gn_dependencies.specs.Configurations.{Records, IsPushed, IsPushedPublic}
 use Rattle.gn_chains_tests.specs.declared.tree.Item.{Item}
@@ -25,6 +25,7 @@ list_at item DataDeps = item.data_deps.items
 list_at item Configs = item.configs.items
 list_at item AllDependentConfigs = item.all_dependent_configs.items
 list_at item PublicConfigs = item.public_configs.items
+list_at item Pool = item.pool.items
 list_at item _ = []
 
 abbrev pub list_of : Option Item → Variable → List Label
@@ -58,6 +59,13 @@ testonly_of (Some item) = item.testonly
 
 abbrev pub testonly_in : Tree → Label → Bool
 testonly_in t label = testonly_of (item_in t label)
+
+abbrev pub forbidden_of : Option Item → List Pattern
+forbidden_of None = []
+forbidden_of (Some item) = item.assert_no_deps.items
+
+abbrev pub forbidden_in : Tree → Label → List Pattern
+forbidden_in t label = forbidden_of (item_in t label)
 
 -- a record says what its target hands on
 abbrev pub IsRight : Shape → Label → Record → Type 0

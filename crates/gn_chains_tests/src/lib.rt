@@ -1,8 +1,11 @@
-//! Tests of what comes along dependencies and of the rules of a graph, over small graphs that texts describe and over large ones.
+//! Tests of what comes along dependencies, of cycles and of the rules of a graph, over small graphs that texts describe and over large ones.
 #![tactic(auto)]
 
 #[cfg(test)]
 mod chains;
+mod makers;
+#[cfg(test)]
+mod outputs;
 #[cfg(test)]
 mod reading;
 #[cfg(test)]
@@ -11,4 +14,5 @@ mod rules;
 mod sizes;
 mod tree;
 
+pub use makers::Makers;
 pub use tree::{Item, Record, Tree};

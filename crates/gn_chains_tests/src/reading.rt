@@ -1,5 +1,5 @@
 // Graphs that texts describe. `;` separates items, and ` ` the name of an item, its kind and its lists. A list stands as `deps=a,b`.
-// All items stand in the root directory under the default toolchain `//t:t`. Each stands behind those that it depends on.
+// All items stand in the root directory, under the default toolchain `//t:t`, or under `//t:u` where `(u)` stands behind the name.
 
 ghost use Rattle.std.specs.Prelude.{IfOk};
 ghost use Rattle.gn_chains_tests.specs.Trees.{HoldsRecords};
@@ -17,12 +17,21 @@ pub(crate) fn part(text: &str, mark: char, place: usize) -> &str {
     text.split(mark).nth(place).unwrap_or("")
 }
 
+// The toolchain of a name.
+fn toolchain_of(name: &str) -> &'static [u8] {
+    if part(name, '(', 1).is_empty() {
+        b"//t:t"
+    } else {
+        b"//t:u"
+    }
+}
+
 /// The label of a name.
 pub(crate) fn label(alloc: Global, name: &str) -> Result<Label, AllocError> {
     Ok(Label {
         dir: Path::root(alloc)?,
-        name: Text::from_bytes(alloc, name.as_bytes())?,
-        toolchain: Text::from_bytes(alloc, b"//t:t")?,
+        name: Text::from_bytes(alloc, part(name, '(', 0).as_bytes())?,
+        toolchain: Text::from_bytes(alloc, toolchain_of(name))?,
     })
 }
 
@@ -48,6 +57,7 @@ fn kind_named(name: &str) -> ItemKind {
         "source_set" => ItemKind::SourceSet,
         "static_library" => ItemKind::StaticLibrary,
         "action" => ItemKind::Action,
+        "pool" => ItemKind::Pool,
         _ => ItemKind::Group,
     }
 }
@@ -59,6 +69,7 @@ fn list_named<'a>(item: &'a mut Item, variable: &str) -> &'a mut Vec<Label> {
         "data_deps" => &mut item.data_deps,
         "all_dependent_configs" => &mut item.all_dependent_configs,
         "public_configs" => &mut item.public_configs,
+        "pool" => &mut item.pool,
         _ => &mut item.configs,
     }
 }
@@ -89,6 +100,7 @@ fn set(alloc: Global, item: &mut Item, variable: &str, names: &str) -> Result<()
     match variable {
         "testonly" => item.testonly = true,
         "visibility" => item.visibility = Some(patterns(alloc, names)?),
+        "assert_no_deps" => item.assert_no_deps = patterns(alloc, names)?,
         _ => push_all(alloc, list_named(item, variable), names)?,
     }
     Ok(())
@@ -149,7 +161,10 @@ pub(crate) fn resolved(alloc: Global, graph: &str) -> Result<Tree, Fail>
 fn is_named(label: &Label, name: Option<&str>) -> bool {
     match name {
         None => false,
-        Some(name) => label.name.as_bytes() == name.as_bytes(),
+        Some(name) => {
+            label.name.as_bytes() == part(name, '(', 0).as_bytes()
+                && label.toolchain.as_bytes() == toolchain_of(name)
+        }
     }
 }
 

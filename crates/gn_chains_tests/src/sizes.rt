@@ -5,6 +5,7 @@ ghost use Rattle.gn_chains_tests.specs.Trees.{HoldsRecords};
 
 use crate::reading::label;
 use crate::tree::{Item, Tree};
+use gn_cycles::shortest_cycle;
 use gn_labels::Label;
 use gn_paths::Text;
 use gn_rows::ItemKind;
@@ -135,6 +136,39 @@ fn goes_through(alloc: Global, last: usize, width: usize) -> Result<bool, AllocE
 fn large_graphs_are_resolved(rt: HostRuntime) -> Result<(), Fail> {
     for (last, width) in [(10_000, 1), (200, 20)] {
         assert!(rt; goes_through(rt.alloc(), last, width)?, "{last} {width}");
+    }
+    Ok(())
+}
+
+// The graph with a dependency of the first on the last.
+fn closed(alloc: Global, last: usize, width: usize) -> Result<Tree, AllocError> {
+    let mut first = Item::new(alloc, ItemKind::SourceSet);
+    push(alloc, &mut first.data_deps, last)?;
+    let label = numbered(alloc, 0)?;
+    let mut tree = tree(alloc, last, width)?;
+    match tree.items.insert(label, first) {
+        Ok(_) => Ok(tree),
+        Err(_) => Err(AllocError),
+    }
+}
+
+// Whether the shortest cycle on which the last lies has so many edges.
+fn goes_round(alloc: Global, last: usize, width: usize, edges: usize) -> Result<bool, AllocError> {
+    let target = numbered(alloc, last)?;
+    let tree = closed(alloc, last, width)?;
+    match shortest_cycle(alloc, &target, &tree)? {
+        None => Ok(false),
+        Some(labels) => Ok(labels.len() == edges),
+    }
+}
+
+#[test]
+fn long_cycles_are_found(rt: HostRuntime) -> Result<(), Fail> {
+    for (last, width, edges) in [(10_000, 1, 10_001), (200, 20, 11)] {
+        assert!(rt;
+            goes_round(rt.alloc(), last, width, edges)?,
+            "{last} {width}"
+        );
     }
     Ok(())
 }

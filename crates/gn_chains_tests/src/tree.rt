@@ -9,7 +9,7 @@ ghost use Rattle.gn_chains_tests.specs.declared.tree.Item.{Item as Thing};
 ghost use Rattle.gn_dependencies.specs.Shape.{all_deps};
 ghost use Rattle.gn_dependencies.specs.Configurations.{AreRecorded, IsApplied};
 ghost use Rattle.gn_dependencies.specs.Inherited.{IsInherited};
-ghost use Rattle.gn_chains_tests.specs.Trees.{item_in, record_in, list_at, shape_in, records_in, visibility_in, testonly_in, HoldsRecords, IsRight};
+ghost use Rattle.gn_chains_tests.specs.Trees.{item_in, record_in, list_at, shape_in, records_in, visibility_in, testonly_in, forbidden_in, HoldsRecords, IsRight};
 ghost use Rattle.gn_chains_tests.specs.Found.{listed};
 
 use gn_chains::{Graph, applied, inherited, pushed, pushed_public};
@@ -29,6 +29,10 @@ pub struct Item {
     pub testonly: bool,
     /// Its patterns of `visibility`, where it is set.
     pub visibility: Option<Vec<Pattern>>,
+    /// Its patterns of `assert_no_deps`.
+    pub assert_no_deps: Vec<Pattern>,
+    /// Its pool, if it has one.
+    pub pool: Vec<Label>,
     /// Its public dependencies.
     pub public_deps: Vec<Label>,
     /// Its private dependencies.
@@ -52,6 +56,8 @@ impl Item {
             kind,
             testonly: false,
             visibility: None,
+            assert_no_deps: Vec::new(alloc),
+            pool: Vec::new(alloc),
             public_deps: Vec::new(alloc),
             deps: Vec::new(alloc),
             data_deps: Vec::new(alloc),
@@ -72,6 +78,7 @@ impl Item {
             Variable::Configs => self.configs.as_slice(),
             Variable::AllDependentConfigs => self.all_dependent_configs.as_slice(),
             Variable::PublicConfigs => self.public_configs.as_slice(),
+            Variable::Pool => self.pool.as_slice(),
             _ => &[],
         }
     }
@@ -268,6 +275,8 @@ impl Marks for Tree {
 
     ghost testonly = { testonly_in };
 
+    ghost forbidden = { forbidden_in };
+
     fn visibility(&self, label: &Label) -> Option<&[Pattern]> {
         match self.item(label) {
             None => None,
@@ -282,6 +291,13 @@ impl Marks for Tree {
         match self.item(label) {
             None => false,
             Some(item) => item.testonly,
+        }
+    }
+
+    fn assert_no_deps(&self, label: &Label) -> &[Pattern] {
+        match self.item(label) {
+            None => &[],
+            Some(item) => item.assert_no_deps.as_slice(),
         }
     }
 }

@@ -1,1 +1,4 @@
 mod Filters
+mod Leasts
+mod Repeats
+mod Told

@@ -1,2 +1,4 @@
 pub mod Rules
 pub mod Naming
+pub mod Least
+pub mod Outputs

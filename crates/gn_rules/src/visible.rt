@@ -1,15 +1,13 @@
 // Whether an item is visible to a label.
 
 ghost use Rattle.std.specs.Prelude.{◌≡◌, option_map};
-ghost use Rattle.std.specs.List.{list_any};
-ghost use Rattle.gn_labels.specs.Patterns.{matches};
-ghost use Rattle.gn_rules.specs.Rules.{is_visible};
+ghost use Rattle.gn_rules.specs.Rules.{is_matched, is_visible};
 
 use gn_labels::{Label, Pattern};
 
 // Whether one of the patterns matches the label.
-fn is_matched(patterns: &[Pattern], label: &Label) -> bool
-    ensures { result ≡ list_any (λ pattern. matches pattern label.now) patterns.now }
+pub(crate) fn is_matched(patterns: &[Pattern], label: &Label) -> bool
+    ensures { result ≡ is_matched patterns.now label.now }
 {
     patterns.iter().any(|pattern| pattern.matches(label))
 }
