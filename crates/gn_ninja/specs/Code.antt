@@ -19,8 +19,8 @@ bytes_of (Of text) = text.now
 abbrev pub paths_of : Paths → List (List ℕ)
 paths_of (One path) = path.now ∷ []
 paths_of (All paths) = paths.now
-paths_of (Copied files) = flat_map copied_outs files.now.items
-paths_of (Runs runs) = flat_map run_outs runs.now.items
+paths_of (Copied files) = flat_map copied_outs files.now
+paths_of (Runs runs) = flat_map run_outs runs.now
 
 -- groups of paths, one behind the other
 abbrev pub grouped : List Paths → List (List ℕ)

@@ -4,7 +4,7 @@ ghost use Rattle.std.specs.Prelude.{◌≡◌};
 ghost use Rattle.gn_ninja.specs.Code.{bytes_of};
 
 use gn_paths::{Text, Texts};
-use gn_writing::{Copied, Run};
+use gn_writing::{CopiedFiles, Runs};
 
 /// Bytes that are the same in each file, or those of a text.
 #[derive(Clone, Copy)]
@@ -35,9 +35,9 @@ pub(crate) enum Paths<'a> {
     /// A list of paths.
     All(&'a Texts),
     /// What is copied.
-    Copied(&'a Vec<Copied>),
+    Copied(&'a CopiedFiles),
     /// What runs make.
-    Runs(&'a Vec<Run>),
+    Runs(&'a Runs),
 }
 
 /// A build line. Each part is groups of paths, one group behind the other.

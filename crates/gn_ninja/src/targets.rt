@@ -53,9 +53,9 @@ fn append_file(
 
 // Puts the build lines of all files of a copy at the end.
 fn append_files(alloc: Global, text: &mut Vec<u8>, copy: &CopyTarget) -> Result<(), AllocError>
-    ensures { OnOk result (text.new.items ≡ with_blocks text.old.items (map (copied_block copy.now) copy.now.files.items)) }
+    ensures { OnOk result (text.new.items ≡ with_blocks text.old.items (map (copied_block copy.now) copy.now.files)) }
 {
-    for file in &copy.files {
+    for file in copy.files.as_slice() {
         append_file(alloc, text, copy, file)?;
     }
     Ok(())
@@ -87,19 +87,19 @@ fn append_action_rule(alloc: Global, text: &mut Vec<u8>, action: &Action) -> Res
     append_rule(
         alloc,
         text,
-        &action.rule,
+        &action.rule.name,
         &[
             Binding {
                 name: b"command",
-                value: Value::Written(&action.command),
+                value: Value::Written(&action.rule.command),
             },
             Binding {
                 name: b"description",
-                value: Value::Written(&action.description),
+                value: Value::Written(&action.rule.description),
             },
             Binding {
                 name: b"pool",
-                value: Value::WrittenIf(&action.pool),
+                value: Value::WrittenIf(&action.rule.pool),
             },
             Binding {
                 name: b"restat",
@@ -123,7 +123,7 @@ fn append_run(
         text,
         Build {
             outs: &[Paths::All(&run.outs)],
-            rule: Bytes::Of(&action.rule),
+            rule: Bytes::Of(&action.rule.name),
             ins: &[Paths::All(&run.ins)],
             implicit: &[
                 Paths::One(&action.script),
@@ -159,9 +159,9 @@ fn append_run(
 
 // Puts the build lines of all runs at the end.
 fn append_runs(alloc: Global, text: &mut Vec<u8>, action: &Action) -> Result<(), AllocError>
-    ensures { OnOk result (text.new.items ≡ with_blocks text.old.items (map (run_block action.now) action.now.runs.items)) }
+    ensures { OnOk result (text.new.items ≡ with_blocks text.old.items (map (run_block action.now) action.now.runs)) }
 {
-    for run in &action.runs {
+    for run in action.runs.as_slice() {
         append_run(alloc, text, action, run)?;
     }
     Ok(())
@@ -169,7 +169,7 @@ fn append_runs(alloc: Global, text: &mut Vec<u8>, action: &Action) -> Result<(),
 
 // Puts the stamp line of an action at the end.
 fn append_action_stamp(alloc: Global, text: &mut Vec<u8>, action: &Action) -> Result<(), AllocError>
-    ensures { OnOk result (text.new.items ≡ with_block text.old.items (step_block action.now.stamp (flat_map run_outs action.now.runs.items) action.now.dones.data_deps)) }
+    ensures { OnOk result (text.new.items ≡ with_block text.old.items (step_block action.now.stamp (flat_map run_outs action.now.runs) action.now.dones.data_deps)) }
 {
     append_build(
         alloc,
@@ -208,79 +208,79 @@ fn append_compiled_bindings(
         &[
             Binding {
                 name: b"asmflags",
-                value: Value::Words(b"", &target.flags.asmflags),
+                value: Value::Words(b"", &target.compile.asmflags),
             },
             Binding {
                 name: b"cflags",
-                value: Value::Words(b"", &target.flags.cflags),
+                value: Value::Words(b"", &target.compile.cflags),
             },
             Binding {
                 name: b"cflags_c",
-                value: Value::Words(b"", &target.flags.cflags_c),
+                value: Value::Words(b"", &target.compile.cflags_c),
             },
             Binding {
                 name: b"cflags_cc",
-                value: Value::Words(b"", &target.flags.cflags_cc),
+                value: Value::Words(b"", &target.compile.cflags_cc),
             },
             Binding {
                 name: b"defines",
-                value: Value::Words(b"-D", &target.flags.defines),
+                value: Value::Words(b"-D", &target.compile.defines),
             },
             Binding {
                 name: b"include_dirs",
-                value: Value::Words(b"-I", &target.flags.include_dirs),
+                value: Value::Words(b"-I", &target.compile.include_dirs),
             },
             Binding {
                 name: b"label",
-                value: Value::Plain(Bytes::Of(&target.label)),
+                value: Value::Plain(Bytes::Of(&target.names.label)),
             },
             Binding {
                 name: b"label_name",
-                value: Value::Plain(Bytes::Of(&target.label_name)),
+                value: Value::Plain(Bytes::Of(&target.names.name)),
             },
             Binding {
                 name: b"label_no_toolchain",
-                value: Value::PlainIf(&target.label_no_toolchain),
+                value: Value::PlainIf(&target.names.no_toolchain),
             },
             Binding {
                 name: b"ldflags",
-                value: Value::Words(b"", &target.flags.ldflags),
+                value: Value::Words(b"", &target.link.ldflags),
             },
             Binding {
                 name: b"libs",
-                value: Value::Words(b"", &target.flags.libs),
+                value: Value::Words(b"", &target.link.libs),
             },
             Binding {
                 name: b"output_dir",
-                value: Value::Plain(Bytes::Of(&target.output_dir)),
+                value: Value::Plain(Bytes::Of(&target.output.directory)),
             },
             Binding {
                 name: b"output_extension",
-                value: Value::Plain(Bytes::Of(&target.output_extension)),
+                value: Value::Plain(Bytes::Of(&target.output.extension)),
             },
             Binding {
                 name: b"root_gen_dir",
-                value: Value::PlainIf(&target.root_gen_dir),
+                value: Value::PlainIf(&target.directories.root_gen_dir),
             },
             Binding {
                 name: b"root_out_dir",
-                value: Value::Plain(Bytes::Of(&target.root_out_dir)),
+                value: Value::Plain(Bytes::Of(&target.directories.root_out_dir)),
             },
             Binding {
                 name: b"solibs",
-                value: Value::Words(b"", &target.flags.solibs),
+                value: Value::Words(b"", &target.link.solibs),
             },
             Binding {
                 name: b"target_gen_dir",
-                value: Value::PlainIf(&target.target_gen_dir),
+                value: Value::PlainIf(&target.directories.target_gen_dir),
             },
             Binding {
                 name: b"target_out_dir",
-                value: Value::Plain(Bytes::Of(&target.target_out_dir)),
+                value: Value::Plain(Bytes::Of(&target.directories.target_out_dir)),
             },
             Binding {
                 name: b"target_output_name",
-                value: Value::Plain(Bytes::Of(&target.target_output_name)),
+                value: Value::Plain(Bytes::Of(&target.output.name)),
             },
         ],
     )
@@ -302,8 +302,8 @@ fn append_source(
             outs: &[Paths::All(&unit.outs)],
             rule: Bytes::Of(&unit.rule),
             ins: &[Paths::One(&unit.source)],
-            implicit: &[Paths::All(&target.inputs)],
-            order: &[Paths::All(&target.hard)],
+            implicit: &[Paths::All(&target.sources.inputs)],
+            order: &[Paths::All(&target.sources.hard)],
         },
         &[
             Binding {
@@ -320,9 +320,9 @@ fn append_source(
 
 // Puts the build lines of all sources at the end.
 fn append_sources(alloc: Global, text: &mut Vec<u8>, target: &Compiled) -> Result<(), AllocError>
-    ensures { OnOk result (text.new.items ≡ with_blocks text.old.items (map (source_block target.now) target.now.units.items)) }
+    ensures { OnOk result (text.new.items ≡ with_blocks text.old.items (map (source_block target.now) target.now.sources.units)) }
 {
-    for unit in &target.units {
+    for unit in target.sources.units.as_slice() {
         append_source(alloc, text, target, unit)?;
     }
     Ok(())
@@ -336,15 +336,15 @@ fn append_last(alloc: Global, text: &mut Vec<u8>, target: &Compiled) -> Result<(
         alloc,
         text,
         Build {
-            outs: &[Paths::All(&target.last.outs)],
-            rule: Bytes::Of(&target.last.rule),
+            outs: &[Paths::All(&target.join.step.outs)],
+            rule: Bytes::Of(&target.join.step.rule),
             ins: &[
-                Paths::All(&target.objects),
-                Paths::All(&target.set_objects),
-                Paths::All(&target.statics),
+                Paths::All(&target.sources.objects),
+                Paths::All(&target.join.set_objects),
+                Paths::All(&target.join.statics),
             ],
-            implicit: &[Paths::All(&target.shared)],
-            order: &[Paths::All(&target.rest)],
+            implicit: &[Paths::All(&target.join.shared)],
+            order: &[Paths::All(&target.join.rest)],
         },
         &[],
     )

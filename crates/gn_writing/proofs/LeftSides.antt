@@ -36,19 +36,19 @@ parts_and_step block outs each before xs step =
 pub made_by_group : (before : List (List ℕ)) (g : Group) → before ++ g.stamp.outs ≡ before ++ made (group_blocks g)
 made_by_group before g = ap (λ (z : List (List ℕ)). before ++ z) (sym (made_by_line (a_build (record { outs = g.stamp.outs; rule = g.stamp.rule; ins = g.dones.deps; implicit = []; order = g.dones.data_deps }))))
 
-pub made_by_copy : (before : List (List ℕ)) (c : CopyTarget) → (before ++ flat_map copied_outs c.files.items) ++ c.stamp.outs ≡ before ++ made (copy_blocks c)
+pub made_by_copy : (before : List (List ℕ)) (c : CopyTarget) → (before ++ flat_map copied_outs c.files) ++ c.stamp.outs ≡ before ++ made (copy_blocks c)
 made_by_copy before c =
-    parts_and_step (copied_block c) copied_outs (λ f. append-nil f.outs) before c.files.items
-    (a_build (record { outs = c.stamp.outs; rule = c.stamp.rule; ins = flat_map copied_outs c.files.items; implicit = []; order = c.dones.data_deps }))
+    parts_and_step (copied_block c) copied_outs (λ f. append-nil f.outs) before c.files
+    (a_build (record { outs = c.stamp.outs; rule = c.stamp.rule; ins = flat_map copied_outs c.files; implicit = []; order = c.dones.data_deps }))
 
-pub made_by_action : (before : List (List ℕ)) (a : Action) → (before ++ flat_map run_outs a.runs.items) ++ a.stamp.outs ≡ before ++ made (action_blocks a)
+pub made_by_action : (before : List (List ℕ)) (a : Action) → (before ++ flat_map run_outs a.runs) ++ a.stamp.outs ≡ before ++ made (action_blocks a)
 unfolding made
 made_by_action before a =
-    parts_and_step (run_block a) run_outs (λ r. append-nil r.outs) before a.runs.items
-    (a_build (record { outs = a.stamp.outs; rule = a.stamp.rule; ins = flat_map run_outs a.runs.items; implicit = []; order = a.dones.data_deps }))
+    parts_and_step (run_block a) run_outs (λ r. append-nil r.outs) before a.runs
+    (a_build (record { outs = a.stamp.outs; rule = a.stamp.rule; ins = flat_map run_outs a.runs; implicit = []; order = a.dones.data_deps }))
 
-pub made_by_compiled : (before : List (List ℕ)) (c : Compiled) → (before ++ flat_map source_outs c.units.items) ++ c.last.outs ≡ before ++ made (compiled_blocks c)
+pub made_by_compiled : (before : List (List ℕ)) (c : Compiled) → (before ++ flat_map source_outs c.sources.units) ++ c.join.step.outs ≡ before ++ made (compiled_blocks c)
 unfolding made compiled_blocks
 made_by_compiled before c =
-    parts_and_step (source_block c) source_outs (λ s. append-nil s.outs) before c.units.items
-    (a_build (record { outs = c.last.outs; rule = c.last.rule; ins = c.objects ++ c.set_objects ++ c.statics; implicit = c.shared; order = c.rest }))
+    parts_and_step (source_block c) source_outs (λ s. append-nil s.outs) before c.sources.units
+    (a_build (record { outs = c.join.step.outs; rule = c.join.step.rule; ins = c.sources.objects ++ c.join.set_objects ++ c.join.statics; implicit = c.join.shared; order = c.join.rest }))

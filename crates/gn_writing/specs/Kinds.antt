@@ -31,22 +31,22 @@ copied_outs f = f.outs
 
 -- a copy: its files, then `build STAMP: stamp OUTS || DATADONES`
 abbrev pub copy_blocks : CopyTarget → List (List Line)
-copy_blocks c = map (copied_block c) c.files.items ++ step_block c.stamp (flat_map copied_outs c.files.items) c.dones.data_deps ∷ []
+copy_blocks c = map (copied_block c) c.files ++ step_block c.stamp (flat_map copied_outs c.files) c.dones.data_deps ∷ []
 
 -- the rule of an action
 abbrev pub action_rule : Action → List Line
 action_rule a =
-    a_rule a.rule
-    ∷ an_indented (codes "command") (written a.command)
-    ∷ an_indented (codes "description") (written a.description)
-    ∷ an_indented (codes "pool") (written_if a.pool)
+    a_rule a.rule.name
+    ∷ an_indented (codes "command") (written a.rule.command)
+    ∷ an_indented (codes "description") (written a.rule.description)
+    ∷ an_indented (codes "pool") (written_if a.rule.pool)
     ∷ an_indented (codes "restat") (plain (codes "1"))
     ∷ []
 
 -- a run: `build OUTS: MANGLED SOURCE | SCRIPT INPUTS SOURCES || DONES`
 abbrev pub run_block : Action → Run → List Line
 run_block a r =
-    a_build (record { outs = r.outs; rule = a.rule; ins = r.ins; implicit = a.script ∷ a.inputs ++ r.sources; order = a.dones.deps })
+    a_build (record { outs = r.outs; rule = a.rule.name; ins = r.ins; implicit = a.script ∷ a.inputs ++ r.sources; order = a.dones.deps })
     ∷ an_indented (codes "args") (command_words [] r.args)
     ∷ an_indented (codes "depfile") (plain_if r.depfile)
     ∷ an_indented (codes "deps") (fixed_if (codes "gcc") r.depfile)
@@ -60,36 +60,36 @@ run_outs r = r.outs
 -- an action: its rule, its runs, then `build STAMP: stamp OUTS || DATADONES`
 abbrev pub action_blocks : Action → List (List Line)
 action_blocks a =
-    action_rule a ∷ map (run_block a) a.runs.items ++ step_block a.stamp (flat_map run_outs a.runs.items) a.dones.data_deps ∷ []
+    action_rule a ∷ map (run_block a) a.runs ++ step_block a.stamp (flat_map run_outs a.runs) a.dones.data_deps ∷ []
 
 -- the bindings of a compiled target, by their names
 abbrev pub compiled_bindings : Compiled → List Line
 compiled_bindings c =
-    a_binding (codes "asmflags") (command_words [] c.flags.asmflags)
-    ∷ a_binding (codes "cflags") (command_words [] c.flags.cflags)
-    ∷ a_binding (codes "cflags_c") (command_words [] c.flags.cflags_c)
-    ∷ a_binding (codes "cflags_cc") (command_words [] c.flags.cflags_cc)
-    ∷ a_binding (codes "defines") (command_words (codes "-D") c.flags.defines)
-    ∷ a_binding (codes "include_dirs") (command_words (codes "-I") c.flags.include_dirs)
-    ∷ a_binding (codes "label") (plain c.label)
-    ∷ a_binding (codes "label_name") (plain c.label_name)
-    ∷ a_binding (codes "label_no_toolchain") (plain_if c.label_no_toolchain)
-    ∷ a_binding (codes "ldflags") (command_words [] c.flags.ldflags)
-    ∷ a_binding (codes "libs") (command_words [] c.flags.libs)
-    ∷ a_binding (codes "output_dir") (plain c.output_dir)
-    ∷ a_binding (codes "output_extension") (plain c.output_extension)
-    ∷ a_binding (codes "root_gen_dir") (plain_if c.root_gen_dir)
-    ∷ a_binding (codes "root_out_dir") (plain c.root_out_dir)
-    ∷ a_binding (codes "solibs") (command_words [] c.flags.solibs)
-    ∷ a_binding (codes "target_gen_dir") (plain_if c.target_gen_dir)
-    ∷ a_binding (codes "target_out_dir") (plain c.target_out_dir)
-    ∷ a_binding (codes "target_output_name") (plain c.target_output_name)
+    a_binding (codes "asmflags") (command_words [] c.compile.asmflags)
+    ∷ a_binding (codes "cflags") (command_words [] c.compile.cflags)
+    ∷ a_binding (codes "cflags_c") (command_words [] c.compile.cflags_c)
+    ∷ a_binding (codes "cflags_cc") (command_words [] c.compile.cflags_cc)
+    ∷ a_binding (codes "defines") (command_words (codes "-D") c.compile.defines)
+    ∷ a_binding (codes "include_dirs") (command_words (codes "-I") c.compile.include_dirs)
+    ∷ a_binding (codes "label") (plain c.names.label)
+    ∷ a_binding (codes "label_name") (plain c.names.name)
+    ∷ a_binding (codes "label_no_toolchain") (plain_if c.names.no_toolchain)
+    ∷ a_binding (codes "ldflags") (command_words [] c.link.ldflags)
+    ∷ a_binding (codes "libs") (command_words [] c.link.libs)
+    ∷ a_binding (codes "output_dir") (plain c.output.directory)
+    ∷ a_binding (codes "output_extension") (plain c.output.extension)
+    ∷ a_binding (codes "root_gen_dir") (plain_if c.directories.root_gen_dir)
+    ∷ a_binding (codes "root_out_dir") (plain c.directories.root_out_dir)
+    ∷ a_binding (codes "solibs") (command_words [] c.link.solibs)
+    ∷ a_binding (codes "target_gen_dir") (plain_if c.directories.target_gen_dir)
+    ∷ a_binding (codes "target_out_dir") (plain c.directories.target_out_dir)
+    ∷ a_binding (codes "target_output_name") (plain c.output.name)
     ∷ []
 
 -- a source: `build OBJECTS: TOOL SOURCE | INPUTS || HARD`
 abbrev pub source_block : Compiled → Source → List Line
 source_block c s =
-    a_build (record { outs = s.outs; rule = s.rule; ins = s.source ∷ []; implicit = c.inputs; order = c.hard })
+    a_build (record { outs = s.outs; rule = s.rule; ins = s.source ∷ []; implicit = c.sources.inputs; order = c.sources.hard })
     ∷ an_indented (codes "source_file_part") (plain s.file_part)
     ∷ an_indented (codes "source_name_part") (plain s.name_part)
     ∷ []
@@ -100,11 +100,11 @@ source_outs s = s.outs
 -- the last line: `build OUTS: TOOL OBJECTS SETOBJECTS STATICS | SHARED || REST`
 abbrev pub last_block : Compiled → List Line
 last_block c =
-    a_build (record { outs = c.last.outs; rule = c.last.rule; ins = c.objects ++ c.set_objects ++ c.statics; implicit = c.shared; order = c.rest }) ∷ []
+    a_build (record { outs = c.join.step.outs; rule = c.join.step.rule; ins = c.sources.objects ++ c.join.set_objects ++ c.join.statics; implicit = c.join.shared; order = c.join.rest }) ∷ []
 
 -- a compiled target: its bindings, its sources, its last line
 unfoldable pub compiled_blocks : Compiled → List (List Line)
-compiled_blocks c = compiled_bindings c ∷ map (source_block c) c.units.items ++ last_block c ∷ []
+compiled_blocks c = compiled_bindings c ∷ map (source_block c) c.sources.units ++ last_block c ∷ []
 
 -- the file of a target
 abbrev pub target_blocks : Written → List (List Line)

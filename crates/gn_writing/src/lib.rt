@@ -7,6 +7,7 @@ mod lists;
 mod made;
 mod names;
 mod outputs;
+mod record_lists;
 mod records;
 mod sources;
 mod target_names;
@@ -18,9 +19,10 @@ pub use lists::{behind_switch, each_once};
 pub use made::made_by;
 pub use names::{action_rule_name, mangled, pool_name, rule_prefix, tool_rule};
 pub use outputs::{OutputNames, given_for, tool_outputs, uses};
+pub use record_lists::{CopiedFiles, Runs, Units};
 pub use records::{
-    Action, Compiled, CompiledFlags, Copied, CopyTarget, Dones, Group, Run, Step, Tool, Unit,
-    Written,
+    Action, ActionRule, CompileFlags, Compiled, Copied, CopyTarget, Directories, Dones, Group,
+    Join, LabelTexts, LinkFlags, OutputTexts, OwnSources, Run, Step, Tool, Unit, Written,
 };
 pub use sources::{SourceUse, all_seen, use_of};
 pub use target_names::{output_extension, output_name, target_file};

@@ -62,7 +62,7 @@ fn add_group<'a>(outs: &mut Vec<&'a Text>, group: &'a Group) -> Result<(), Alloc
 fn add_copy<'a>(outs: &mut Vec<&'a Text>, copy: &'a CopyTarget) -> Result<(), AllocError>
     ensures { OnOk result (map (λ t. t.now) outs.new.items ≡ map (λ t. t.now) outs.old.items ++ made (copy_blocks copy.now)) }
 {
-    add_copied(outs, &copy.files)?;
+    add_copied(outs, copy.files.as_slice())?;
     add_all(outs, &copy.stamp.outs)
 }
 
@@ -71,7 +71,7 @@ fn add_copy<'a>(outs: &mut Vec<&'a Text>, copy: &'a CopyTarget) -> Result<(), Al
 fn add_action<'a>(outs: &mut Vec<&'a Text>, action: &'a Action) -> Result<(), AllocError>
     ensures { OnOk result (map (λ t. t.now) outs.new.items ≡ map (λ t. t.now) outs.old.items ++ made (action_blocks action.now)) }
 {
-    add_runs(outs, &action.runs)?;
+    add_runs(outs, action.runs.as_slice())?;
     add_all(outs, &action.stamp.outs)
 }
 
@@ -80,8 +80,8 @@ fn add_action<'a>(outs: &mut Vec<&'a Text>, action: &'a Action) -> Result<(), Al
 fn add_compiled<'a>(outs: &mut Vec<&'a Text>, target: &'a Compiled) -> Result<(), AllocError>
     ensures { OnOk result (map (λ t. t.now) outs.new.items ≡ map (λ t. t.now) outs.old.items ++ made (compiled_blocks target.now)) }
 {
-    add_units(outs, &target.units)?;
-    add_all(outs, &target.last.outs)
+    add_units(outs, target.sources.units.as_slice())?;
+    add_all(outs, &target.join.step.outs)
 }
 
 // What a target makes, behind the others.

@@ -3,7 +3,7 @@
 ghost use Rattle.std.specs.Prelude.{◌≡◌, ◌++◌, IfOk, OnOk, map, option_map};
 ghost use Rattle.gn_substs.specs.Positions.{names_at};
 ghost use Rattle.gn_substs.specs.Sources.{shows_paths, shown};
-ghost use Rattle.gn_writing.specs.Outputs.{uses, shown_where, name_text, paths_meant, output_paths, tool_outputs};
+ghost use Rattle.gn_writing.specs.Outputs.{values_of, uses, shown_where, name_text, paths_meant, output_paths, tool_outputs};
 
 use gn_paths::{Path, Text, Texts, path_meant};
 use gn_substs::{Given, Position, Subst, Substitution};
@@ -85,7 +85,7 @@ fn name_text(
     given: &Given,
     substitution: Substitution,
 ) -> Result<Text, AllocError>
-    ensures { IfOk result (λ t. t ≡ name_text position names.now given.now substitution) }
+    ensures { IfOk result (λ t. t ≡ name_text position (values_of names.now) given.now substitution) }
 {
     match substitution {
         Substitution::TargetOutputName => names.output_name.copy(alloc),
@@ -108,7 +108,7 @@ pub fn given_for(
     names: &OutputNames<'_>,
     given: &Given,
 ) -> Result<Given, AllocError>
-    ensures { IfOk result (λ g. g ≡ (position, map (name_text position names.now given.now) (names_at position))) }
+    ensures { IfOk result (λ g. g ≡ (position, map (name_text position (values_of names.now) given.now) (names_at position))) }
 {
     let substitutions = position.names();
     let mut texts = Vec::with_capacity(alloc, substitutions.len())?;
@@ -136,7 +136,7 @@ fn push_output(
     given: &Given,
     text: &Subst,
 ) -> Result<(), AllocError>
-    ensures { OnOk result (paths.new ≡ paths.old ++ output_paths names.now given.now text.now) }
+    ensures { OnOk result (paths.new ≡ paths.old ++ output_paths (values_of names.now) given.now text.now) }
 {
     if names.output_dir.is_none() && uses(text, Substitution::OutputDir) {
         return Ok(());
@@ -153,7 +153,7 @@ pub fn tool_outputs(
     given: &Given,
     texts: &[Subst],
 ) -> Result<Texts, AllocError>
-    ensures { IfOk result (λ paths. paths ≡ tool_outputs names.now given.now texts.now) }
+    ensures { IfOk result (λ paths. paths ≡ tool_outputs (values_of names.now) given.now texts.now) }
 {
     let mut paths = Texts::new(alloc);
     for text in texts {

@@ -1,5 +1,6 @@
 // What is known of a target when its file is written. Paths are as seen from the build directory.
 
+use crate::record_lists::{CopiedFiles, Runs, Units};
 use gn_paths::{Text, Texts};
 
 /// A build line that a tool of the toolchain carries out.
@@ -44,7 +45,7 @@ pub struct CopyTarget {
     /// The rule of the tool that copies.
     pub rule: Text,
     /// The files that are made, in the order of the sources.
-    pub files: Vec<Copied>,
+    pub files: CopiedFiles,
     /// The stamp.
     pub stamp: Step,
     /// What it waits for.
@@ -70,23 +71,30 @@ pub struct Run {
     pub response: Option<Texts>,
 }
 
-/// An action, which runs its script once, or an action_foreach, which runs it once for each source.
+/// The rule of an action.
 #[derive(Drop)]
-pub struct Action {
-    /// The name of its rule.
-    pub rule: Text,
+pub struct ActionRule {
+    /// The name of the rule.
+    pub name: Text,
     /// The text of the command.
     pub command: Text,
     /// The text of the description.
     pub description: Text,
     /// The name of the pool, empty where none is set.
     pub pool: Text,
+}
+
+/// An action, which runs its script once, or an action_foreach, which runs it once for each source.
+#[derive(Drop)]
+pub struct Action {
+    /// The rule.
+    pub rule: ActionRule,
     /// The script.
     pub script: Text,
     /// The inputs.
     pub inputs: Texts,
     /// The runs.
-    pub runs: Vec<Run>,
+    pub runs: Runs,
     /// The stamp.
     pub stamp: Step,
     /// What it waits for.
@@ -108,9 +116,9 @@ pub struct Unit {
     pub outs: Texts,
 }
 
-/// The lists that a compiled target binds, each as words of a command.
+/// The lists that the compilers of a target bind, each as words of a command.
 #[derive(Drop)]
-pub struct CompiledFlags {
+pub struct CompileFlags {
     /// Flags of the assembler.
     pub asmflags: Texts,
     /// Flags of all compilers.
@@ -123,29 +131,44 @@ pub struct CompiledFlags {
     pub defines: Texts,
     /// The directories of headers, without their `-I`.
     pub include_dirs: Texts,
-    /// Flags of the linker, and the directories of libraries behind its switch; none where nothing is linked.
+}
+
+/// The lists that the linker of a target binds, each as words of a command; none where nothing is linked.
+#[derive(Drop)]
+pub struct LinkFlags {
+    /// Flags of the linker, and the directories of libraries behind its switch.
     pub ldflags: Texts,
-    /// The libraries, behind the switch of the linker or as paths; none where nothing is linked.
+    /// The libraries, behind the switch of the linker or as paths.
     pub libs: Texts,
     /// The shared libraries that are linked.
     pub solibs: Texts,
 }
 
-/// A target whose sources are compiled: a source_set, a static_library, or one of the linked kinds.
+/// How a compiled target is called.
 #[derive(Drop)]
-pub struct Compiled {
-    /// The lists.
-    pub flags: CompiledFlags,
+pub struct LabelTexts {
     /// The label.
     pub label: Text,
     /// The name in the label.
-    pub label_name: Text,
+    pub name: Text,
     /// The label without its toolchain, where a text of a tool has it.
-    pub label_no_toolchain: Option<Text>,
-    /// The directory of the output.
-    pub output_dir: Text,
-    /// The extension of the output, with its dot.
-    pub output_extension: Text,
+    pub no_toolchain: Option<Text>,
+}
+
+/// The output of a compiled target.
+#[derive(Drop)]
+pub struct OutputTexts {
+    /// Its directory.
+    pub directory: Text,
+    /// Its extension, with the dot.
+    pub extension: Text,
+    /// Its name.
+    pub name: Text,
+}
+
+/// The directories of a compiled target and of its toolchain.
+#[derive(Drop)]
+pub struct Directories {
     /// The root of the toolchain's generated files, where a text of a tool has it.
     pub root_gen_dir: Option<Text>,
     /// The root of the toolchain's outputs.
@@ -154,26 +177,53 @@ pub struct Compiled {
     pub target_gen_dir: Option<Text>,
     /// The obj directory of the target's directory.
     pub target_out_dir: Text,
-    /// The name of the output.
-    pub target_output_name: Text,
+}
+
+/// What a compiled target makes of its own sources.
+#[derive(Drop)]
+pub struct OwnSources {
     /// What each object is made of besides its source.
     pub inputs: Texts,
     /// The done files for which each object waits.
     pub hard: Texts,
     /// The sources that are built.
-    pub units: Vec<Unit>,
-    /// The tool that joins the objects: `stamp`, `alink`, or that of the linked kind.
-    pub last: Step,
+    pub units: Units,
     /// The objects, in the order of the sources.
     pub objects: Texts,
+}
+
+/// What joins the objects of a compiled target.
+#[derive(Drop)]
+pub struct Join {
+    /// The tool that joins them: `stamp`, `alink`, or that of the linked kind.
+    pub step: Step,
     /// The objects of inherited source sets.
     pub set_objects: Texts,
     /// The inherited static libraries.
     pub statics: Texts,
     /// The done files of inherited shared libraries.
     pub shared: Texts,
-    /// The done files that are made before the last line besides those in it.
+    /// The done files that are made before it besides those that it joins.
     pub rest: Texts,
+}
+
+/// A target whose sources are compiled: a source_set, a static_library, or one of the linked kinds.
+#[derive(Drop)]
+pub struct Compiled {
+    /// What its compilers bind.
+    pub compile: CompileFlags,
+    /// What its linker binds.
+    pub link: LinkFlags,
+    /// How it is called.
+    pub names: LabelTexts,
+    /// Its output.
+    pub output: OutputTexts,
+    /// Its directories.
+    pub directories: Directories,
+    /// Its sources.
+    pub sources: OwnSources,
+    /// Its last line.
+    pub join: Join,
 }
 
 /// A target, by what its file is made of.

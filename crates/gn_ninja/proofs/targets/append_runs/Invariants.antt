@@ -4,4 +4,4 @@ use Rattle.gn_ninja.specs.Format.{with_blocks}
 use Rattle.gn_ninja.proofs.targets.append_runs.Given as goal
 
 abbrev pub invariant-loop-run : goal.invariant-loop-run
-invariant-loop-run l = l.text.items ≡ with_blocks l.fn.text.items (map (run_block l.action) (take l.run-index l.action.runs.items))
+invariant-loop-run l = l.text.items ≡ with_blocks l.fn.text.items (map (run_block l.action) (take l.run-index l.action.runs))

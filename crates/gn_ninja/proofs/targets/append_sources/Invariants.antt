@@ -4,4 +4,4 @@ use Rattle.gn_ninja.specs.Format.{with_blocks}
 use Rattle.gn_ninja.proofs.targets.append_sources.Given as goal
 
 abbrev pub invariant-loop-unit : goal.invariant-loop-unit
-invariant-loop-unit l = l.text.items ≡ with_blocks l.fn.text.items (map (source_block l.target) (take l.unit-index l.target.units.items))
+invariant-loop-unit l = l.text.items ≡ with_blocks l.fn.text.items (map (source_block l.target) (take l.unit-index l.target.sources.units))
