@@ -1,0 +1,11 @@
+pub mod Steps
+pub mod Outputs
+pub mod Plain
+pub mod Actions
+pub mod Bound
+pub mod Flags
+pub mod Output
+pub mod Compiled
+pub mod Done
+pub mod Records
+pub mod Made

@@ -1,0 +1,252 @@
+// How the output of a compiled target is called.
+
+ghost use Rattle.std.specs.Prelude.{◌≡◌, IfOk, option_map, None};
+ghost use Rattle.gn_paths.specs.Resolve.{path_meant};
+ghost use Rattle.gn_substs.specs.declared.positions.Position.TheVariants.{ToolDefaultOutputDir};
+ghost use Rattle.gn_substs.specs.Expansions.{expanded};
+ghost use Rattle.gn_records.specs.Actions.{first_of};
+ghost use Rattle.gn_records.specs.Flags.{first_or};
+ghost use Rattle.gn_records.specs.Output.{own_tool, tool_where, prefix_of, name_of_output, extension_of_output, own_directories, values_with, tool_given, path_if, default_directory, substs_of_tool, directory_of_output, output_of, values_for};
+ghost use Rattle.gn_records.specs.Outputs.{for_none};
+ghost use Rattle.gn_writing.specs.Outputs.{values_of};
+
+use crate::context::Context;
+use crate::linking::text_of_tool;
+use crate::outputs::for_none;
+use gn_items::{Item, ItemKind, Tool};
+use gn_paths::{Path, Text, gen_directory, obj_directory, path_meant};
+use gn_rows::{ToolName, Variable};
+use gn_substs::{Position, Subst};
+use gn_writing::{OutputNames, given_for, output_extension, output_name};
+use std::alloc::{AllocError, Global};
+
+// How an output is called, and where it stands: None where the text that stands for its directory means no path.
+#[derive(Drop)]
+pub(crate) struct Output {
+    pub name: Text,
+    pub extension: Text,
+    pub directory: Option<Path>,
+    pub around: OwnDirectories,
+}
+
+// The obj and the gen directory of a target's directory.
+#[derive(Drop)]
+pub(crate) struct OwnDirectories {
+    pub objects: Path,
+    pub generated: Path,
+}
+
+// The tool of a kind that makes its output; the others have none.
+pub(crate) fn own_tool(kind: ItemKind) -> Option<ToolName>
+    ensures { result ≡ own_tool kind }
+{
+    match kind {
+        ItemKind::StaticLibrary => Some(ToolName::Alink),
+        ItemKind::Executable => Some(ToolName::Link),
+        ItemKind::SharedLibrary => Some(ToolName::Solink),
+        ItemKind::LoadableModule => Some(ToolName::SolinkModule),
+        _ => None,
+    }
+}
+
+// The tool of a kind, where the toolchain has it.
+pub(crate) fn tool_of_kind<'a>(context: &Context<'a>, kind: ItemKind) -> Option<&'a Tool>
+    ensures { option_map (λ t. t.now) result ≡ tool_where context.now (own_tool kind) }
+{
+    match own_tool(kind) {
+        Some(tool) => context.tools.get(tool),
+        None => None,
+    }
+}
+
+// The first text of a list, and else another.
+fn first_or<'a>(texts: &'a [Text], other: &'a Text) -> &'a Text
+    ensures { result.now ≡ first_or other.now texts.now }
+{
+    match texts {
+        [text, ..] => text,
+        [] => other,
+    }
+}
+
+// The prefix of the tool, unless the target overrides it.
+fn prefix_of<'a>(item: &Item, tool: Option<&'a Tool>) -> &'a [u8]
+    ensures { result.now ≡ prefix_of item.now (option_map (λ t. t.now) tool.entry) }
+{
+    match item.fields.boolean(Variable::OutputPrefixOverride) {
+        Some(true) => b"",
+        _ => text_of_tool(tool, Variable::OutputPrefix),
+    }
+}
+
+// The name of the output.
+fn name_of_output(alloc: Global, item: &Item, tool: Option<&Tool>) -> Result<Text, AllocError>
+    ensures { IfOk result (λ t. t ≡ name_of_output item.now (option_map (λ t. t.now) tool.entry)) }
+{
+    let name = first_or(item.fields.texts(Variable::OutputName), &item.label.name);
+    output_name(alloc, name, prefix_of(item, tool))
+}
+
+// The first text of a list, where there is one.
+fn first_of(texts: &[Text]) -> Option<&Text>
+    ensures { option_map (λ t. t.now) result ≡ first_of texts.now }
+{
+    match texts {
+        [text, ..] => Some(text),
+        [] => None,
+    }
+}
+
+// The extension of the output.
+fn extension_of_output(alloc: Global, item: &Item, tool: Option<&Tool>) -> Result<Text, AllocError>
+    ensures { IfOk result (λ t. t ≡ extension_of_output item.now (option_map (λ t. t.now) tool.entry)) }
+{
+    let default = text_of_tool(tool, Variable::DefaultOutputExtension);
+    let own = first_of(item.fields.texts(Variable::OutputExtension));
+    output_extension(alloc, own, default)
+}
+
+// The obj and the gen directory of the target's directory.
+fn own_directories(
+    alloc: Global,
+    context: &Context<'_>,
+    item: &Item,
+) -> Result<OwnDirectories, AllocError>
+    ensures { IfOk result (λ d. d ≡ own_directories context.now item.now) }
+{
+    let objects = obj_directory(alloc, context.out, &item.label.dir)?;
+    let generated = gen_directory(alloc, context.out, &item.label.dir)?;
+    Ok(OwnDirectories { objects, generated })
+}
+
+// The directory that a tool's text stands for, where it stands for one.
+fn meant_directory(
+    alloc: Global,
+    names: &OutputNames<'_>,
+    text: &Subst,
+) -> Result<Option<Path>, AllocError>
+    ensures { IfOk result (λ d. d ≡ path_if (path_meant names.now.build.now (expanded (tool_given ToolDefaultOutputDir (values_of names.now) for_none) text.now))) }
+{
+    let given = given_for(
+        alloc,
+        Position::ToolDefaultOutputDir,
+        names,
+        &for_none(alloc),
+    )?;
+    let expanded = text.expand(alloc, &given)?;
+    match path_meant(alloc, names.build, expanded.as_bytes())? {
+        Ok(path) => Ok(Some(path)),
+        Err(_) => Ok(None),
+    }
+}
+
+// The texts of a variable of a tool; none where there is no tool.
+pub(crate) fn substs_of_tool<'a>(tool: Option<&'a Tool>, variable: Variable) -> &'a [Subst]
+    ensures { result.now ≡ substs_of_tool variable (option_map (λ t. t.now) tool.entry) }
+{
+    match tool {
+        Some(tool) => tool.fields.substs(variable),
+        None => &[],
+    }
+}
+
+// What a target gives to the text for the default directory of a tool's outputs.
+fn names_before<'a>(
+    context: &Context<'a>,
+    item: &'a Item,
+    around: &'a OwnDirectories,
+    name: &'a Text,
+    extension: &'a Text,
+) -> OutputNames<'a>
+    ensures { values_of result ≡ values_with context.now item.now around.now name.now extension.now None }
+{
+    OutputNames {
+        build: context.build,
+        output_name: name,
+        output_extension: extension,
+        label_name: &item.label.name,
+        output_dir: None,
+        root_out_dir: context.out,
+        root_gen_dir: context.generated,
+        target_out_dir: &around.objects,
+        target_gen_dir: &around.generated,
+    }
+}
+
+// The directory that the first of a tool's texts stands for, and else the root of the toolchain's outputs.
+fn default_directory(
+    alloc: Global,
+    names: &OutputNames<'_>,
+    texts: &[Subst],
+) -> Result<Option<Path>, AllocError>
+    ensures { IfOk result (λ d. d ≡ default_directory (values_of names.now) texts.now) }
+{
+    match texts {
+        [text, ..] => meant_directory(alloc, names, text),
+        [] => Ok(Some(names.root_out_dir.copy(alloc)?)),
+    }
+}
+
+// The directory of the output.
+fn directory_of_output(
+    alloc: Global,
+    context: &Context<'_>,
+    item: &Item,
+    tool: Option<&Tool>,
+    around: &OwnDirectories,
+    name: &Text,
+    extension: &Text,
+) -> Result<Option<Path>, AllocError>
+    ensures { IfOk result (λ d. d ≡ directory_of_output context.now item.now (option_map (λ t. t.now) tool.entry) around.now name.now extension.now) }
+{
+    match item.fields.paths(Variable::OutputDir) {
+        [path, ..] => Ok(Some(path.copy(alloc)?)),
+        [] => default_directory(
+            alloc,
+            &names_before(context, item, around, name, extension),
+            substs_of_tool(tool, Variable::DefaultOutputDir),
+        ),
+    }
+}
+
+// The output of a target whose kind has this tool.
+pub(crate) fn output_of(
+    alloc: Global,
+    context: &Context<'_>,
+    item: &Item,
+    tool: Option<&Tool>,
+) -> Result<Output, AllocError>
+    ensures { IfOk result (λ o. o ≡ output_of context.now item.now (option_map (λ t. t.now) tool.entry)) }
+{
+    let around = own_directories(alloc, context, item)?;
+    let name = name_of_output(alloc, item, tool)?;
+    let extension = extension_of_output(alloc, item, tool)?;
+    let directory = directory_of_output(alloc, context, item, tool, &around, &name, &extension)?;
+    Ok(Output {
+        name,
+        extension,
+        directory,
+        around,
+    })
+}
+
+// What a target with this output gives to the texts of tools.
+pub(crate) fn names_for<'a>(
+    context: &Context<'a>,
+    item: &'a Item,
+    output: &'a Output,
+) -> OutputNames<'a>
+    ensures { values_of result ≡ values_for context.now item.now output.now }
+{
+    OutputNames {
+        build: context.build,
+        output_name: &output.name,
+        output_extension: &output.extension,
+        label_name: &item.label.name,
+        output_dir: output.directory.as_ref(),
+        root_out_dir: context.out,
+        root_gen_dir: context.generated,
+        target_out_dir: &output.around.objects,
+        target_gen_dir: &output.around.generated,
+    }
+}
