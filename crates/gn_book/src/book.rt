@@ -8,7 +8,7 @@ ghost use Rattle.gn_book.specs.Blocks.{LeadsBack, BlocksAs};
 ghost use Rattle.gn_book.specs.Keys.{key_of};
 ghost use Rattle.gn_book.specs.Logs.{Log, KeysDiffer, state_of, with_key, with_event, block_event, key_at, events_by, IsFree, cause_in, HasKeys, has_stopped, earlier, first_cause};
 ghost use Rattle.gn_book.specs.Next.{HasNoClaim, NextIs};
-ghost use Rattle.gn_book.specs.Graphs.{is_unit, IsNew, with_answer, UnitsHaveNumbers, HasMoreKeys, OnlyUnitsAreNew};
+ghost use Rattle.gn_book.specs.Graphs.{is_unit, IsNew, IsGraphOf, with_answer, UnitsHaveNumbers, HasMoreKeys, OnlyUnitsAreNew};
 ghost use Rattle.gn_closure.specs.Computed.{is_too_large};
 ghost use Rattle.gn_core.specs.Keys.{units};
 ghost use Rattle.gn_graph.specs.Needs.{home};
@@ -172,6 +172,20 @@ impl<A: Answer> Book<A> {
             graph,
             seen: 0,
         })
+    }
+
+    /// How many keys have numbers: the numbers are those below. It takes no memory.
+    pub fn len(&self) -> usize
+        ensures { result ≡ length self.now.keys }
+    {
+        self.roster.len()
+    }
+
+    /// What is reached and generated over what is filed: its answers are those of the units that are filed. It takes no memory.
+    pub fn graph(&self) -> &Graph
+        ensures { IsGraphOf result.now.replies (state_of self.now).filed }
+    {
+        &self.graph
     }
 
     /// The key of a number. It takes no memory.

@@ -116,6 +116,13 @@ impl<A: Answer> Roster<A> {
         }
     }
 
+    // How many keys have numbers.
+    pub(crate) fn len(&self) -> usize
+        ensures { result ≡ length self.now.keys }
+    {
+        self.keys.len()
+    }
+
     // The key of a number.
     pub(crate) fn key(&self, number: KeyId) -> &Key
         requires { number < length self.now.keys }

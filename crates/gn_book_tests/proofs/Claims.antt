@@ -1,9 +1,7 @@
 -- Claims, while keys get numbers and wait.
 use Rattle.std.proofs.Common.{◌≡◌, ℕ, zero, suc, ◌<◌, ◌+◌, List, [], ◌∷◌, ◌++◌, length, Option, Some, None, unwrap_or, slice_get, if◌then◌else◌, Bool, true, false, Result, Ok, Err, OnOk, IfOk, refl, sym, ◌∙◌, ap, subst, inl, inr, arith}
 use Rattle.std.specs.List.{list_any}
-use Rattle.std.proofs.lemmas.Bool.{cases_lt}
 use Rattle.std.proofs.lemmas.List.{length-append, append-nil}
-use Rattle.std.proofs.lemmas.Option.{slice_get_past}
 use Rattle.gn_paths.specs.declared.place.Place.{Place}
 use Rattle.gn_core.specs.Keys.{Key, Read, Answer, same_key}
 use Rattle.gn_core.specs.Machine.{State, Event, Claim as claimed, File, happens, replay}
@@ -26,10 +24,6 @@ get_more : {A : Type 0} (xs ys : List A) (n : ℕ) → n < length xs → slice_g
 get_more [] ys n l = absurd (omega (arith, l))
 get_more (x ∷ xs) ys zero l = refl
 get_more (x ∷ xs) ys (suc n) l = get_more xs ys n (omega (arith, l))
-
--- a place that has something is within the list
-pub got_within : {A : Type 0} (xs : List A) (n : ℕ) (x : A) → slice_get xs n ≡ Some x → n < length xs
-got_within xs n x e = elim (cases_lt n (length xs)) [ inl l ↦ l | inr l ↦ let none : slice_get xs n ≡ None = slice_get_past xs n l in absurd (cc (none, e)) ]
 
 -- more keys
 key_more : (old new : Log) → HasMoreKeys old new → (n : ℕ) → n < length old.keys → key_at new n ≡ key_at old n

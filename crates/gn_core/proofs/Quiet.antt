@@ -14,7 +14,7 @@ use Rattle.gn_closure.proofs.GroundRules.{holds_grows, holds_back}
 use Rattle.gn_closure.proofs.Least.{first_held}
 use Rattle.gn_core.specs.Keys.{Layer, Key, Read, Import, Unit_of, Resolve, Answer, found, import_is, no_value, unit_is, record_is, Filed, layer_of, key_of, shown, unit_in, units, same_key, put, Leaving}
 use Rattle.gn_core.specs.Worlds.{World, project, last_run, import_as, import_answer, all_meanings}
-use Rattle.gn_core.specs.Machine.{Blocked, State, Event, Claim, Block, File, Stop, happens, replay, NeedsAt, spoiled_as, ClosesCycle, IsRightImport, IsRight, IsLoaded, IsDone, Defines, HasTools, IsFiled, IsReachedKey, IsReady, asked_in, IsNeeded, by_unit, by_import, AllowedOver, Allowed, Runs, IsOverEvent, IsOver, IsQuiet, IsOpening}
+use Rattle.gn_core.specs.Machine.{Blocked, State, Event, Claim, Block, File, Stop, happens, replay, NeedsAt, spoiled_as, ClosesCycle, IsRightImport, IsRight, IsLoaded, IsDone, Defines, HasTools, IsFiled, IsReachedKey, IsReady, asked_in, IsNeeded, by_unit, by_import, AllowedOver, Allowed, Runs, IsOverEvent, IsOver, HasLoaded, IsQuiet, IsOpening}
 use Rattle.gn_core.specs.Layered.{IsPart, IsLayered}
 use Rattle.gn_core.specs.Statements.{Resolvable, resolvable, Wanted, ClaimedAreWanted, QuietIsWhole, QuietAgree}
 use Rattle.gn_core.proofs.Puts.{put_some, put_none, put_has, put_own}
@@ -289,22 +289,22 @@ module _ (w : World) (l : IsLayered w) (first s : State) (inv : Inv w (all_meani
   scope_event known (File seat k v) ok = scope_file seat k v ok.0 ok.1
   scope_event known (Stop seat c) ok = record { claimed = sc.claimed; filed = sc.filed; stays = sc.stays; blocked = sc.blocked; asked = sc.asked }
 
-  -- Over a quiet state
+  -- Where all is loaded
 
-  module _ (quiet : IsQuiet w s) where
+  module _ (loaded : HasLoaded w s) where
     pub known_filed : (k : Key) → IsKnown s k → IsFiled s.filed k
     known_filed k (inl h) = h
-    known_filed k (inr c) = let none : s.claims k ≡ None = quiet.1 k in let some : s.claims k ≡ Some c.0 = c.1 in absurd (cc)
+    known_filed k (inr c) = let none : s.claims k ≡ None = loaded.1 k in let some : s.claims k ≡ Some c.0 = c.1 in absurd (cc)
 
-    reached_filed : (k : Key) → IsReachedKey w s.filed k → IsFiled s.filed k
-    reached_filed k h = go (s.filed k) refl
+    unit_filed : (k : Unit_key) → Holds w.home (units s.filed) (Is_reached k) → IsFiled s.filed (Unit_of k)
+    unit_filed k h = go (s.filed (Unit_of k)) refl
       where
-        go : (x : Option Answer) → s.filed k ≡ x → IsFiled s.filed k
-        go None e = absurd (quiet.0 k (h, quiet.1 k, e, quiet.2))
+        go : (x : Option Answer) → s.filed (Unit_of k) ≡ x → IsFiled s.filed (Unit_of k)
+        go None e = absurd (loaded.0 k (h, loaded.1 (Unit_of k), e, loaded.2))
         go (Some v) e = (v, e)
 
     units_same : (k : Unit_key) → Holds w.home (units s.filed) (Is_reached k) → units s.filed k ≡ units (all_meanings w) k
-    units_same k h = let f = reached_filed (Unit_of k) h in ap unit_in (f.1 ∙ sym (above (Unit_of k) f.0 f.1))
+    units_same k h = let f = unit_filed k h in ap unit_in (f.1 ∙ sym (above (Unit_of k) f.0 f.1))
 
     pub back : (f : Fact) → Holds w.home (units (all_meanings w)) f → Holds w.home (units s.filed) f
     back f h = holds_back w.home (units s.filed) (units (all_meanings w)) units_same f h
@@ -325,28 +325,41 @@ module _ (w : World) (l : IsLayered w) (first s : State) (inv : Inv w (all_meani
     )
 
     pub reached_filed_unit : (u : Unit_key) → Holds w.home (units (all_meanings w)) (Is_reached u) → IsFiled s.filed (Unit_of u)
-    reached_filed_unit u h = reached_filed (Unit_of u) (back (Is_reached u) h)
+    reached_filed_unit u h = unit_filed u (back (Is_reached u) h)
 
     pub needed_filed : (k : Key) → IsNeeded w (all_meanings w) k → IsFiled s.filed k
     needed_filed k (by_unit u q h i) =
-        let f = reached_filed (Unit_of u) (back (Is_reached u) h) in
+        let f = unit_filed u (back (Is_reached u) h) in
         known_filed (key_of (layer_of u) q) (sc.asked (Unit_of u) (key_of (layer_of u) q) f (q, refl, subst (λ (z : Option Answer). IsAsked (asked_in z) q) (above (Unit_of u) f.0 f.1 ∙ sym f.1) i))
     needed_filed k (by_import m path q h i) =
         let f = needed_filed (Import m path) h in
         known_filed (key_of m q) (sc.asked (Import m path) (key_of m q) f (q, refl, subst (λ (z : Option Answer). IsAsked (asked_in z) q) (above (Import m path) f.0 f.1 ∙ sym f.1) i))
 
+  -- Over a quiet state
+
+  module _ (quiet : IsQuiet w s) where
+    loaded_there : HasLoaded w s
+    loaded_there = (λ u h. quiet.0 (Unit_of u) h, quiet.1, quiet.2)
+
+    reached_filed : (k : Key) → IsReachedKey w s.filed k → IsFiled s.filed k
+    reached_filed k h = go (s.filed k) refl
+      where
+        go : (x : Option Answer) → s.filed k ≡ x → IsFiled s.filed k
+        go None e = absurd (quiet.0 k (h, quiet.1 k, e, quiet.2))
+        go (Some v) e = (v, e)
+
     resolvable_filed : (m : Label) → Resolvable w (units (all_meanings w)) m → IsFiled s.filed (Resolve m)
     resolvable_filed m (resolvable m' g done defined ih) =
         reached_filed (Resolve m) (
-          back (Is_generated m) g,
-          ((λ t d n i. let x = done.0 t (defines_above m t d) n i in (x.0, done_below n x.0 x.1)), tools_below m done.1),
-          λ t d n i. let x = defined t (defines_above m t d) n i in ((x.0, (x.1.0, done_below n x.1.0 x.1.1, x.1.2, x.1.3)), resolvable_filed n (ih t (defines_above m t d) n i)),
+          back loaded_there (Is_generated m) g,
+          ((λ t d n i. let x = done.0 t (defines_above m t d) n i in (x.0, done_below loaded_there n x.0 x.1)), tools_below loaded_there m done.1),
+          λ t d n i. let x = defined t (defines_above m t d) n i in ((x.0, (x.1.0, done_below loaded_there n x.1.0 x.1.1, x.1.2, x.1.3)), resolvable_filed n (ih t (defines_above m t d) n i)),
         )
 
     pub wanted_filed : (k : Key) → Wanted w k → IsFiled s.filed k
-    wanted_filed (Read path) h = needed_filed (Read path) h
-    wanted_filed (Import m path) h = needed_filed (Import m path) h
-    wanted_filed (Unit_of k) h = reached_filed (Unit_of k) (back (Is_reached k) h)
+    wanted_filed (Read path) h = needed_filed loaded_there (Read path) h
+    wanted_filed (Import m path) h = needed_filed loaded_there (Import m path) h
+    wanted_filed (Unit_of k) h = reached_filed_unit loaded_there k h
     wanted_filed (Resolve m) h = resolvable_filed m h
 
 -- Whole runs

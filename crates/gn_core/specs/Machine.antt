@@ -224,6 +224,10 @@ abbrev pub IsOver : World → List Event → Type 0
 IsOver w [] = Unit {0}
 IsOver w (e ∷ es) = IsOverEvent w e × IsOver w es
 
+-- no unit is ready, nothing is claimed, nothing stopped: all is loaded, whether or not labels are resolved
+abbrev pub HasLoaded : World → State → Type 0
+HasLoaded w s = ((u : Unit_key) → IsReady w s (Unit_of u) → ⊥) × ((k : Key) → s.claims k ≡ None) × (s.stops ≡ [])
+
 -- nothing is ready, nothing is claimed, nothing stopped
 abbrev pub IsQuiet : World → State → Type 0
 IsQuiet w s = ((k : Key) → IsReady w s k → ⊥) × ((k : Key) → s.claims k ≡ None) × (s.stops ≡ [])

@@ -6,7 +6,7 @@ use Rattle.gn_closure.specs.Reach.{Target, Units, Is_reached, Is_generated, Hold
 use Rattle.gn_core.specs.Keys.{Key, Read, Import, Unit_of, Resolve, Answer, units, same_key}
 use Rattle.gn_core.specs.Worlds.{World, true_meaning, all_meanings}
 use Rattle.gn_core.specs.Layered.{IsLayered}
-use Rattle.gn_core.specs.Machine.{State, Event, Claim, Block, File, Stop, too_large, happens, replay, Defines, UnitsAreDone, IsFiled, IsNeeded, Exceeds, FiledExceeds, Runs, IsOver, IsQuiet, IsOpening}
+use Rattle.gn_core.specs.Machine.{State, Event, Claim, Block, File, Stop, too_large, happens, replay, Defines, UnitsAreDone, IsFiled, IsNeeded, Exceeds, FiledExceeds, Runs, IsOver, HasLoaded, IsQuiet, IsOpening}
 
 -- the labels that can be resolved: the least set
 pub data Resolvable (w : World) (a : Units) : Label → Type 0 where
@@ -78,8 +78,8 @@ abbrev pub QuietAgree : Type 0
 QuietAgree = (w : World) (known : List ℕ → Bool) (s : State) (es fs : List Event) → IsLoadingRun w known s es → IsLoadingRun w known s fs
     → IsQuiet w (replay s es) → IsQuiet w (replay s fs) → (k : Key) → (replay s es).filed k ≡ (replay s fs).filed k
 
--- that the build is too large is recorded only where it is, and a quiet state shows whether it is
+-- that the build is too large is recorded only where it is, and where all is loaded what is filed shows whether it is
 abbrev pub LimitsAgree : Type 0
 LimitsAgree = (w : World) (known : List ℕ → Bool) (s : State) (es : List Event) → IsLoadingRun w known s es
     → (In (replay s es).stops too_large → Exceeds w known (all_meanings w))
-    × (IsQuiet w (replay s es) → FiledExceeds w known (replay s es).filed ↔ Exceeds w known (all_meanings w))
+    × (HasLoaded w (replay s es) → FiledExceeds w known (replay s es).filed ↔ Exceeds w known (all_meanings w))
