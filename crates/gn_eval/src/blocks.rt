@@ -1,8 +1,10 @@
 // Whole blocks and files.
 
-ghost use Rattle.std.specs.Prelude.{◌≡◌, ◌≢◌, [], ◌∷◌, Err, option_map, codes};
-ghost use Rattle.gn_tree.specs.Depth.{IsShallow};
-ghost use Rattle.gn_meaning.specs.Meaning.{whole_block_runs, file_runs, import_file_runs, lacks_toolchain, configuration_ends, configuration_file_runs};
+ghost use Rattle.std.specs.Prelude.{◌≡◌, ◌≢◌, ◌≤◌, [], ◌∷◌, Err, option_map, codes};
+ghost use Rattle.gn_tree.specs.Depth.{IsShallow, max_tree_depth, statement_depth};
+ghost use Rattle.gn_tree.specs.Views.{statement_of};
+ghost use Rattle.gn_meaning.specs.Steps.{max_evaluation_depth};
+ghost use Rattle.gn_meaning.specs.Meaning.{world, statement_runs, whole_block_runs, file_runs, import_file_runs, lacks_toolchain, configuration_ends, configuration_file_runs};
 ghost use Rattle.gn_items.specs.Effects.{Effects};
 ghost use Rattle.gn_environment.specs.Environment.{reported_here};
 ghost use Rattle.gn_meaning.specs.Calls.{checked_end};
@@ -15,7 +17,7 @@ ghost use Rattle.gn_eval.specs.Ends.{Evaluates, EvaluatesSpent, IsSpentRun};
 use crate::ending::EvalEnd;
 use crate::level::Level;
 use crate::library::Library;
-use crate::statements::run_statements;
+use crate::statements::{run_statement, run_statements};
 use gn_calls_scopes::Definer;
 use gn_definitions::ImportValue;
 use gn_env::Env;
@@ -23,7 +25,7 @@ use gn_faults::Code;
 use gn_items::{DefaultToolchain, Outcome};
 use gn_paths::Text;
 use gn_steps::{StepEnd, no_effect, wrong_with};
-use gn_tree::{Block, Position};
+use gn_tree::{Block, Position, Statement};
 use std::alloc::Global;
 
 /// Runs the statements of a block in the innermost scope of the environment. What they define and print is added to
@@ -46,9 +48,25 @@ pub fn run_block<L: Library + Definer>(
     run_statements(alloc, Level::outermost(), block, env, out, library)
 }
 
-// The end of a file whose scope is checked: the name that nothing read and whose last assignment stands first is a fault
-// there.
-fn end_file(alloc: Global, env: &Env) -> Result<(), StepEnd>
+/// Runs one statement of the outermost block of a file in the innermost scope of the environment. Else it is as `run_block`, which
+/// runs the statements of its block in order.
+pub fn run_outermost<L: Library + Definer>(
+    alloc: Global,
+    statement: &Statement,
+    env: &mut Env,
+    out: &mut Outcome,
+    library: &mut L,
+) -> Result<(), EvalEnd>
+    requires shallow { statement_depth (statement_of statement.now) ≤ max_tree_depth }
+    ensures { Evaluates (λ u. u) (L.state library.old) (L.state library.new) result env.new out.new (λ a. statement_runs (world max_evaluation_depth a) 0
+        (statement_of statement.now) env.old out.old) }
+{
+    run_statement(alloc, Level::outermost(), statement, env, out, library)
+}
+
+/// The end of a file whose block has run and whose scope is checked: the name that nothing read and whose last assignment stands
+/// first is a fault there.
+pub fn end_file(alloc: Global, env: &Env) -> Result<(), StepEnd>
     ensures runs { (out : Effects) → IsStep (λ u. u) result env.now out (checked_end (reported_here env.now) tt env.now env.now out) }
 {
     match env.unread() {
@@ -115,9 +133,10 @@ fn no_toolchain(alloc: Global, env: &Env) -> StepEnd
     }
 }
 
-// The environment of a build configuration whose block has run, unless it lacks the name of the default toolchain.
+/// What a build configuration whose block has run leaves for the files beneath which it stands, unless it lacks the name of the
+/// default toolchain.
 #[tactic(auto, unfolding(gn_meaning::specs::Meaning::configuration_ends))]
-fn end_configuration(alloc: Global, env: Env, out: &Outcome) -> Result<ImportValue, EvalEnd>
+pub fn end_configuration(alloc: Global, env: Env, out: &Outcome) -> Result<ImportValue, EvalEnd>
     ensures runs { (need : Need) → IsSpentRun (λ v. v) need result out.now (configuration_ends env out.now) }
     ensures goes_on { result ≢ Err EvalEnd.Stopped }
 {

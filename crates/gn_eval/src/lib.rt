@@ -13,7 +13,10 @@ mod reading;
 mod special_calls;
 mod statements;
 
-pub use blocks::{run_block, run_configuration_file, run_file, run_import_file};
+pub use blocks::{
+    end_configuration, end_file, run_block, run_configuration_file, run_file, run_import_file,
+    run_outermost,
+};
 pub use ending::EvalEnd;
 pub use gn_calls_scopes::{DefineError, Definer};
 pub use library::{Found, Imported, LibStop, Library};

@@ -46,10 +46,10 @@ pub(crate) fn run_statements<L: Library + Definer>(
     Ok(())
 }
 
-// A statement.
+/// A statement.
 #[cycle(eval)]
 #[tactic(auto, unfolding(gn_meaning::specs::Meaning::statement_runs))]
-fn run_statement<L: Library + Definer>(
+pub(crate) fn run_statement<L: Library + Definer>(
     alloc: Global,
     level: Level,
     statement: &Statement,

@@ -1,5 +1,5 @@
--- What is done with the tree of a file is done behind its reading.
-use Rattle.std.proofs.Common.{◌≡◌, ℕ, List, Option, Some, Result, Ok, Err, IsErrAnd, refl, sym, ◌∙◌, ap, subst}
+-- How the tree of a file is read.
+use Rattle.std.proofs.Common.{◌≡◌, ℕ, List, Option, Some, Result, refl, sym, ◌∙◌, ap, subst}
 use Rattle.gn_tree.specs.Tree.{BlockTree}
 use Rattle.gn_faults.specs.declared.code.Code.{Code}
 use Rattle.gn_faults.specs.declared.code.Code.TheVariants as code
@@ -10,10 +10,9 @@ use Rattle.gn_items.specs.Effects.{Effects, with_asked}
 use Rattle.gn_items.specs.declared.key.When.{When}
 use Rattle.gn_runs.specs.Runs.{content_of, Content, Answers, Run}
 use Rattle.gn_environment.specs.Environment.{Setting, Environment, new_environment}
-use Rattle.gn_meaning.specs.Steps.{Left, ends, breaks, then_do, content_asked}
+use Rattle.gn_meaning.specs.Steps.{Left, breaks, content_asked}
 use Rattle.gn_eval.specs.Library.{Need, ContentAnswers}
-use Rattle.gn_eval.specs.Telling.{then_failed, covers_error}
-use Rattle.gn_eval.specs.Ends.{Covers, IsFailure, IsRun, IsSpentRun}
+use Rattle.gn_eval.specs.Ends.{IsRun}
 use Rattle.gn_eval.specs.declared.library.Found.{Found}
 use Rattle.gn_eval.specs.declared.library.Found.TheVariants.{Bytes, Absent, TooBig}
 use Rattle.gn_eval.specs.declared.ending.EvalEnd.{EvalEnd}
@@ -73,17 +72,3 @@ module _ (base : BaseState) (kind : FileKind) (path : List ℕ) (a : Answers) (e
   pub told_run : {T : Type 0} (view : T → BlockTree) (need : Need) (result : Result T EvalEnd) (found : Found) (after : Effects) → ContentAnswers path a found → after ≡ with_asked (content_of path) out → IsRun view need result env after (content_runs (content_view found) env after) → IsRun view need result env after (tree_runs a env out)
   told_run view need result found after h same done =
       subst (λ (r : Run (Left BlockTree)). IsRun view need result env after r) (sym (tree_told found h ∙ ap (λ (o : Effects). content_runs (content_view found) env o) (sym same))) done
-
-module _ {A : Type 0} (next : BlockTree → Environment → Effects → Run (Left A)) (need : Need) where
-  -- where the tree of a file has been read, its execution is what is done with the tree
-  pub then_goes : {T : Type 0} (view : T → A) (run : Run (Left BlockTree)) (tree block : BlockTree) (env : Environment) (before after : Effects) (result : Result T EvalEnd) → run ≡ ends tree env before → block ≡ tree → IsSpentRun view need result after (next block env before) → IsSpentRun view need result after (then_do run next)
-  then_goes view run tree block env before after result h same done =
-      subst (λ (r : Run (Left BlockTree)). IsSpentRun view need result after (then_do r next)) (sym h)
-      (subst (λ (b : BlockTree). IsSpentRun view need result after (next b env before)) same done)
-
-  -- where it hasn't, its execution fails as its reading does
-  pub then_fails : {T : Type 0} (U : Type 0) (view : T → A) (told : Option Answers) (run : Run (Left BlockTree)) (result : Result T EvalEnd) (e : EvalEnd) (a : Answers) (out : Effects) → IsErrAnd result (λ y. y ≡ e) → (Covers {T = U} told (Err e) a → IsFailure need e out run) → Covers told result a → IsSpentRun view need result out (then_do run next)
-  then_fails U view told run (Ok x) e a out is fails h = absurd is
-  then_fails {T = T} U view told run (Err y) e a out is fails h =
-      subst (λ (z : EvalEnd). IsFailure need z out (then_do run next)) (sym is)
-      (then_failed need e out run next (fails (covers_error T U told e a (subst (λ (z : EvalEnd). Covers {T = T} told (Err z) a) is h))))

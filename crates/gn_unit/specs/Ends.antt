@@ -1,5 +1,5 @@
 -- How what is answered for a whole file stands to its execution.
-use Rattle.std.specs.Prelude.{◌≡◌, ◌<◌, List, map, Some, Result, Ok, Err, IfOk, IfErr}
+use Rattle.std.specs.Prelude.{◌≡◌, ◌<◌, List, map, Option, Some, Result, Ok, Err, IfOk, IfErr}
 use Rattle.std.specs.declared.vec.Vec.{Vec}
 use Rattle.std.specs.declared.alloc.Global.{Global}
 use Rattle.gn_definitions.specs.Imported.{ImportState}
@@ -9,18 +9,25 @@ use Rattle.gn_items.specs.declared.key.Key.TheVariants.{Import as ImportKey, Set
 use Rattle.gn_items.specs.declared.question.Question.{Question as Asked}
 use Rattle.gn_items.specs.Questions.{question_of}
 use Rattle.gn_runs.specs.Runs.{Question, Answers, End, ended, wrong, spoiled, needs, Run}
-use Rattle.gn_environment.specs.Environment.{Environment}
-use Rattle.gn_meaning.specs.Steps.{Left}
+use Rattle.gn_environment.specs.Environment.{Environment, reported_here}
+use Rattle.gn_environment.specs.Imports.{import_left}
+use Rattle.gn_tree.specs.Depth.{IsShallow}
+use Rattle.gn_meaning.specs.Calls.{checked_end}
+use Rattle.gn_meaning.specs.Steps.{Left, Steps, ends, then_do}
+use Rattle.gn_meaning.specs.Meaning.{configuration_ends}
 use Rattle.gn_eval.specs.Library.{Need, LibraryState, Includes, GoesOn}
 use Rattle.gn_eval.specs.Ends.{asked_until}
 use Rattle.gn_eval.specs.declared.ending.EvalEnd.{EvalEnd}
 use Rattle.gn_eval.specs.declared.ending.EvalEnd.TheVariants as ending
-use Rattle.gn_executions.specs.Units.{import_execution, load_execution}
+use Rattle.gn_executions.specs.Units.{import_execution}
+use Rattle.gn_executions.specs.Found.{found_load_execution}
 use Rattle.gn_executions.specs.Setups.{setup_execution}
 use Rattle.gn_unit.specs.declared.unit.Unit.{Unit as Evaluated}
 use Rattle.gn_unit.specs.declared.unit.Unit.TheVariants.{Setup, Load, Import, Wrong, Spoiled}
 use Rattle.gn_unit.specs.declared.unit.EvalStop.{EvalStop}
-use Rattle.gn_unit.specs.declared.unit.EvalStop.TheVariants.{Stopped, Memory}
+use Rattle.gn_unit.specs.declared.unit.EvalStop.TheVariants.{Stopped, Paused, Memory}
+use Rattle.gn_outermost.specs.declared.paused.Paused.{Paused as PausedFile}
+use Rattle.gn_outermost.specs.Rests.{rest_runs}
 use Rattle.gn_executions.specs.Base.{BaseState}
 
 -- an execution has ended with this value and these effects, whatever its environment is then
@@ -63,7 +70,25 @@ IsNeeded need asked run = run ≡ record { end = needs need.question need.place;
 -- where the library has stopped, a fact of the questions asked before
 abbrev pub WhereStopped : EvalStop → (List Question → Type 0) → Type 0
 WhereStopped (Stopped asked) P = P (map question_of asked.items)
+WhereStopped (Paused p) P = P p.out.asked
 WhereStopped Memory P = Unit {0}
+
+-- where it has stopped in front of a statement, a fact of what is kept
+abbrev pub WherePaused : EvalStop → (PausedFile → Type 0) → Type 0
+WherePaused (Stopped asked) P = Unit {0}
+WherePaused (Paused p) P = P p
+WherePaused Memory P = Unit {0}
+
+-- what is done behind the outermost block of a build file, and behind that of a file that is imported
+abbrev pub load_ends : Steps (Unit {0})
+load_ends env out = checked_end (reported_here env) tt env env out
+
+abbrev pub import_ends : Steps ImportState
+import_ends env out = ends (import_left env) env out
+
+-- the rest of a file, from what is kept of it on
+abbrev pub rest_then : {A : Type 0} → Steps A → PausedFile → Answers → Run (Left A)
+rest_then next p a = then_do (rest_runs p a) (λ _ env out. next env out)
 
 -- the questions that were asked, as is answered for a key
 abbrev pub asked_of : Evaluated → List Question
@@ -73,12 +98,25 @@ asked_of (Import value effects) = effects.asked
 asked_of (Wrong fault asked) = map question_of asked.items
 asked_of (Spoiled path place asked) = map question_of asked.items
 
--- an execution over a library comes to this: what is answered is how it ends over all answers that include those told, and what it asked; where the library
--- has stopped, it needs just what was noted, and a stop was counted
-pub record Executes {A : Type 0} (Is : Evaluated → End (Left A) → Type 0) (before after : LibraryState) (result : Result Evaluated EvalStop) (run : Answers → Run (Left A)) : Type 0 where
+-- what is answered for the end of a file is how that ends, with all that was asked before; or memory was wanting
+abbrev pub IsEnd : {A : Type 0} → (Evaluated → End (Left A) → Type 0) → Result Evaluated EvalStop → Run (Left A) → Type 0
+IsEnd Is (Ok unit) run = Is unit run.end × (run.asked ≡ asked_of unit)
+IsEnd Is (Err (Stopped asked)) run = ⊥
+IsEnd Is (Err (Paused p)) run = ⊥
+IsEnd Is (Err Memory) run = Unit {0}
+
+-- what is kept of an execution, behind whose outermost block this is done, is its rest over all answers that include those told
+pub record Keeps {A : Type 0} (next : Steps A) (told : Option Answers) (run : Answers → Run (Left A)) (p : PausedFile) : Type 0 where
+  pub shallow : IsShallow p.tree
+  pub rest : (a : Answers) → Includes told a → run a ≡ rest_then next p a
+
+-- an execution over a library comes to this, behind whose outermost block this is done: what is answered is how it ends over all answers that include those
+-- told, and what it asked; where the library has stopped, it needs just what was noted, a stop was counted, and what is kept is the rest
+pub record Executes {A : Type 0} (Is : Evaluated → End (Left A) → Type 0) (next : Steps A) (before after : LibraryState) (result : Result Evaluated EvalStop) (run : Answers → Run (Left A)) : Type 0 where
   pub unit : IfOk result (λ unit. (a : Answers) → Includes after.told a → Is unit (run a).end)
   pub asked : IfOk result (λ unit. (a : Answers) → Includes after.told a → (run a).asked ≡ asked_of unit)
   pub need : IfErr result (λ stop. WhereStopped stop (λ asked. (a : Answers) → after.told ≡ Some a → IsNeeded after.need asked (run a)))
+  pub kept : IfErr result (λ stop. WherePaused stop (Keeps next after.told run))
   pub goes : GoesOn before after
   pub rose : IfErr result (λ stop. WhereStopped stop (λ asked. before.stops < after.stops))
 
@@ -93,19 +131,36 @@ ended_with ending.Memory asked = Err Memory
 abbrev pub IsUnitOf : BaseState → Key → Evaluated → Answers → Type 0
 IsUnitOf base (ImportKey when toolchain path) unit answers = IsImportOf unit (import_execution base when toolchain path answers).end
 IsUnitOf base (SetupKey toolchain) unit answers = IsSetupOf unit (setup_execution base toolchain answers).end
-IsUnitOf base (LoadKey directory toolchain) unit answers = IsLoadOf unit (load_execution base directory toolchain answers).end
+IsUnitOf base (LoadKey directory toolchain) unit answers = IsLoadOf unit (found_load_execution base directory toolchain answers).end
 IsUnitOf base _ unit answers = ⊥
 
 -- over these answers what a key names needs what was noted
 abbrev pub IsNeedOf : BaseState → Key → Need → List Question → Answers → Type 0
 IsNeedOf base (ImportKey when toolchain path) need asked answers = IsNeeded need asked (import_execution base when toolchain path answers)
 IsNeedOf base (SetupKey toolchain) need asked answers = IsNeeded need asked (setup_execution base toolchain answers)
-IsNeedOf base (LoadKey directory toolchain) need asked answers = IsNeeded need asked (load_execution base directory toolchain answers)
+IsNeedOf base (LoadKey directory toolchain) need asked answers = IsNeeded need asked (found_load_execution base directory toolchain answers)
 IsNeedOf base _ need asked answers = ⊥
 
 -- they are those of its execution over these answers, in order
 abbrev pub HasAskedOf : BaseState → Key → Evaluated → Answers → Type 0
 HasAskedOf base (ImportKey when toolchain path) unit answers = (import_execution base when toolchain path answers).asked ≡ asked_of unit
 HasAskedOf base (SetupKey toolchain) unit answers = (setup_execution base toolchain answers).asked ≡ asked_of unit
-HasAskedOf base (LoadKey directory toolchain) unit answers = (load_execution base directory toolchain answers).asked ≡ asked_of unit
+HasAskedOf base (LoadKey directory toolchain) unit answers = (found_load_execution base directory toolchain answers).asked ≡ asked_of unit
 HasAskedOf base _ unit answers = ⊥
+
+-- what is kept of the execution of what a key names is its rest over these answers
+abbrev pub IsRestOf : BaseState → Key → PausedFile → Answers → Type 0
+IsRestOf base (ImportKey when toolchain path) p answers = import_execution base when toolchain path answers ≡ rest_then import_ends p answers
+IsRestOf base (SetupKey toolchain) p answers = setup_execution base toolchain answers ≡ rest_then configuration_ends p answers
+IsRestOf base (LoadKey directory toolchain) p answers = found_load_execution base directory toolchain answers ≡ rest_then load_ends p answers
+IsRestOf base _ p answers = ⊥
+
+-- it is that over all answers that include those told
+pub record IsKept (base : BaseState) (key : Key) (told : Option Answers) (p : PausedFile) : Type 0 where
+  pub shallow : IsShallow p.tree
+  pub rest : (a : Answers) → Includes told a → IsRestOf base key p a
+
+-- what is kept later is the rest too, over all answers that include those told over which what was kept before is
+pub record KeepsOn (key : Key) (told : Option Answers) (p later : PausedFile) : Type 0 where
+  pub shallow : IsShallow later.tree
+  pub rest : (base : BaseState) (a : Answers) → Includes told a → IsRestOf base key p a → IsRestOf base key later a

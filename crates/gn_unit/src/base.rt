@@ -3,8 +3,9 @@
 ghost use Rattle.std.specs.Prelude.{◌≡◌, [], ◌∷◌, IfOk, map, option_map};
 ghost use Rattle.gn_values.specs.Tables.{with_new_names};
 ghost use Rattle.gn_executions.specs.Base.{plain_base, setup_base, finished_base, beneath_in};
+ghost use Rattle.gn_unit.specs.BuiltIn.{host_of, IsUnder};
 
-use crate::built_in::built_in_scope;
+use crate::built_in::BuiltIn;
 use gn_definitions::{ImportValue, KeptScope, MadeBy};
 use gn_environment::Context;
 use gn_executions::HostNames;
@@ -17,13 +18,13 @@ use std::sync::Arc;
 
 /// What an evaluation sees besides what it asks of its library: what never changes in the evaluations under its toolchain,
 /// and what stands beneath them, as what the finished build configuration has left and the built-in variables. Evaluations share
-/// all of it but these variables, which depend on the directory of the file.
+/// all of it but these variables, of which two depend on the directory of the file: the others are made once, and copied.
 #[derive(Drop)]
 pub struct Base {
     context: Arc<Context>,
     beneath: Vec<Arc<KeptScope>>,
-    definitions: MadeBy,
-    host: Option<HostNames>,
+    definitions: Arc<MadeBy>,
+    built_in: Option<BuiltIn>,
     configuration: Path,
     secondary: Option<Path>,
 }
@@ -31,12 +32,15 @@ pub struct Base {
 impl Model for Base {
     ghost use Rattle.std.specs.Prelude.{map};
     ghost use Rattle.gn_executions.specs.Base.{BaseState, base_code};
+    ghost use Rattle.gn_unit.specs.BuiltIn.{host_of, IsUnder};
 
     ghost Value = { BaseState };
 
     ghost coded = { base_code };
 
-    ghost view = { λ a. record { context = a.context.value; beneath = map (λ f. f.value) a.beneath.items; definitions = a.definitions; host = a.host; configuration = a.configuration; secondary = a.secondary } };
+    ghost view = { λ a. record { context = a.context.value; beneath = map (λ f. f.value) a.beneath.items; definitions = a.definitions.value; host = host_of a.built_in; configuration = a.configuration; secondary = a.secondary } };
+
+    ghost invariant = { λ a. IsUnder a.context.value a.built_in };
 }
 
 // A new path equal to another one, if there is one.
@@ -49,19 +53,22 @@ fn copy_path(alloc: Global, path: &Option<Path>) -> Result<Option<Path>, AllocEr
     }
 }
 
-// The same of the names of a host.
-fn copy_host(alloc: Global, host: &Option<HostNames>) -> Result<Option<HostNames>, AllocError>
-    ensures { IfOk result (λ h. h ≡ host.now) }
+// What the built-in variables have in common under the toolchain of another context, on the same host.
+fn built_in_under(
+    alloc: Global,
+    built_in: &Option<BuiltIn>,
+    context: &Context,
+) -> Result<Option<BuiltIn>, AllocError>
+    ensures under { IfOk result (λ b. IsUnder context.now b) }
+    ensures host { IfOk result (λ b. host_of b ≡ host_of built_in.now) }
 {
-    let Some(host) = host else {
-        return Ok(None);
-    };
-    let os = host.os.copy(alloc)?;
-    let cpu = host.cpu.copy(alloc)?;
-    Ok(Some(HostNames { os, cpu }))
+    match built_in {
+        Some(built_in) => Ok(Some(built_in.under(alloc, context)?)),
+        None => Ok(None),
+    }
 }
 
-// The same definitions of templates.
+// The same definitions of templates, in a table of their own.
 fn share_definitions(alloc: Global, made: &MadeBy) -> Result<MadeBy, AllocError>
     ensures { IfOk result (λ d. d ≡ with_new_names made.now []) }
 {
@@ -86,11 +93,11 @@ pub(crate) fn one_scope(
 fn share_left(
     alloc: Global,
     left: &ImportValue,
-) -> Result<(Vec<Arc<KeptScope>>, MadeBy), AllocError>
-    ensures { IfOk result (λ r. (map (λ f. f.value) r.0.items ≡ left.now.scope ∷ []) × (r.1 ≡ with_new_names left.now.definitions [])) }
+) -> Result<(Vec<Arc<KeptScope>>, Arc<MadeBy>), AllocError>
+    ensures { IfOk result (λ r. (map (λ f. f.value) r.0.items ≡ left.now.scope ∷ []) × (r.1.value ≡ with_new_names left.now.definitions [])) }
 {
+    let definitions = Arc::new(alloc, share_definitions(alloc, left.definitions())?)?;
     let beneath = one_scope(alloc, left.shared_scope()?)?;
-    let definitions = share_definitions(alloc, left.definitions())?;
     Ok((beneath, definitions))
 }
 
@@ -104,30 +111,37 @@ impl Base {
         host: HostNames,
         configuration: Path,
         secondary: Option<Path>,
-    ) -> Base
-        ensures { result ≡ setup_base context.value host configuration secondary }
+    ) -> Result<Base, AllocError>
+        ensures { IfOk result (λ base. base ≡ setup_base context.value host configuration secondary) }
     {
-        Base {
+        let built_in = Some(BuiltIn::new(alloc, host, &context)?);
+        let definitions = Arc::new(alloc, MadeBy::new(alloc))?;
+        Ok(Base {
             context,
             beneath: Vec::new(alloc),
-            definitions: MadeBy::new(alloc),
-            host: Some(host),
+            definitions,
+            built_in,
             configuration,
             secondary,
-        }
+        })
     }
 
-    // The names of the host, the path of the build configuration and the secondary source tree.
+    // What doesn't change where the toolchain does: the host, by what the built-in variables have in common under the toolchain of
+    // another context, the path of the build configuration and the secondary source tree.
     fn copy_names(
         &self,
         alloc: Global,
-    ) -> Result<(Option<HostNames>, Path, Option<Path>), AllocError>
-        ensures { IfOk result (λ n. n ≡ (self.now.host, self.now.configuration, self.now.secondary)) }
+        context: &Context,
+    ) -> Result<(Option<BuiltIn>, Path, Option<Path>), AllocError>
+        ensures under { IfOk result (λ n. IsUnder context.now n.0) }
+        ensures host { IfOk result (λ n. host_of n.0 ≡ self.now.host) }
+        ensures configuration { IfOk result (λ n. n.1 ≡ self.now.configuration) }
+        ensures secondary { IfOk result (λ n. n.2 ≡ self.now.secondary) }
     {
-        let host = copy_host(alloc, &self.host)?;
         let configuration = self.configuration.copy(alloc)?;
         let secondary = copy_path(alloc, &self.secondary)?;
-        Ok((host, configuration, secondary))
+        let built_in = built_in_under(alloc, &self.built_in, context)?;
+        Ok((built_in, configuration, secondary))
     }
 
     /// The base of the other files under a toolchain whose build configuration has left this: it stands beneath them, and they
@@ -141,12 +155,29 @@ impl Base {
         ensures { IfOk result (λ base. base ≡ finished_base self.now context.value left.now) }
     {
         let (beneath, definitions) = share_left(alloc, left)?;
-        let (host, configuration, secondary) = self.copy_names(alloc)?;
+        let (built_in, configuration, secondary) = self.copy_names(alloc, &context)?;
         Ok(Base {
             context,
             beneath,
             definitions,
-            host,
+            built_in,
+            configuration,
+            secondary,
+        })
+    }
+
+    /// The base with another context, which shares all else with this one: that of the build configuration of another toolchain.
+    pub fn with_context(&self, alloc: Global, context: Arc<Context>) -> Result<Base, AllocError>
+        ensures { IfOk result (λ base. base ≡ record self.now { context = context.value }) }
+    {
+        let definitions = self.definitions.clone()?;
+        let beneath = shared(alloc, &self.beneath)?;
+        let (built_in, configuration, secondary) = self.copy_names(alloc, &context)?;
+        Ok(Base {
+            context,
+            beneath,
+            definitions,
+            built_in,
             configuration,
             secondary,
         })
@@ -170,8 +201,8 @@ impl Base {
         Ok(Base {
             context: Arc::new(alloc, context)?,
             beneath: Vec::new(alloc),
-            definitions: MadeBy::new(alloc),
-            host: None,
+            definitions: Arc::new(alloc, MadeBy::new(alloc))?,
+            built_in: None,
             configuration: Path::root(alloc)?,
             secondary: None,
         })
@@ -182,6 +213,13 @@ impl Base {
         ensures { result.now ≡ self.now.context }
     {
         &self.context
+    }
+
+    /// The same, shared.
+    pub fn share_context(&self) -> Result<Arc<Context>, AllocError>
+        ensures { IfOk result (λ context. context.value ≡ self.now.context) }
+    {
+        Ok(self.context.clone()?)
     }
 
     /// The path of the build configuration.
@@ -208,8 +246,8 @@ impl Base {
         ensures { IfOk result (λ b. map (λ f. f.value) b.items ≡ beneath_in self.now directory.now) }
     {
         let mut beneath = shared(alloc, &self.beneath)?;
-        if let Some(host) = &self.host {
-            beneath.push(built_in_scope(alloc, host, &self.context, directory)?)?;
+        if let Some(built_in) = &self.built_in {
+            beneath.push(built_in.scope_in(alloc, directory)?)?;
         }
         Ok(beneath)
     }

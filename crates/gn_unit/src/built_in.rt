@@ -2,11 +2,12 @@
 
 ghost use Rattle.std.specs.Prelude.{◌≡◌, [], ◌∷◌, ◌++◌, IfOk, OnOk, codes, map};
 ghost use Rattle.gn_paths.specs.Directory.{gen_directory_of};
-ghost use Rattle.gn_values.specs.Tables.{Table, with_names};
+ghost use Rattle.gn_values.specs.Tables.{Table, with_name, with_names};
 ghost use Rattle.gn_values.specs.Val.{Val, vstr};
 ghost use Rattle.gn_values.specs.View.{val_of, entry_of};
 ghost use Rattle.gn_environment.specs.Declaring.{taken};
-ghost use Rattle.gn_executions.specs.BuiltIn.{output_directory, host_texts, targeted_texts, system_texts, toolchain_texts, root_texts, target_texts, place_texts, overridden, as_value, built_in_variables, built_in_scope};
+ghost use Rattle.gn_executions.specs.BuiltIn.{output_directory, host_texts, targeted_texts, system_texts, toolchain_texts, root_texts, target_texts, overridden, as_value, built_in_scope};
+ghost use Rattle.gn_unit.specs.BuiltIn.{open_texts, toolchain_variables, built_in_under, scope_in};
 
 use gn_calls_path::out_directory;
 use gn_definitions::KeptScope;
@@ -224,53 +225,44 @@ fn push_roots(
     Ok(())
 }
 
-// Puts the directories of a file that stands in a directory behind others.
-fn push_targets(
-    alloc: Global,
-    out: &Path,
-    directory: &Path,
-    variables: &mut Vec<Entry>,
-) -> Result<(), AllocError>
-    ensures { OnOk result ((later : Table Val) → map entry_of variables.new.items ++ later
-        ≡ map entry_of variables.old.items ++ (map as_value (target_texts out.now directory.now) ++ later)) }
+// Puts the names behind others whose values depend on the directory of a file, with the empty text.
+fn push_open(alloc: Global, variables: &mut Vec<Entry>) -> Result<(), AllocError>
+    ensures { OnOk result ((later : Table Val) → map entry_of variables.new.items ++ later ≡ map entry_of variables.old.items ++ (map as_value open_texts ++ later)) }
 {
-    let objects = obj_directory(alloc, out, directory)?;
-    push_path(alloc, b"target_out_dir", &objects, variables)?;
-    let generated = gen_directory(alloc, out, directory)?;
-    push_path(alloc, b"target_gen_dir", &generated, variables)?;
+    push(alloc, b"target_out_dir", b"", variables)?;
+    push(alloc, b"target_gen_dir", b"", variables)?;
     Ok(())
 }
 
-// Puts the toolchains and the directories of a file that stands in a directory behind others.
+// Puts the toolchains, the directories of the build and the names of those of a file behind others, of a toolchain with this output
+// directory.
 fn push_places(
     alloc: Global,
     context: &Context,
-    directory: &Path,
+    out: &Path,
     variables: &mut Vec<Entry>,
 ) -> Result<(), AllocError>
     ensures { OnOk result ((later : Table Val) → map entry_of variables.new.items ++ later
-        ≡ map entry_of variables.old.items ++ (map as_value (place_texts context.now directory.now) ++ later)) }
+        ≡ map entry_of variables.old.items ++ (map as_value (toolchain_texts context.now ++ root_texts context.now out.now ++ open_texts) ++ later)) }
 {
-    let out = output_directory(alloc, context)?;
     push_toolchains(alloc, context, variables)?;
-    push_roots(alloc, context, &out, variables)?;
-    push_targets(alloc, &out, directory, variables)?;
+    push_roots(alloc, context, out, variables)?;
+    push_open(alloc, variables)?;
     Ok(())
 }
 
-// The variables of a file that stands in a directory.
-#[tactic(auto, unfolding(gn_executions::specs::BuiltIn::built_in_variables))]
-fn built_in_variables(
+// The variables of all files under a toolchain with this output directory, as far as they are known.
+fn toolchain_variables(
     alloc: Global,
     host: &HostNames,
     context: &Context,
-    directory: &Path,
+    out: &Path,
 ) -> Result<Vec<Entry>, AllocError>
-    ensures { IfOk result (λ v. map entry_of v.items ≡ built_in_variables host.now context.now directory.now) }
+    ensures { IfOk result (λ v. map entry_of v.items ≡ toolchain_variables host.now context.now out.now) }
 {
     let mut variables = Vec::new(alloc);
     push_systems(alloc, host, context, &mut variables)?;
-    push_places(alloc, context, directory, &mut variables)?;
+    push_places(alloc, context, out, &mut variables)?;
     Ok(variables)
 }
 
@@ -285,7 +277,108 @@ fn in_order(alloc: Global, entries: Vec<Entry>) -> Result<Bindings, AllocError>
     Ok(bindings)
 }
 
-/// The scope of the built-in variables of a file that stands in a directory.
+// Gives a name a path as its value.
+fn set_path(
+    alloc: Global,
+    name: &[u8],
+    path: &Path,
+    variables: &mut Bindings,
+) -> Result<(), AllocError>
+    ensures { OnOk result (variables.new ≡ with_name name.now (vstr path.now) variables.old) }
+{
+    let entry = entry(alloc, name, path.as_bytes())?;
+    variables.set(entry.name, entry.value)
+}
+
+// Sets the directories that stand for the directory of a file, of a toolchain with this output directory.
+fn set_targets(
+    alloc: Global,
+    out: &Path,
+    directory: &Path,
+    variables: &mut Bindings,
+) -> Result<(), AllocError>
+    ensures { OnOk result (variables.new ≡ with_names (map as_value (target_texts out.now directory.now)) variables.old) }
+{
+    let objects = obj_directory(alloc, out, directory)?;
+    set_path(alloc, b"target_out_dir", &objects, variables)?;
+    let generated = gen_directory(alloc, out, directory)?;
+    set_path(alloc, b"target_gen_dir", &generated, variables)
+}
+
+// The output directory of the toolchain, and the variables of all files under it as far as they are known, in the order of their names.
+fn toolchain_parts(
+    alloc: Global,
+    host: &HostNames,
+    context: &Context,
+) -> Result<(Path, Bindings), AllocError>
+    ensures { IfOk result (λ p. p ≡ ((built_in_under host.now context.now).out, (built_in_under host.now context.now).variables)) }
+{
+    let out = output_directory(alloc, context)?;
+    let variables = in_order(alloc, toolchain_variables(alloc, host, context, &out)?)?;
+    Ok((out, variables))
+}
+
+// The same names of the host.
+fn copy_host(alloc: Global, host: &HostNames) -> Result<HostNames, AllocError>
+    ensures { IfOk result (λ h. h ≡ host.now) }
+{
+    let os = host.os.copy(alloc)?;
+    let cpu = host.cpu.copy(alloc)?;
+    Ok(HostNames { os, cpu })
+}
+
+/// What the built-in variables of all files under a toolchain have in common, which is made once: the names of the host, the output
+/// directory of the toolchain, and all variables, of which two have no value yet, since that depends on the directory of the file. Their
+/// names stand there so that no copy has to grow.
+#[derive(Drop)]
+pub(crate) struct BuiltIn {
+    /// The names of the host.
+    pub(crate) host: HostNames,
+    out: Path,
+    variables: Bindings,
+}
+
+impl BuiltIn {
+    /// What they have in common on a host, under the toolchain of a context.
+    pub(crate) fn new(
+        alloc: Global,
+        host: HostNames,
+        context: &Context,
+    ) -> Result<BuiltIn, AllocError>
+        ensures { IfOk result (λ b. b ≡ built_in_under host context.now) }
+    {
+        let (out, variables) = toolchain_parts(alloc, &host, context)?;
+        Ok(BuiltIn {
+            host,
+            out,
+            variables,
+        })
+    }
+
+    /// The same on this host, under the toolchain of another context.
+    pub(crate) fn under(&self, alloc: Global, context: &Context) -> Result<BuiltIn, AllocError>
+        ensures { IfOk result (λ b. b ≡ built_in_under self.now.host context.now) }
+    {
+        BuiltIn::new(alloc, copy_host(alloc, &self.host)?, context)
+    }
+
+    /// The scope of the built-in variables of a file that stands in a directory.
+    pub(crate) fn scope_in(
+        &self,
+        alloc: Global,
+        directory: &Path,
+    ) -> Result<Arc<KeptScope>, AllocError>
+        ensures { IfOk result (λ s. s.value ≡ scope_in self.now directory.now) }
+    {
+        let mut variables = self.variables.copy(alloc)?;
+        set_targets(alloc, &self.out, directory, &mut variables)?;
+        let scope = KeptScope::new(variables, BTreeMap::new(alloc), BTreeMap::new(alloc));
+        Ok(Arc::new(alloc, scope)?)
+    }
+}
+
+/// The scope of the built-in variables of a file that stands in a directory, on a host and under the toolchain of a context.
+#[tactic(auto, using(crate::proofs::BuiltIn::scope_is_built_in))]
 pub(crate) fn built_in_scope(
     alloc: Global,
     host: &HostNames,
@@ -294,8 +387,6 @@ pub(crate) fn built_in_scope(
 ) -> Result<Arc<KeptScope>, AllocError>
     ensures { IfOk result (λ s. s.value ≡ built_in_scope host.now context.now directory.now) }
 {
-    let variables = built_in_variables(alloc, host, context, directory)?;
-    let bindings = in_order(alloc, variables)?;
-    let scope = KeptScope::new(bindings, BTreeMap::new(alloc), BTreeMap::new(alloc));
-    Ok(Arc::new(alloc, scope)?)
+    let built_in = BuiltIn::new(alloc, copy_host(alloc, host)?, context)?;
+    built_in.scope_in(alloc, directory)
 }

@@ -1,33 +1,27 @@
 // The evaluation of what a key names.
 
 ghost use Rattle.std.specs.Prelude.{◌≡◌, ◌<◌, IfOk, IfErr, Some};
+ghost use Rattle.gn_tree.specs.Depth.{IsShallow};
 ghost use Rattle.gn_runs.specs.Runs.{Answers};
+ghost use Rattle.gn_meaning.specs.Meaning.{configuration_ends};
 ghost use Rattle.gn_eval.specs.Library.{Includes, GoesOn};
-ghost use Rattle.gn_unit.specs.Ends.{IsExecuted, IsSetupOf, IsLoadOf, IsImportOf, Executes, IsUnitOf, IsNeedOf, WhereStopped, HasAskedOf, ended_with};
-ghost use Rattle.gn_executions.specs.Units.{load_execution, import_execution};
+ghost use Rattle.gn_executions.specs.Base.{BaseState};
+ghost use Rattle.gn_unit.specs.Ends.{IsExecuted, IsSetupOf, IsLoadOf, IsImportOf, Executes, load_ends, import_ends, IsUnitOf, IsNeedOf, IsRestOf, WhereStopped, WherePaused, IsKept, KeepsOn, HasAskedOf};
+ghost use Rattle.gn_executions.specs.Units.{import_execution};
+ghost use Rattle.gn_executions.specs.Found.{found_load_execution};
 ghost use Rattle.gn_executions.specs.Setups.{setup_execution};
 
 use crate::base::Base;
-use crate::configuration::execute_setup;
+use crate::configuration::begin_setup;
 use crate::defining::Defining;
-use crate::execution::{execute_import, execute_load};
+use crate::ending::{ended, import_on, load_on, setup_on};
+use crate::execution::{begin_import, begin_load};
 use crate::unit::{EvalStop, Unit};
-use gn_eval::{Definer, EvalEnd, Library};
-use gn_items::{Claim, Key, Outcome, Question, When};
+use gn_eval::{Definer, Library};
+use gn_items::{Claim, Key, Outcome, When};
+use gn_outermost::Paused;
 use gn_paths::{Path, Text};
 use std::alloc::Global;
-
-// The end of an execution that has left nothing, with the questions asked.
-fn ended(end: EvalEnd, asked: Vec<Question>) -> Result<Unit, EvalStop>
-    ensures { result ≡ ended_with end asked }
-{
-    match end {
-        EvalEnd::Wrong(fault) => Ok(Unit::Wrong(fault, asked)),
-        EvalEnd::Spoiled(path, place) => Ok(Unit::Spoiled(path, place, asked)),
-        EvalEnd::Stopped => Err(EvalStop::Stopped(asked)),
-        EvalEnd::Memory => Err(EvalStop::Memory),
-    }
-}
 
 // The unit of a build file.
 fn load_unit<L: Library + Definer>(
@@ -37,11 +31,20 @@ fn load_unit<L: Library + Definer>(
     toolchain: &Text,
     library: &mut L,
 ) -> Result<Unit, EvalStop>
-    ensures { Executes IsLoadOf (L.state library.old) (L.state library.new) result (load_execution base.now directory.now toolchain.now) }
+    ensures { Executes IsLoadOf load_ends (L.state library.old) (L.state library.new) result (found_load_execution base.now directory.now toolchain.now) }
 {
     let mut out = Outcome::new(alloc);
-    match execute_load(alloc, base, directory, toolchain, &mut out, library) {
-        Ok(()) => Ok(Unit::Load(out)),
+    match begin_load(alloc, base, directory, toolchain, &mut out, library) {
+        Ok((tree, env)) => load_on(
+            alloc,
+            Paused {
+                tree,
+                next: 0,
+                env,
+                out,
+            },
+            library,
+        ),
         Err(end) => ended(end, out.into_asked()),
     }
 }
@@ -53,11 +56,20 @@ fn setup_unit<L: Library + Definer>(
     toolchain: &Text,
     library: &mut L,
 ) -> Result<Unit, EvalStop>
-    ensures { Executes IsSetupOf (L.state library.old) (L.state library.new) result (setup_execution base.now toolchain.now) }
+    ensures { Executes IsSetupOf configuration_ends (L.state library.old) (L.state library.new) result (setup_execution base.now toolchain.now) }
 {
     let mut out = Outcome::new(alloc);
-    match execute_setup(alloc, base, toolchain, &mut out, library) {
-        Ok(value) => Ok(Unit::Setup(value, out)),
+    match begin_setup(alloc, base, toolchain, &mut out, library) {
+        Ok((tree, env)) => setup_on(
+            alloc,
+            Paused {
+                tree,
+                next: 0,
+                env,
+                out,
+            },
+            library,
+        ),
         Err(end) => ended(end, out.into_asked()),
     }
 }
@@ -71,11 +83,20 @@ fn import_unit<L: Library + Definer>(
     path: &Path,
     library: &mut L,
 ) -> Result<Unit, EvalStop>
-    ensures { Executes IsImportOf (L.state library.old) (L.state library.new) result (import_execution base.now when toolchain.now path.now) }
+    ensures { Executes IsImportOf import_ends (L.state library.old) (L.state library.new) result (import_execution base.now when toolchain.now path.now) }
 {
     let mut out = Outcome::new(alloc);
-    match execute_import(alloc, base, when, toolchain, path, &mut out, library) {
-        Ok(value) => Ok(Unit::Import(value, out)),
+    match begin_import(alloc, base, when, toolchain, path, &mut out, library) {
+        Ok((tree, env)) => import_on(
+            alloc,
+            Paused {
+                tree,
+                next: 0,
+                env,
+                out,
+            },
+            library,
+        ),
         Err(end) => ended(end, out.into_asked()),
     }
 }
@@ -92,6 +113,7 @@ fn unit_of<L: Library + Definer>(
     ensures asked { IfOk result (λ unit. (a : Answers) → Includes (L.state library.new).told a → HasAskedOf base.now key.now unit a) }
     ensures need { IfErr result (λ stop. WhereStopped stop
         (λ asked. (a : Answers) → (L.state library.new).told ≡ Some a → IsNeedOf base.now key.now (L.state library.new).need asked a)) }
+    ensures kept { IfErr result (λ stop. WherePaused stop (IsKept base.now key.now (L.state library.new).told)) }
     ensures goes { GoesOn (L.state library.old) (L.state library.new) }
     ensures rose { IfErr result (λ stop. WhereStopped stop (λ asked. (L.state library.old).stops < (L.state library.new).stops)) }
 {
@@ -107,9 +129,9 @@ fn unit_of<L: Library + Definer>(
 
 /// Executes the file that the key of a claim names, under the toolchain of the key, from its start, over a base and what the
 /// library tells. The claim comes back. What is answered is how that execution ends over all answers that include those
-/// told, and what it asked. `Stopped` comes where the library lacks an answer: over just what it tells, the execution needs
-/// the one that it has noted, and asks it behind the questions that come back. The base is that of the evaluations under this
-/// toolchain: what its context says is taken.
+/// told, and what it asked. `Stopped` and `Paused` come where the library lacks an answer: over just what it tells, the execution needs
+/// the one that it has noted, and asks it behind the questions that come back. What comes back with `Paused` is kept of the execution, and `go_on`
+/// goes on there. The base is that of the evaluations under this toolchain: what its context says is taken.
 pub fn evaluate<L: Library>(
     alloc: Global,
     claim: Claim,
@@ -123,6 +145,7 @@ pub fn evaluate<L: Library>(
     ensures asked { IfOk result (λ r. (a : Answers) → Includes (L.state library.new).told a → HasAskedOf base.now claim.key r.1 a) }
     ensures need { IfErr result (λ r. WhereStopped r.1
         (λ asked. (a : Answers) → (L.state library.new).told ≡ Some a → IsNeedOf base.now claim.key (L.state library.new).need asked a)) }
+    ensures kept { IfErr result (λ r. WherePaused r.1 (IsKept base.now claim.key (L.state library.new).told)) }
     ensures goes { GoesOn (L.state library.old) (L.state library.new) }
     ensures rose { IfErr result (λ r. WhereStopped r.1 (λ asked. (L.state library.old).stops < (L.state library.new).stops)) }
 {
@@ -131,4 +154,52 @@ pub fn evaluate<L: Library>(
         Ok(unit) => Ok((claim, unit)),
         Err(stop) => Err((claim, stop)),
     }
+}
+
+// The unit that a key names, from where its execution has stopped.
+fn rest_of<L: Library + Definer>(
+    alloc: Global,
+    key: &Key,
+    paused: Paused,
+    library: &mut L,
+) -> Result<Unit, EvalStop>
+    requires executed { IsExecuted key.now }
+    requires shallow { IsShallow paused.tree }
+    ensures unit { IfOk result (λ unit. (base : BaseState) (a : Answers) → Includes (L.state library.new).told a → IsRestOf base key.now paused a → IsUnitOf base key.now unit a) }
+    ensures asked { IfOk result (λ unit. (base : BaseState) (a : Answers) → Includes (L.state library.new).told a → IsRestOf base key.now paused a → HasAskedOf base key.now unit a) }
+    ensures need { IfErr result (λ stop. WhereStopped stop (λ asked. (base : BaseState) (a : Answers) → (L.state library.new).told ≡ Some a →
+        IsRestOf base key.now paused a → IsNeedOf base key.now (L.state library.new).need asked a)) }
+    ensures kept { IfErr result (λ stop. WherePaused stop (KeepsOn key.now (L.state library.new).told paused)) }
+    ensures goes { GoesOn (L.state library.old) (L.state library.new) }
+    ensures rose { IfErr result (λ stop. WhereStopped stop (λ asked. (L.state library.old).stops < (L.state library.new).stops)) }
+{
+    match key {
+        Key::Load(..) => load_on(alloc, paused, library),
+        Key::Import(..) => import_on(alloc, paused, library),
+        Key::Setup(_) => setup_on(alloc, paused, library),
+        Key::Read(_) | Key::Resolve(_) => unreachable!(),
+    }
+}
+
+/// Goes on with the execution of the file that a key names, from where it has stopped, over what the library tells by now. Where what is
+/// kept is the rest of that execution over a base, the answer is that of `evaluate` over this base: of all answers that include those told,
+/// over which it is the rest.
+pub fn go_on<L: Library>(
+    alloc: Global,
+    key: &Key,
+    paused: Paused,
+    library: &mut L,
+) -> Result<Unit, EvalStop>
+    requires executed { IsExecuted key.now }
+    requires shallow { IsShallow paused.tree }
+    ensures unit { IfOk result (λ unit. (base : BaseState) (a : Answers) → Includes (L.state library.new).told a → IsRestOf base key.now paused a → IsUnitOf base key.now unit a) }
+    ensures asked { IfOk result (λ unit. (base : BaseState) (a : Answers) → Includes (L.state library.new).told a → IsRestOf base key.now paused a → HasAskedOf base key.now unit a) }
+    ensures need { IfErr result (λ stop. WhereStopped stop (λ asked. (base : BaseState) (a : Answers) → (L.state library.new).told ≡ Some a →
+        IsRestOf base key.now paused a → IsNeedOf base key.now (L.state library.new).need asked a)) }
+    ensures kept { IfErr result (λ stop. WherePaused stop (KeepsOn key.now (L.state library.new).told paused)) }
+    ensures goes { GoesOn (L.state library.old) (L.state library.new) }
+    ensures rose { IfErr result (λ stop. WhereStopped stop (λ asked. (L.state library.old).stops < (L.state library.new).stops)) }
+{
+    let mut defining = Defining { library };
+    rest_of(alloc, key, paused, &mut defining)
 }

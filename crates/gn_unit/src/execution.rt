@@ -1,4 +1,4 @@
-// The execution of a whole file.
+// Where the execution of a whole file begins.
 
 ghost use Rattle.std.specs.Prelude.{◌≡◌, ◌≢◌, ◌≤◌, [], true, false, Err, IfOk, length};
 ghost use Rattle.gn_value_model.specs.Limits.{max_bytes};
@@ -7,25 +7,24 @@ ghost use Rattle.gn_tree.specs.Depth.{IsShallow};
 ghost use Rattle.gn_faults.specs.declared.file_kind.FileKind.{FileKind as Kind};
 ghost use Rattle.gn_items.specs.Effects.{Effects};
 ghost use Rattle.gn_environment.specs.Environment.{Environment};
-ghost use Rattle.gn_meaning.specs.Meaning.{file_runs, import_file_runs};
-ghost use Rattle.gn_meaning.specs.Steps.{then_do};
 ghost use Rattle.gn_eval.specs.Library.{Need, IsWithinLimit};
-ghost use Rattle.gn_eval.specs.Ends.{IsRun, Claims, EvaluatesSpent};
+ghost use Rattle.gn_eval.specs.Ends.{IsRun, Claims};
 ghost use Rattle.gn_syntax.specs.Reading.{reading};
 ghost use Rattle.gn_unit.specs.Found.{content_view};
-ghost use Rattle.gn_executions.specs.Units.{reading_runs, content_runs, own_place, tree_runs, build_file_of, import_begins, import_runs, load_begins, load_runs};
+ghost use Rattle.gn_executions.specs.Units.{reading_runs, content_runs, own_place, tree_runs, build_file_of, import_begins, load_begins};
+ghost use Rattle.gn_executions.specs.Setups.{secondary_tree_runs};
 ghost use Rattle.gn_executions.specs.Base.{setting_of, begins_over};
+ghost use Rattle.gn_unit.specs.Begun.{Begins};
 
 use crate::base::Base;
 use crate::faults::{syntax_fault, whole_file_fault};
-use gn_definitions::ImportValue;
+use crate::found::found_tree;
 use gn_env::Env;
-use gn_eval::{Definer, EvalEnd, Found, LibStop, Library, run_file, run_import_file};
+use gn_eval::{EvalEnd, Found, LibStop, Library};
 use gn_faults::{Code, FileKind};
 use gn_items::{Outcome, When, import_name, load_name};
 use gn_paths::{Path, PathError, Place, Text, directory, resolve};
 use gn_syntax::{Parsed, parse};
-use gn_tree::Block;
 use std::alloc::{AllocError, Global};
 
 // The path of the build file of a directory.
@@ -145,97 +144,82 @@ fn tree_at<L: Library>(
     }
 }
 
-// Runs the tree of the build file of a directory, which stands at a path, in one scope, which is checked.
-fn run_build_file<L: Library + Definer>(
+// The environment in which the execution of the build file of a directory begins over a base, which stands at a path.
+fn load_environment(
     alloc: Global,
     base: &Base,
     directory: &Path,
     toolchain: &Text,
     path: &Path,
-    block: &Block,
-    out: &mut Outcome,
-    library: &mut L,
-) -> Result<(), EvalEnd>
-    requires shallow { IsShallow block.now }
-    ensures { EvaluatesSpent (λ u. u) (L.state library.old) (L.state library.new) result out.new (λ a. file_runs a block.now
-        (load_begins base.now directory.now toolchain.now path.now) out.old) }
+) -> Result<Env, AllocError>
+    ensures { IfOk result (λ env. env ≡ load_begins base.now directory.now toolchain.now path.now) }
 {
     let execution = load_name(alloc, directory, toolchain)?;
-    let mut env = environment(alloc, base, path, FileKind::BuildFile, execution, true)?;
-    let done = run_file(alloc, block, &mut env, out, library);
-    drop(env);
-    done
+    environment(alloc, base, path, FileKind::BuildFile, execution, true)
 }
 
-// Executes the build file of a directory, which stands at a path.
-fn load_file<L: Library + Definer>(
+/// The tree of the file at a path and the environment in which it is to run, which begins as `env` and has the places of the file that
+/// was found: at its path, or below the secondary source tree where there is no file at its own. What is asked is added to `out`. `Wrong`
+/// has the first fault, and comes exactly where there is one, but for want of memory; `Stopped` comes as from a library.
+pub(crate) fn found_file<L: Library>(
     alloc: Global,
     base: &Base,
-    directory: &Path,
-    toolchain: &Text,
     path: &Path,
+    env: Env,
     out: &mut Outcome,
     library: &mut L,
-) -> Result<(), EvalEnd>
-    ensures { EvaluatesSpent (λ u. u) (L.state library.old) (L.state library.new) result out.new (λ a. then_do
-        (tree_runs a (load_begins base.now directory.now toolchain.now path.now) out.old) (λ tree env1 out1. file_runs a tree env1 out1)) }
+) -> Result<(Parsed, Env), EvalEnd>
+    requires { env.setting.file ≡ path.now }
+    ensures begins { Begins (L.state library.old) (L.state library.new) result out.new (λ a. secondary_tree_runs base.now.secondary a env out.old) }
+    ensures shallow { IfOk result (λ begun. IsShallow begun.0) }
 {
-    let parsed = tree_at(alloc, base, path, out, library)?;
-    run_build_file(
-        alloc,
-        base,
-        directory,
-        toolchain,
-        path,
-        parsed.block(),
-        out,
-        library,
-    )
+    let mut env = env;
+    match found_tree(alloc, base, path, &mut env, out, library) {
+        Ok(parsed) => Ok((parsed, env)),
+        Err(end) => {
+            drop(env);
+            Err(end)
+        }
+    }
 }
 
-/// Executes the build file of a directory under a toolchain, over a base: its content is asked for, parsed, and run in one
-/// scope, which is checked. What it leaves and what it asks is added to `out`. `Wrong` has the first fault, and comes exactly
-/// where there is one, but for want of memory; `Spoiled` and `Stopped` come as from `run_file`.
-#[tactic(auto, unfolding(gn_executions::specs::Units::load_runs))]
-pub(crate) fn execute_load<L: Library + Definer>(
+/// Where the execution of the build file of a directory begins under a toolchain, over a base: its content is asked for, below the
+/// secondary source tree too where it isn't at its own path, and parsed; it is to run in one scope, which is checked. The errors are as
+/// those of `found_file`.
+pub(crate) fn begin_load<L: Library>(
     alloc: Global,
     base: &Base,
     directory: &Path,
     toolchain: &Text,
     out: &mut Outcome,
     library: &mut L,
-) -> Result<(), EvalEnd>
-    ensures { EvaluatesSpent (λ u. u) (L.state library.old) (L.state library.new) result out.new (λ a. load_runs base.now directory.now toolchain.now a out.old) }
+) -> Result<(Parsed, Env), EvalEnd>
+    ensures begins { Begins (L.state library.old) (L.state library.new) result out.new (λ a. secondary_tree_runs base.now.secondary a
+        (load_begins base.now directory.now toolchain.now (build_file_of directory.now)) out.old) }
+    ensures shallow { IfOk result (λ begun. IsShallow begun.0) }
 {
     let path = build_file(alloc, directory)?;
-    load_file(alloc, base, directory, toolchain, &path, out, library)
+    let env = load_environment(alloc, base, directory, toolchain, &path)?;
+    found_file(alloc, base, &path, env, out, library)
 }
 
-// Runs the tree of the file at a path that is imported, in one scope, which isn't checked.
-fn run_imported<L: Library + Definer>(
+// The environment in which the file at a path begins that is imported.
+fn import_environment(
     alloc: Global,
     base: &Base,
     when: When,
     toolchain: &Text,
     path: &Path,
-    block: &Block,
-    out: &mut Outcome,
-    library: &mut L,
-) -> Result<ImportValue, EvalEnd>
-    requires shallow { IsShallow block.now }
-    ensures { EvaluatesSpent (λ v. v) (L.state library.old) (L.state library.new) result out.new (λ a. import_file_runs a block.now
-        (import_begins base.now when toolchain.now path.now) out.old) }
+) -> Result<Env, AllocError>
+    ensures { IfOk result (λ env. env ≡ import_begins base.now when toolchain.now path.now) }
 {
     let execution = import_name(alloc, when, toolchain, path)?;
-    let env = environment(alloc, base, path, FileKind::Import, execution, false)?;
-    run_import_file(alloc, block, env, out, library)
+    environment(alloc, base, path, FileKind::Import, execution, false)
 }
 
-/// Executes a file that is imported under a toolchain, early or as usual, over a base: its content is asked for, parsed, and
-/// run in one scope, which isn't checked. It has what the file leaves for those who import it; its lines and what it asks are
-/// added to `out`. The errors are as those of `execute_load`.
-#[tactic(auto, unfolding(gn_executions::specs::Units::import_runs))]
-pub(crate) fn execute_import<L: Library + Definer>(
+/// Where the execution of a file begins that is imported under a toolchain, early or as usual, over a base: its content is asked for and
+/// parsed; it is to run in one scope, which isn't checked. The errors are as those of `found_file`.
+pub(crate) fn begin_import<L: Library>(
     alloc: Global,
     base: &Base,
     when: When,
@@ -243,18 +227,15 @@ pub(crate) fn execute_import<L: Library + Definer>(
     path: &Path,
     out: &mut Outcome,
     library: &mut L,
-) -> Result<ImportValue, EvalEnd>
-    ensures { EvaluatesSpent (λ v. v) (L.state library.old) (L.state library.new) result out.new (λ a. import_runs base.now when toolchain.now path.now a out.old) }
+) -> Result<(Parsed, Env), EvalEnd>
+    ensures begins { Begins (L.state library.old) (L.state library.new) result out.new (λ a. tree_runs a (import_begins base.now when toolchain.now path.now) out.old) }
+    ensures shallow { IfOk result (λ begun. IsShallow begun.0) }
 {
-    let parsed = tree_at(alloc, base, path, out, library)?;
-    run_imported(
-        alloc,
-        base,
-        when,
-        toolchain,
-        path,
-        parsed.block(),
-        out,
-        library,
-    )
+    match tree_at(alloc, base, path, out, library) {
+        Ok(parsed) => match import_environment(alloc, base, when, toolchain, path) {
+            Ok(env) => Ok((parsed, env)),
+            Err(_) => Err(EvalEnd::Memory),
+        },
+        Err(end) => Err(end),
+    }
 }

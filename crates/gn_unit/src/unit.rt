@@ -3,6 +3,7 @@
 use gn_definitions::ImportValue;
 use gn_faults::Fault;
 use gn_items::{Outcome, Question};
+use gn_outermost::Paused;
 use gn_paths::{Path, Place};
 
 /// What the execution of a whole file leaves, or why it leaves nothing.
@@ -27,6 +28,9 @@ pub enum Unit {
 pub enum EvalStop {
     /// The library has stopped: it lacks the answer that it has noted; and the questions asked before, in order.
     Stopped(Vec<Question>),
+    /// The same in front of an import of the outermost block whose path is written out. What is kept of the execution has the questions
+    /// asked before, and `go_on` goes on there.
+    Paused(Paused),
     /// Want of memory.
     Memory,
 }

@@ -1,26 +1,45 @@
-use Rattle.std.proofs.Common.{Result, refl, sym, subst}
+use Rattle.std.proofs.Common.{◌≡◌, Result, refl, sym, subst}
 use Rattle.gn_items.specs.Effects.{Effects}
-use Rattle.gn_eval.specs.Ends.{IsFailure, HasLeft}
-use Rattle.gn_executions.specs.Units.{load_runs, load_execution}
-use Rattle.gn_unit.specs.Ends.{IsLoadOf, Executes}
+use Rattle.gn_meaning.specs.Steps.{ends}
+use Rattle.gn_eval.specs.Ends.{IsFailure}
+use Rattle.gn_eval.specs.Telling.{told_before, covers_error}
+use Rattle.gn_tree.specs.Tree.{BlockTree}
+use Rattle.gn_environment.specs.Environment.{Environment}
+use Rattle.gn_executions.specs.Units.{build_file_of, load_begins}
+use Rattle.gn_executions.specs.Setups.{secondary_tree_runs}
+use Rattle.gn_executions.specs.Found.{found_load_execution}
+use Rattle.gn_outermost.specs.declared.paused.Paused.{Paused as PausedFile}
+use Rattle.gn_unit.specs.Ends.{IsLoadOf, Executes, rest_then, load_ends}
 use Rattle.gn_unit.specs.declared.unit.Unit.{Unit as Evaluated}
-use Rattle.gn_unit.specs.declared.unit.Unit.TheVariants.{Load}
 use Rattle.gn_unit.specs.declared.unit.EvalStop.{EvalStop}
-use Rattle.gn_unit.proofs.Ended.{ended_executes, left_executes}
+use Rattle.gn_unit.proofs.Ended.{ended_executes, executes_from, load_begun, load_failed}
 use Rattle.gn_unit.proofs.evaluation.load_unit.Goals as goal
 
 pub returns-in-Ok : goal.returns-in-Ok
 returns-in-Ok g c =
+    let base = c.args.base.now in
     let before = g.L.Library.state c.args.library.now in
-    let after = g.L.Library.state c.execute_load.new.library in
-    let out = c.execute_load.new.out in
-    left_executes IsLoadOf before after (load_execution c.args.base.now c.args.directory.now c.args.toolchain.now) (Load out) tt out (λ end h. h) refl (λ a i. subst (λ (o : Effects). HasLeft tt out (load_runs c.args.base.now c.args.directory.now c.args.toolchain.now a o)) c.new-out.ensures (c.in-Ok.ensures.runs a i)) c.in-Ok.ensures.goes
+    let middle = g.L.Library.state c.begin_load.new.library in
+    let after = g.L.Library.state c.load_on.new.library in
+    let tree = c.in-Ok.tree in
+    let env = c.in-Ok.env in
+    let out = c.begin_load.new.out in
+    let p : PausedFile = record { tree = tree; next = 0; env = env; out = out } in
+    executes_from IsLoadOf load_ends before after middle c.load_on.result (found_load_execution base c.args.directory.now c.args.toolchain.now) (rest_then load_ends p) c.in-Ok.ensures.begins.goes c.load_on.ensures
+    (λ a i.
+    load_begun base a tree env out p refl c.args.directory.now c.args.toolchain.now
+    (subst (λ (o : Effects). secondary_tree_runs c.args.base.now.secondary a (load_begins c.args.base.now c.args.directory.now c.args.toolchain.now (build_file_of c.args.directory.now)) o ≡ ends tree env out) c.new-out.ensures (c.in-Ok.ensures.begins.runs a (told_before c.load_on.ensures.goes a i))))
 
 pub returns-in-Err : goal.returns-in-Err
 returns-in-Err g c =
+    let base = c.args.base.now in
     let before = g.L.Library.state c.args.library.now in
-    let after = g.L.Library.state c.execute_load.new.library in
-    let out = c.execute_load.new.out in
-    subst (λ (r : Result Evaluated EvalStop). Executes IsLoadOf before after r (load_execution c.args.base.now c.args.directory.now c.args.toolchain.now)) (sym c.ended.ensures)
-    (ended_executes IsLoadOf (λ fault asked end h. h) (λ path place asked end h. h) before after (load_execution c.args.base.now c.args.directory.now c.args.toolchain.now) c.in-Err.end c.into_asked.result out
-    (λ a i. subst (λ (o : Effects). IsFailure after.need c.in-Err.end out (load_runs c.args.base.now c.args.directory.now c.args.toolchain.now a o)) c.new-out.ensures (c.in-Err.ensures.runs a i)) c.in-Err.ensures.goes (λ e. c.in-Err.ensures.rose (cc)) c.into_asked.ensures)
+    let after = g.L.Library.state c.begin_load.new.library in
+    let out = c.begin_load.new.out in
+    subst (λ (r : Result Evaluated EvalStop). Executes IsLoadOf load_ends before after r (found_load_execution base c.args.directory.now c.args.toolchain.now)) (sym c.ended.ensures)
+    (ended_executes IsLoadOf load_ends (λ fault asked end h. h) (λ path place asked end h. h) before after (found_load_execution base c.args.directory.now c.args.toolchain.now) c.in-Err.end c.into_asked.result out
+    (λ a i.
+    load_failed base a after.need c.in-Err.end out c.args.directory.now c.args.toolchain.now
+    (subst (λ (o : Effects). IsFailure after.need c.in-Err.end out (secondary_tree_runs c.args.base.now.secondary a (load_begins c.args.base.now c.args.directory.now c.args.toolchain.now (build_file_of c.args.directory.now)) o)) c.new-out.ensures
+    (c.in-Err.ensures.begins.runs a (covers_error (Unit {0}) (BlockTree × Environment) after.told c.in-Err.end a i))))
+    c.in-Err.ensures.begins.goes (λ e. c.in-Err.ensures.begins.rose (cc)) c.into_asked.ensures)
