@@ -1,17 +1,12 @@
 -- A seat that has no claim takes up what comes next.
-use Rattle.std.proofs.Common.{◌≡◌, ◌⊎◌, inl, inr, ℕ, zero, suc, ◌<◌, ◌≤◌, List, [], ◌∷◌, ◌++◌, length, slice_get, Option, Some, None, true, false, not, is_some, refl, sym, ◌∙◌, ap, subst, true≢false, arith}
-use Rattle.std.specs.Map.{keys_of}
+use Rattle.std.proofs.Common.{◌≡◌, ◌⊎◌, inl, inr, ℕ, zero, suc, ◌<◌, List, [], ◌∷◌, ◌++◌, length, slice_get, Option, Some, None, true, false, refl, sym, ◌∙◌, ap, subst, true≢false, arith}
 use Rattle.std.proofs.lemmas.List.{append-nil}
 use Rattle.gn_outside.specs.States.{SourceRead, SourceState}
-use Rattle.gn_outside.specs.Lists.{Extends, Each}
+use Rattle.gn_outside.specs.Lists.{Extends}
 use Rattle.gn_outside.specs.Sources.{plain_reads}
-use Rattle.gn_values.specs.Tables.{Table}
-use Rattle.gn_imports.specs.Projects.{IsOneOf}
 use Rattle.gn_closure.specs.Closure.{In}
-use Rattle.gn_closure.specs.Reach.{Unit_key, Setup, Is_reached, Holds}
-use Rattle.gn_core.specs.Keys.{Layer, Key, Read, Import, Unit_of, Resolve, Answer, Filed, units}
-use Rattle.gn_core.specs.Machine.{State, Event, Claim as Claims, IsOver, IsFiled, Runs, replay}
-use Rattle.gn_graph.specs.Needs.{home}
+use Rattle.gn_core.specs.Keys.{Key, Read, Import, Unit_of, Resolve}
+use Rattle.gn_core.specs.Machine.{State, Event, Claim as Claims, IsOver, Runs, replay}
 use Rattle.gn_executions.specs.Base.{BaseState}
 use Rattle.gn_book.specs.Graphs.{is_unit, UnitsHaveNumbers, HasMoreKeys, OnlyUnitsAreNew}
 use Rattle.gn_book.specs.Keys.{key_of}
@@ -19,17 +14,14 @@ use Rattle.gn_book.specs.Logs.{Log, KeysDiffer, opening, state_of, key_at, with_
 use Rattle.gn_book.specs.Next.{IsReadyNumber}
 use Rattle.gn_book.specs.Tasks.{is_task}
 use Rattle.gn_book.specs.declared.book.Claim.{Claim}
-use Rattle.gn_builds.specs.Worlds.{files_of, world_of}
-use Rattle.gn_builds.specs.Builds.{root}
+use Rattle.gn_projects.specs.Files.{files_of}
+use Rattle.gn_projects.specs.Worlds.{world_of}
 use Rattle.gn_builds.specs.Stacks.{IsStacked}
-use Rattle.gn_builds.specs.Driving.{AreNamed, IsDriven, IsBegun, IsClaim, IsGoing, HasRead, ReadsNumbered, one_if, paths_read, unknown_of, units_left}
-use Rattle.gn_builds.specs.Rest.{AreImports}
-use Rattle.gn_builds.proofs.Builds.{two_are_reached}
+use Rattle.gn_builds.specs.Driving.{AreNamed, IsDriven, IsClaim, IsGoing, HasRead, ReadsNumbered, paths_read, unknown_of}
 use Rattle.gn_builds.proofs.ReadPaths.{over_more, reads_still}
 use Rattle.gn_builds.proofs.Steps.{step_begun}
-use Rattle.gn_builds.proofs.Named.{get_more, number_of, in_at}
+use Rattle.gn_builds.proofs.Named.{number_of, found_number, in_at}
 use Rattle.gn_builds.proofs.Counts.{in_front}
-use Rattle.gn_builds.proofs.Rest.{found_number}
 
 -- keys behind others that are units
 abbrev AllUnits : List Key → Type 0
@@ -73,20 +65,16 @@ module _ (start : BaseState) (l m : Log) (d : IsDriven start l []) (more : HasMo
   named_state = record {
     begun = λ k i unit. elim (old_or_unit k i) [ inl a ↦ d.named.begun k a unit | inr a ↦ absurd (true≢false (sym a ∙ unit)) ];
     imports = λ layer path i. elim (old_or_unit (Import layer path) i) [
-      | inl a ↦ (let old = d.named.imports layer path a in (old.0, still_in (Read path) old.1))
+      | inl a ↦ still_in (Read path) (d.named.imports layer path a)
       | inr a ↦ absurd (true≢false (sym a))
     ];
-    units = λ u i.
-        (two_are_reached (units (state_of l).filed) d.named.nothing).0 u
-        (subst (λ (s : State). Holds home (units s.filed) (Is_reached u)) same_state ((numbers u).0 (number_of m.keys (Unit_of u) i)));
     labels = λ label i. elim (old_or_unit (Resolve label) i) [ inl a ↦ d.named.labels label a | inr a ↦ absurd (true≢false (sym a)) ];
     claimed = λ k i. absurd i;
     filed = λ k f. still_in k (d.named.filed k f);
-    nothing = d.named.nothing;
     kinds = d.named.kinds;
   }
 
-  numbered_driven : IsDriven start m []
+  pub numbered_driven : IsDriven start m []
   numbered_driven = record {
     seats = more.seats ∙ d.seats;
     apart = differ;
@@ -118,20 +106,6 @@ module _ (start : BaseState) (l m : Log) (d : IsDriven start l []) (more : HasMo
     counted = going.counted ∙ ap (λ (ps : List (List ℕ)). length ps) (sym (same_unknown known));
     few = going.few;
   }
-
--- the keys of the imports have no other numbers
-pub numbered_imports : (layer : Layer) (l m : Log) → HasMoreKeys l m → OnlyUnitsAreNew l m → (es : Table ℕ) → AreImports layer l es → AreImports layer m es
-numbered_imports layer l m more only es are = record { numbers = each es are.numbers; all = all; sorted = are.sorted }
-  where
-    each : (ds : Table ℕ) → Each (λ (e : List ℕ × ℕ). slice_get l.keys e.1 ≡ Some (Import layer e.0)) ds → Each (λ (e : List ℕ × ℕ). slice_get m.keys e.1 ≡ Some (Import layer e.0)) ds
-    each [] has = tt
-    each (e ∷ ds) has =
-        (subst (λ (ks : List Key). slice_get ks e.1 ≡ Some (Import layer e.0)) (sym more.keys.1) (get_more l.keys more.keys.0 e.1 (Import layer e.0) has.0), each ds has.1)
-
-    all : (path : List ℕ) → In m.keys (Import layer path) → IsOneOf path (keys_of es)
-    all path i =
-        let at = number_of m.keys (Import layer path) i in
-        elim (only at.0 (Import layer path) at.1) [ inl a ↦ are.all path (found_number l.keys at.0 (Import layer path) a) | inr a ↦ absurd (true≢false (sym a)) ]
 
 -- A unit is taken up
 
@@ -176,57 +150,18 @@ module _ (start : BaseState) (known : List (List ℕ)) (before now : SourceState
     few = going.few;
   }
 
--- How many of the two units have no answer
-
-open_filed : (x y : Option Answer) → ((v : Answer) → x ≡ Some v → (w : Answer) × (y ≡ Some w)) → one_if (not (is_some y)) ≤ one_if (not (is_some x))
-open_filed None None f = omega arith
-open_filed None (Some y) f = omega arith
-open_filed (Some x) None f = let some = f x refl in absurd (cc some.1)
-open_filed (Some x) (Some y) f = omega arith
-
-open_now : (x y : Option Answer) → x ≡ None → ((w : Answer) × (y ≡ Some w)) → one_if (not (is_some y)) < one_if (not (is_some x))
-open_now None None e f = absurd (cc f.1)
-open_now None (Some y) e f = omega arith
-open_now (Some x) y e f = absurd (cc e)
-
--- where one of the units gets its answer, and no answer goes, fewer are left
-fewer_left : (old new : Filed) (k : Unit_key) → (k ≡ Setup []) ⊎ (k ≡ root) → old (Unit_of k) ≡ None → IsFiled new (Unit_of k) → ((q : Key) → IsFiled old q → IsFiled new q) → units_left new < units_left old
-fewer_left old new k (inl e) none filed stays =
-    let first = open_now (old (Unit_of (Setup []))) (new (Unit_of (Setup []))) (ap (λ (u : Unit_key). old (Unit_of u)) (sym e) ∙ none) (subst (λ (u : Unit_key). IsFiled new (Unit_of u)) e filed) in
-    let second = open_filed (old (Unit_of root)) (new (Unit_of root)) (λ v h. stays (Unit_of root) (v, h)) in
-    omega (arith, first, second)
-fewer_left old new k (inr e) none filed stays =
-    let first = open_filed (old (Unit_of (Setup []))) (new (Unit_of (Setup []))) (λ v h. stays (Unit_of (Setup [])) (v, h)) in
-    let second = open_now (old (Unit_of root)) (new (Unit_of root)) (ap (λ (u : Unit_key). old (Unit_of u)) (sym e) ∙ none) (subst (λ (u : Unit_key). IsFiled new (Unit_of u)) e filed) in
-    omega (arith, first, second)
-
--- the unit that was claimed has its answer once the seat has no claim
-pub finished_fewer : (start : BaseState) (old new : Log) (k : Key) → IsDriven start old (k ∷ []) → IsDriven start new [] → is_unit k ≡ true → ((q : Key) → IsBegun (state_of old) q → IsBegun (state_of new) q) → units_left (state_of new).filed < units_left (state_of old).filed
-finished_fewer start old new (Read path) d done unit stays = absurd (true≢false (sym unit))
-finished_fewer start old new (Import layer path) d done unit stays = absurd (true≢false (sym unit))
-finished_fewer start old new (Resolve label) d done unit stays = absurd (true≢false (sym unit))
-finished_fewer start old new (Unit_of u) d done unit stays =
-    fewer_left (state_of old).filed (state_of new).filed u (d.named.units u (d.named.claimed (Unit_of u) (inl refl))) (d.stacked.unfiled (Unit_of u) (inl refl))
-    (filed (Unit_of u) (stays (Unit_of u) (inr (0, d.stacked.held (Unit_of u) (inl refl))))) (λ q f. filed q (stays q (inl f)))
-  where
-    filed : (q : Key) → IsBegun (state_of new) q → IsFiled (state_of new).filed q
-    filed q (inl f) = f
-    filed q (inr (n, h)) = absurd (done.stacked.alone q n h).1
-
 -- Before anything is claimed
 
-abbrev no_log : Log
+abbrev pub no_log : Log
 no_log = record { seats = 1; keys = []; events = [] }
 
 nothing_named : AreNamed [] opening []
 nothing_named = record {
   begun = λ k i unit. absurd i;
   imports = λ layer path i. absurd i;
-  units = λ u i. absurd i;
   labels = λ label i. i;
   claimed = λ k i. i;
   filed = λ k f. absurd (cc f.1);
-  nothing = λ k d e. absurd (cc e);
   kinds = λ k v e. absurd (cc e);
 }
 

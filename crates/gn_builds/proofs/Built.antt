@@ -1,138 +1,138 @@
--- What a build has left that was loaded.
-use Rattle.std.proofs.Common.{◌≡◌, inl, inr, ◌↔◌, ℕ, false, List, [], ◌∷◌, map, slice_get, unwrap_or, Option, Some, Ok, refl, sym, ◌∙◌, ap, subst}
-use Rattle.std.specs.Map.{keys_of}
-use Rattle.gn_outside.specs.Lists.{Each}
-use Rattle.gn_values.specs.Tables.{Table}
-use Rattle.gn_definitions.specs.Imported.{ImportState}
-use Rattle.gn_items.specs.Effects.{Effects}
-use Rattle.gn_runs.specs.Runs.{Question, content_of, import_of, End, ended, wrong, spoiled, needs, Run}
-use Rattle.gn_runs.specs.Laws.{IsAsked}
-use Rattle.gn_imports.specs.Rounds.{Project, knowing, values}
-use Rattle.gn_imports.specs.Asked.{imports_asked, in_path_order}
-use Rattle.gn_imports.specs.Projects.{IsOneOf}
-use Rattle.gn_imports.specs.Laws.{without_value}
-use Rattle.gn_imports.proofs.Final.{final_run}
-use Rattle.gn_imports.proofs.PathOrder.{order_same, import_one, one_import}
+-- What a build leaves that has come to rest: what its executions leave, in their order, and the labels that it generates.
+use Rattle.std.proofs.Common.{◌≡◌, inl, inr, ℕ, List, [], map, Option, true, false, refl, sym, ◌∙◌, ap, subst}
+use Rattle.std.specs.List.Sorted.{IsStrictlySortedBy}
+use Rattle.std.specs.Ordering.{nat_cmp}
+use Rattle.std.specs.Cmp.Lexicographic.{slice_cmp}
+use Rattle.gn_labels.specs.declared.label.Label.{Label}
+use Rattle.gn_labels.specs.Labels.{order_key}
 use Rattle.gn_closure.specs.Closure.{In}
-use Rattle.gn_closure.specs.Reach.{Setup}
-use Rattle.gn_executions.specs.Base.{BaseState}
-use Rattle.gn_core.specs.Keys.{Layer, early, usual, Key, Read, Import, Unit_of, Answer, Leaving, UnitLeft}
-use Rattle.gn_core.specs.Worlds.{last_run, import_as, true_meaning}
-use Rattle.gn_core.specs.Machine.{IsFiled}
-use Rattle.gn_core.proofs.Lowered.{filed_are_meanings}
+use Rattle.gn_closure.specs.Reach.{Unit_key, Setup, Is_reached, Is_generated, Holds}
+use Rattle.gn_closure.specs.Least.{IsTooLarge}
+use Rattle.gn_closure.proofs.Least.{first_held}
+use Rattle.gn_graph.specs.Needs.{home}
+use Rattle.gn_core.specs.Keys.{Key, Read, Import, Unit_of, Resolve, Answer, unit_in, units}
+use Rattle.gn_core.specs.Worlds.{all_meanings}
+use Rattle.gn_core.specs.Layered.{IsLayered}
+use Rattle.gn_core.specs.Machine.{IsFiled, HasLoaded, IsOpening}
+use Rattle.gn_core.specs.Statements.{Wanted}
+use Rattle.gn_core.proofs.Quiet.{Both, back, holds_above}
+use Rattle.gn_book.specs.Graphs.{is_unit}
 use Rattle.gn_book.specs.Logs.{Log, opening, state_of, key_at}
-use Rattle.gn_book.specs.NextLaws.{NextIsByRules}
-use Rattle.gn_builds.specs.Worlds.{Files, world_of, base_by, base_behind, base_of_layer, import_of_layer}
-use Rattle.gn_builds.specs.Builds.{root, early_project_of, setup_run, early_questions, setup_filed, project_of, build_run, questions, behind_setup, IsSetUp}
-use Rattle.gn_builds.specs.Loaded.{effects_in, effects_of, effects_at, import_effects, imports_left, file_end, setup_end, early_left, usual_left}
-use Rattle.gn_builds.specs.Rest.{IsAtRest, AreImports, RestIsBuilt}
-use Rattle.gn_builds.proofs.Layered.{today_is_layered, import_tree}
-use Rattle.gn_builds.proofs.Builds.{ended_has_setup, ended_has_build, ended_has_asked}
+use Rattle.gn_projects.specs.Files.{Files}
+use Rattle.gn_projects.specs.Worlds.{world_of}
+use Rattle.gn_projects.specs.Errors.{default_told}
+use Rattle.gn_projects.specs.Loaded.{effects_of, in_order_by, execution_texts, executions_needed, labels_generated, default_meant, executions_in_order, build_meant}
+use Rattle.gn_projects.proofs.Layered.{whole_builds_are_layered}
+use Rattle.gn_builds.specs.Rest.{IsAtRest, RestIsBuilt, effects_at, is_execution, AreInOrder, AreGenerated, default_filed}
 use Rattle.gn_builds.proofs.Logs.{opens}
-use Rattle.gn_builds.proofs.Rest.{rest_has_ended, rest_is_loaded, found_number}
+use Rattle.gn_builds.proofs.Named.{number_of, found_number}
+use Rattle.gn_builds.proofs.Members.{map_in, in_map, map_both, map_same}
+use Rattle.gn_builds.proofs.Orders.{in_order_same}
+use Rattle.gn_builds.proofs.Executions.{label_exact, needed_wanted, wanted_needed, exact_needed, label_listed, listed_label}
+use Rattle.gn_builds.proofs.Asked.{meant, filed_wanted, driven_both}
+use Rattle.gn_builds.proofs.Rest.{named_at, rest_is_loaded, unit_filed, execution_filed, small_units}
 
--- what an answer leaves is what the run over all answers leaves
-same_effects : (end : End (Leaving ImportState)) (asked : List Question) → effects_of (Some (import_as end asked)) ≡ effects_in (without_value end)
-same_effects (ended left) asked = refl
-same_effects (wrong fault) asked = refl
-same_effects (spoiled path place) asked = refl
-same_effects (needs (content_of path) place) asked = refl
-same_effects (needs (import_of path) place) asked = refl
+module _ (files : Files) (l : Log) (rest : IsAtRest files l) (small : IsTooLarge home (units (all_meanings (world_of files))) → ⊥) where
+  abbrev layered : IsLayered (world_of files)
+  layered = whole_builds_are_layered files
 
--- over a base and what is imported
-module _ (base : BaseState) (layer : Layer) (project : Project) (path : List ℕ) where
-  abbrev last : Run (Leaving ImportState)
-  last = import_of_layer base layer path (knowing project (values project))
+  abbrev opened : IsOpening (world_of files) (λ path. false) opening
+  opened = opens (world_of files)
 
-  last_effects : effects_of (Some (import_as last.end last.asked)) ≡ import_effects base layer project path
-  last_effects =
-      same_effects last.end last.asked
-      ∙ sym (ap (λ (r : Run (Leaving ImportState)). effects_in r.end) (final_run project (λ answers. import_of_layer base layer path answers) (import_tree base layer path)))
+  both : Both (world_of files) layered (λ path. false) opening opened (state_of l)
+  both = driven_both files l [] rest.driven rest.over
 
-module _ (files : Files) where
-  abbrev usual_base : BaseState
-  usual_base = base_of_layer files.start (setup_filed files) (usual [])
+  all : HasLoaded (world_of files) (state_of l)
+  all = rest_is_loaded files l rest
 
-  early_effects : (path : List ℕ) → effects_of (Some (true_meaning (world_of files) (Import (early []) path))) ≡ import_effects files.start (early []) (early_project_of files) path
-  unfolding last_run
-  early_effects path = last_effects files.start (early []) (early_project_of files) path
+  same_answer : (k : Key) → IsFiled (state_of l).filed k → (state_of l).filed k ≡ all_meanings (world_of files) k
+  same_answer k f = f.1 ∙ sym (meant (world_of files) layered opened (state_of l) both k f.0 f.1)
 
-  usual_effects : (path : List ℕ) → effects_of (Some (true_meaning (world_of files) (Import (usual []) path))) ≡ import_effects usual_base (usual []) (project_of files) path
-  unfolding last_run setup_run
-  usual_effects path = last_effects usual_base (usual []) (project_of files) path
+  generated_up : (label : Label) → Holds home (units (state_of l).filed) (Is_generated label) → Holds home (units (all_meanings (world_of files))) (Is_generated label)
+  generated_up label h = holds_above (world_of files) layered opening (state_of l) both.inv both.bases both.scope opened.records opened.units (Is_generated label) h
 
-  usual_base_is : (left : Leaving UnitLeft) → (setup_run files).end ≡ ended left → usual_base ≡ base_behind files.start left
-  usual_base_is left e = ap (base_by files.start) e
+  generated_down : (label : Label) → Holds home (units (all_meanings (world_of files))) (Is_generated label) → Holds home (units (state_of l).filed) (Is_generated label)
+  generated_down label h = back (world_of files) layered opening (state_of l) both.inv both.bases both.scope opened.records opened.units all (Is_generated label) h
 
--- the keys of a table whose entries have numbers
-entry_key : (layer : Layer) (l : Log) (es : Table ℕ) → Each (λ (e : List ℕ × ℕ). slice_get l.keys e.1 ≡ Some (Import layer e.0)) es → (path : List ℕ) → IsOneOf path (keys_of es) → In l.keys (Import layer path)
-entry_key layer l [] each path i = absurd i
-entry_key layer l (e ∷ es) each path (inl same) = subst (λ (p : List ℕ). In l.keys (Import layer p)) (sym same) (found_number l.keys e.1 (Import layer e.0) each.0)
-entry_key layer l (e ∷ es) each path (inr i) = entry_key layer l es each.1 path i
+  reached_up : (u : Unit_key) → Holds home (units (state_of l).filed) (Is_reached u) → Holds home (units (all_meanings (world_of files))) (Is_reached u)
+  reached_up u h = holds_above (world_of files) layered opening (state_of l) both.inv both.bases both.scope opened.records opened.units (Is_reached u) h
 
--- the imports of a layer, where loading has come to rest
-module _ (files : Files) (l : Log) (rest : IsAtRest files l) (layer : Layer) (asked : List Question) (effects : List ℕ → Effects)
-    (filed_asked : (path : List ℕ) → IsFiled (state_of l).filed (Import layer path) ↔ IsAsked asked (import_of path))
-    (meant_effects : (path : List ℕ) → effects_of (Some (true_meaning (world_of files) (Import layer path))) ≡ effects path)
-    (es : Table ℕ) (are : AreImports layer l es) where
-  -- an import that has a number has its answer
-  has_answer : (path : List ℕ) → In l.keys (Import layer path) → IsFiled (state_of l).filed (Import layer path)
-  has_answer path i = elim (rest.driven.named.begun (Import layer path) i refl) [ inl none ↦ absurd none | inr f ↦ f ]
+  -- the default toolchain
+  default_same : default_filed l ≡ default_meant (world_of files)
+  default_same =
+      let first = unit_filed (world_of files) layered opened (state_of l) both all (Setup []) (first_held home (units (all_meanings (world_of files)))) in
+      ap (λ (v : Option Answer). default_told (unit_in v)) (same_answer (Unit_of (Setup [])) first)
 
-  in_order : keys_of es ≡ in_path_order (imports_asked asked)
-  in_order =
-      order_same (keys_of es) (imports_asked asked) are.sorted
-      (λ path i. import_one asked path ((filed_asked path).0 (has_answer path (entry_key layer l es are.numbers path i))))
-      (λ path i. are.all path (rest.driven.named.filed (Import layer path) ((filed_asked path).1 (one_import asked path i))))
+  -- an execution that has a number is one that the build needs, and it has its answer
 
-  left_at : (path : List ℕ) (n : ℕ) → slice_get l.keys n ≡ Some (Import layer path) → effects_at l n ≡ effects path
-  left_at path n at =
-      let named : key_at l n ≡ Import layer path = ap (λ (o : Option Key). unwrap_or o (Read [])) at in
-      let filed = has_answer path (found_number l.keys n (Import layer path) at) in
-      ap (λ (k : Key). effects_of ((state_of l).filed k)) named
-      ∙ ap effects_of filed.1
-      ∙ ap (λ (v : Answer). effects_of (Some v)) (filed_are_meanings (world_of files) (λ p. false) opening l.events
-      (record { layered = today_is_layered files; opening = opens (world_of files); runs = rest.driven.runs files refl; over = rest.over }) (Import layer path) filed.0 filed.1)
-      ∙ meant_effects path
+  import_wanted : (k : Key) → In l.keys k → is_unit k ≡ false → Wanted (world_of files) k
+  import_wanted k i e =
+      filed_wanted (world_of files) layered opened (state_of l) both k
+      (elim (rest.driven.named.begun k i e) [ inl none ↦ absurd none | inr f ↦ f ])
 
-  each_left : (ds : Table ℕ) → Each (λ (e : List ℕ × ℕ). slice_get l.keys e.1 ≡ Some (Import layer e.0)) ds → map (λ (e : List ℕ × ℕ). effects_at l e.1) ds ≡ map effects (keys_of ds)
-  each_left [] each = refl
-  each_left (e ∷ ds) each = λ i. left_at e.0 e.1 each.0 i ∷ each_left ds each.1 i
+  numbered_wanted : (k : Key) → In l.keys k → is_execution k ≡ true → Wanted (world_of files) k
+  numbered_wanted (Read path) i e = import_wanted (Read path) i refl
+  numbered_wanted (Import m path) i e = import_wanted (Import m path) i refl
+  numbered_wanted (Unit_of u) i e = reached_up u ((rest.numbers u).0 (number_of l.keys (Unit_of u) i))
+  numbered_wanted (Resolve label) i e = absurd (rest.driven.named.labels label i)
 
-  all_left : map (λ (e : List ℕ × ℕ). effects_at l e.1) es ≡ map effects (in_path_order (imports_asked asked))
-  all_left = each_left es are.numbers ∙ ap (map effects) in_order
+  filed_execution : (k : Key) → is_execution k ≡ true → Wanted (world_of files) k → IsFiled (state_of l).filed k
+  filed_execution k e h = execution_filed (world_of files) layered opened (state_of l) both all k e h
 
-module _ (by_rules : NextIsByRules) (files : Files) (l : Log) (rest : IsAtRest files l) (left : Leaving UnitLeft) (is : (setup_run files).end ≡ ended left) where
-  configuration_left : effects_of ((state_of l).filed (Unit_of (Setup []))) ≡ left.effects
-  configuration_left = ap effects_of (ended_has_setup files l.events (rest_has_ended by_rules files l rest)) ∙ ap effects_in is
+  module _ (numbers : List ℕ) (order : AreInOrder (default_filed l) l numbers) where
+    abbrev keys : List Key
+    keys = map (key_at l) numbers
 
-  file_left : (file : Leaving UnitLeft) → (build_run files).end ≡ ended file → effects_of ((state_of l).filed (Unit_of root)) ≡ file.effects
-  file_left file e =
-      ap effects_of (ended_has_build files l.events (rest_has_ended by_rules files l rest) (subst IsSetUp (sym is) tt)) ∙ ap effects_in e
+    keys_sorted : IsStrictlySortedBy (slice_cmp (slice_cmp nat_cmp)) (map (execution_texts (default_filed l)) keys)
+    keys_sorted = subst (IsStrictlySortedBy (slice_cmp (slice_cmp nat_cmp))) (sym (map_both (execution_texts (default_filed l)) (key_at l) numbers)) order.sorted
 
-  early_are : (es : Table ℕ) → AreImports (early []) l es → map (λ (e : List ℕ × ℕ). effects_at l e.1) es ≡ early_left files
-  early_are es are =
-      all_left files l rest (early []) (early_questions files) (import_effects files.start (early []) (early_project_of files))
-      (ended_has_asked files l.events (rest_has_ended by_rules files l rest)).1 (early_effects files) es are
+    -- the key of one of these numbers
+    key_wanted : (n : ℕ) → In numbers n → (is_execution (key_at l n) ≡ true) × Wanted (world_of files) (key_at l n)
+    key_wanted n i =
+        let at = order.each n i in
+        subst (λ (k : Key). (is_execution k ≡ true) × Wanted (world_of files) k) (sym (named_at l n at.0 at.1)) (at.2, numbered_wanted at.0 (found_number l.keys n at.0 at.1) at.2)
 
-  usual_asked : (path : List ℕ) → IsFiled (state_of l).filed (Import (usual []) path) ↔ IsAsked (questions files) (import_of path)
-  usual_asked path =
-      subst (λ (qs : List Question). IsFiled (state_of l).filed (Import (usual []) path) ↔ IsAsked qs (import_of path)) (ap (λ (end : End (Leaving UnitLeft)). behind_setup end (questions files)) is)
-      ((ended_has_asked files l.events (rest_has_ended by_rules files l rest)).2 path)
+    key_needed : (k : Key) → In keys k → In (executions_needed (world_of files)) k
+    key_needed k i =
+        let n = in_map (key_at l) numbers k i in
+        let h = key_wanted n.0 n.1 in
+        subst (In (executions_needed (world_of files))) n.2 (wanted_needed (world_of files) layered small (key_at l n.0) h.0 h.1)
 
-  usual_are : (es : Table ℕ) → AreImports (usual []) l es → map (λ (e : List ℕ × ℕ). effects_at l e.1) es ≡ usual_left files left
-  usual_are es are =
-      all_left files l rest (usual []) (questions files) (import_effects (usual_base files) (usual []) (project_of files)) usual_asked (usual_effects files) es are
-      ∙ ap (λ (base : BaseState). imports_left base (usual []) (project_of files) (questions files)) (usual_base_is files left is)
+    needed_key : (k : Key) → In (executions_needed (world_of files)) k → In keys k
+    needed_key k i =
+        let h = needed_wanted (world_of files) layered small k i in
+        let at = number_of l.keys k (rest.driven.named.filed k (filed_execution k h.1 h.0)) in
+        subst (In keys) (named_at l at.0 k at.1) (map_in (key_at l) numbers at.0 (order.all at.0 k at.1 h.1))
 
-pub rest_is_built : NextIsByRules → RestIsBuilt
-rest_is_built by_rules known files l early_imports imports left file rest few early_ones usual_ones is e =
-    rest_is_loaded by_rules known files l rest few
-    ∙ ap (setup_end files) is
-    ∙ ap (file_end files left) e
-    ∙ (λ i. Ok (record {
-      configuration = sym (configuration_left by_rules files l rest left is) i;
-      early = sym (early_are by_rules files l rest left is early_imports early_ones) i;
-      imports = sym (usual_are by_rules files l rest left is imports usual_ones) i;
-      file = sym (file_left by_rules files l rest left is file e) i;
-    }))
+    executions_same : executions_in_order (world_of files) ≡ keys
+    unfolding executions_in_order
+    executions_same =
+        ap (λ (default : List ℕ). in_order_by (execution_texts default) (executions_needed (world_of files))) (sym default_same)
+        ∙ sym (in_order_same (execution_texts (default_filed l)) (executions_needed (world_of files)) keys (exact_needed (world_of files) layered small (default_filed l)) keys_sorted key_needed needed_key)
+
+    left_same : (n : ℕ) → In numbers n → effects_of (all_meanings (world_of files) (key_at l n)) ≡ effects_at l n
+    left_same n i = let h = key_wanted n i in ap effects_of (sym (same_answer (key_at l n) (filed_execution (key_at l n) h.0 h.1)))
+
+    all_left : map (λ (k : Key). effects_of (all_meanings (world_of files) k)) (executions_in_order (world_of files)) ≡ map (effects_at l) numbers
+    all_left =
+        ap (map (λ (k : Key). effects_of (all_meanings (world_of files) k))) executions_same
+        ∙ map_both (λ (k : Key). effects_of (all_meanings (world_of files) k)) (key_at l) numbers
+        ∙ map_same (λ n. effects_of (all_meanings (world_of files) (key_at l n))) (effects_at l) numbers left_same
+
+  module _ (labels : List Label) (generated : AreGenerated (default_filed l) l labels) where
+    labels_same : in_order_by (order_key (default_meant (world_of files))) (labels_generated (world_of files)) ≡ labels
+    labels_same =
+        ap (λ (default : List ℕ). in_order_by (order_key default) (labels_generated (world_of files))) (sym default_same)
+        ∙ sym (in_order_same (order_key (default_filed l)) (labels_generated (world_of files)) labels (λ a b i j e. label_exact (default_filed l) a b e) generated.sorted
+        (λ label i. label_listed (world_of files) layered small label (generated_up label ((generated.all label).0 i)))
+        (λ label i. (generated.all label).1 (generated_down label (listed_label (world_of files) layered small label i))))
+
+pub rest_is_built : RestIsBuilt
+unfolding build_meant
+rest_is_built known files l numbers labels rest within order generated =
+    let small = small_units files l rest known within in
+    λ i. record {
+      default = sym (default_same files l rest small) i;
+      executions = all_left files l rest small numbers order i;
+      generated = labels_same files l rest small labels generated i;
+    }

@@ -1,10 +1,10 @@
 -- How counts of keys change.
-use Rattle.std.proofs.Common.{◌≡◌, ◌⊎◌, inl, inr, ℕ, zero, suc, slice_get, ◌+◌, ◌<◌, ◌≤◌, List, [], ◌∷◌, ◌++◌, Option, Some, None, Bool, true, false, not, ◌||◌, cond, refl, sym, ◌∙◌, ap, subst, arith, true≢false}
+use Rattle.std.proofs.Common.{◌≡◌, ◌⊎◌, inl, inr, ℕ, zero, suc, slice_get, ◌+◌, ◌<◌, ◌≤◌, List, [], ◌∷◌, ◌++◌, Option, Some, None, Bool, true, false, not, ◌&&◌, ◌||◌, cond, refl, sym, ◌∙◌, ap, subst, arith, true≢false}
 use Rattle.std.specs.List.{list_any}
 use Rattle.std.proofs.lemmas.Bool.{or_left, or_right}
 use Rattle.std.specs.Prelude.{is_some}
 use Rattle.gn_closure.specs.Closure.{In}
-use Rattle.gn_core.specs.Keys.{Layer, early, usual, Key, Read, Import, Unit_of, Resolve, Answer, Filed, same_key, put}
+use Rattle.gn_core.specs.Keys.{Layer, Key, Read, Import, Unit_of, Resolve, Answer, Filed, same_key, put}
 use Rattle.gn_core.proofs.Puts.{same_key_is, key_own, put_own}
 use Rattle.gn_builds.specs.Driving.{one_if, count_of, is_awaited, is_open, remaining}
 
@@ -45,7 +45,7 @@ pub count_more : (test : Key → Bool) (ks : List Key) (k : Key) → count_of te
 count_more test [] k = omega arith
 count_more test (j ∷ ks) k = let rest = count_more test ks k in omega (arith, rest)
 
-count_same : (test other : Key → Bool) (ks : List Key) → ((q : Key) → In ks q → test q ≡ other q) → count_of test ks ≡ count_of other ks
+pub count_same : (test other : Key → Bool) (ks : List Key) → ((q : Key) → In ks q → test q ≡ other q) → count_of test ks ≡ count_of other ks
 count_same test other [] f = refl
 count_same test other (j ∷ ks) f = let rest = count_same test other ks (λ q i. f q (inr i)) in let here = ap one_if (f j (inl refl)) in omega (arith, rest, here)
 
@@ -55,7 +55,7 @@ IsOnce [] = Unit {0}
 IsOnce (k ∷ ks) = (In ks k → ⊥) × IsOnce ks
 
 -- a test that holds of one key less
-count_less : (test other : Key → Bool) (k : Key) → test k ≡ true → other k ≡ false → ((q : Key) → (k ≡ q → ⊥) → test q ≡ other q) → (ks : List Key) → IsOnce ks → In ks k → count_of test ks ≡ suc (count_of other ks)
+pub count_less : (test other : Key → Bool) (k : Key) → test k ≡ true → other k ≡ false → ((q : Key) → (k ≡ q → ⊥) → test q ≡ other q) → (ks : List Key) → IsOnce ks → In ks k → count_of test ks ≡ suc (count_of other ks)
 count_less test other k holds fails same (j ∷ ks) once (inl e) =
     let rest = count_same test other ks (λ q i. same q (λ f. once.0 (subst (λ (z : Key). In ks z) (sym (e ∙ f)) i))) in
     let a : one_if (test j) ≡ 1 = ap (λ (z : Key). one_if (test z)) e ∙ ap one_if holds in
@@ -79,9 +79,10 @@ open_less filed k v ks none once i =
         by true e = absurd (apart (same_key_is k q e))
         by false e = refl
 
-pub settled_less : (room : ℕ) (names : List Key) (filed : Filed) (k : Key) (v : Answer) → filed k ≡ None → IsOnce names → In names k → remaining room names (put filed k (Some v)) < remaining room names filed
+pub settled_less : (layer : Layer) (room : ℕ) (names : List Key) (filed : Filed) (k : Key) (v : Answer) → filed k ≡ None → IsOnce names → In names k
+    → remaining layer room names (put filed k (Some v)) < remaining layer room names filed
 unfolding remaining
-settled_less room names filed k v none once i = let less = open_less filed k v names none once i in omega (arith, less)
+settled_less layer room names filed k v none once i = let less = open_less filed k v names none once i in omega (arith, less)
 
 any_more : (names : List Key) (k q : Key) → list_any (same_key q) (names ++ k ∷ []) ≡ (list_any (same_key q) names || same_key q k)
 any_more [] k q = last (same_key q k)
@@ -108,18 +109,6 @@ module _ (layer : Layer) (names : List Key) (path : List ℕ) where
   abbrev more : List Key
   more = names ++ Import layer path ∷ []
 
-  -- of another layer no more and no fewer are awaited
-  other_layer : (m : Layer) → (m ≡ layer → ⊥) → (q : Key) → is_awaited m more q ≡ is_awaited m names q
-  other_layer m apart (Read other) =
-      ap not (any_more names (Import layer path) (Import m other) ∙ by (same_key (Import m other) (Import layer path)) refl)
-    where
-      by : (b : Bool) → same_key (Import m other) (Import layer path) ≡ b → (list_any (same_key (Import m other)) names || b) ≡ list_any (same_key (Import m other)) names
-      by true e = let same : m ≡ layer = cc (same_key_is (Import m other) (Import layer path) e) in absurd (apart same)
-      by false e = or_none (list_any (same_key (Import m other)) names)
-  other_layer m apart (Import l other) = refl
-  other_layer m apart (Unit_of unit) = refl
-  other_layer m apart (Resolve label) = refl
-
   module _ (new : list_any (same_key (Import layer path)) names ≡ false) (once : IsOnce names) (read : In names (Read path)) where
     awaited_other : (q : Key) → (Read path ≡ q → ⊥) → is_awaited layer names q ≡ is_awaited layer more q
     awaited_other (Read other) apart =
@@ -137,27 +126,15 @@ module _ (layer : Layer) (names : List Key) (path : List ℕ) where
         count_less (is_awaited layer names) (is_awaited layer more) (Read path) (ap not new)
         (ap not (any_in more (Import layer path) (in_new names (Import layer path)))) awaited_other names once read
 
-pub early_less : (room : ℕ) (names : List Key) (path : List ℕ) → list_any (same_key (Import (early []) path)) names ≡ false → IsOnce names → In names (Read path) → (filed : Filed) → remaining room (names ++ Import (early []) path ∷ []) filed < remaining room names filed
+pub import_less : (layer : Layer) (room : ℕ) (names : List Key) (path : List ℕ) → list_any (same_key (Import layer path)) names ≡ false → IsOnce names → In names (Read path) → (filed : Filed)
+    → remaining layer room (names ++ Import layer path ∷ []) filed < remaining layer room names filed
 unfolding remaining
-early_less room names path new once read filed =
-    let awaits = count_more (is_awaited (early []) (more (early []) names path)) names (Import (early []) path) in
-    let others = count_more (is_awaited (usual []) (more (early []) names path)) names (Import (early []) path) in
-    let same = count_same (is_awaited (usual []) (more (early []) names path)) (is_awaited (usual []) names) names (λ q i. other_layer (early []) names path (usual []) (λ e. cc e) q) in
-    let opens = count_more (is_open filed) names (Import (early []) path) in
-    let one = at_most_one (is_open filed (Import (early []) path)) in
-    let fewer = awaited_less (early []) names path new once read in
-    omega (arith, awaits, others, same, opens, one, fewer)
-
-pub usual_less : (room : ℕ) (names : List Key) (path : List ℕ) → list_any (same_key (Import (usual []) path)) names ≡ false → IsOnce names → In names (Read path) → (filed : Filed) → remaining room (names ++ Import (usual []) path ∷ []) filed < remaining room names filed
-unfolding remaining
-usual_less room names path new once read filed =
-    let awaits = count_more (is_awaited (usual []) (more (usual []) names path)) names (Import (usual []) path) in
-    let others = count_more (is_awaited (early []) (more (usual []) names path)) names (Import (usual []) path) in
-    let same = count_same (is_awaited (early []) (more (usual []) names path)) (is_awaited (early []) names) names (λ q i. other_layer (usual []) names path (early []) (λ e. cc e) q) in
-    let opens = count_more (is_open filed) names (Import (usual []) path) in
-    let one = at_most_one (is_open filed (Import (usual []) path)) in
-    let fewer = awaited_less (usual []) names path new once read in
-    omega (arith, awaits, others, same, opens, one, fewer)
+import_less layer room names path new once read filed =
+    let awaits = count_more (is_awaited layer (more layer names path)) names (Import layer path) in
+    let opens = count_more (is_open filed) names (Import layer path) in
+    let one = at_most_one (is_open filed (Import layer path)) in
+    let fewer = awaited_less layer names path new once read in
+    omega (arith, awaits, opens, one, fewer)
 
 -- a file is to be read, or to be taken of those that were read before
 module _ (names : List Key) (path : List ℕ) where
@@ -170,15 +147,73 @@ module _ (names : List Key) (path : List ℕ) where
   same_awaited layer (Unit_of unit) = refl
   same_awaited layer (Resolve label) = refl
 
-  pub reading_less : (room : ℕ) (filed : Filed) → remaining room longer filed < remaining (suc room) names filed
+  pub reading_less : (layer : Layer) (room : ℕ) (filed : Filed) → remaining layer room longer filed < remaining layer (suc room) names filed
   unfolding remaining
-  reading_less room filed =
-      let early_awaits = count_more (is_awaited (early []) longer) names (Read path) in
-      let early_same = count_same (is_awaited (early []) longer) (is_awaited (early []) names) names (λ q i. same_awaited (early []) q) in
-      let early_small = at_most_one (is_awaited (early []) longer (Read path)) in
-      let awaits = count_more (is_awaited (usual []) longer) names (Read path) in
-      let same = count_same (is_awaited (usual []) longer) (is_awaited (usual []) names) names (λ q i. same_awaited (usual []) q) in
-      let small = at_most_one (is_awaited (usual []) longer (Read path)) in
+  reading_less layer room filed =
+      let awaits = count_more (is_awaited layer longer) names (Read path) in
+      let same = count_same (is_awaited layer longer) (is_awaited layer names) names (λ q i. same_awaited layer q) in
+      let small = at_most_one (is_awaited layer longer (Read path)) in
       let opens = count_more (is_open filed) names (Read path) in
       let kept = at_most_one (is_open filed (Read path)) in
-      omega (arith, early_awaits, early_same, early_small, awaits, same, small, opens, kept)
+      omega (arith, awaits, same, small, opens, kept)
+
+-- Keys of which each stands once in a list: what a test tells of them stands in another list
+
+-- one key less
+abbrev but_for : Key → (Key → Bool) → Key → Bool
+but_for k test q = test q && not (same_key k q)
+
+at_least_none : (b c : Bool) → one_if (b && not c) ≤ one_if b
+at_least_none true true = omega arith
+at_least_none true false = omega arith
+at_least_none false c = omega arith
+
+count_but_for : (test : Key → Bool) (k : Key) (ks : List Key) → count_of (but_for k test) ks ≤ count_of test ks
+count_but_for test k [] = omega arith
+count_but_for test k (j ∷ ks) = let rest = count_but_for test k ks in let here = at_least_none (test j) (same_key k j) in omega (arith, rest, here)
+
+count_without : (test : Key → Bool) (k : Key) → test k ≡ true → (ks : List Key) → In ks k → suc (count_of (but_for k test) ks) ≤ count_of test ks
+count_without test k holds (j ∷ ks) (inl e) =
+    let rest = count_but_for test k ks in
+    let a : one_if (test j) ≡ 1 = ap (λ (z : Key). one_if (test z)) e ∙ ap one_if holds in
+    let b : one_if (but_for k test j) ≡ 0 = ap (λ (z : Key). one_if (but_for k test z)) e ∙ ap one_if (and_not (test k) (same_key k k) (key_own k)) in
+    omega (arith, rest, a, b)
+  where
+    and_not : (c d : Bool) → d ≡ true → (c && not d) ≡ false
+    and_not true d e = ap not e
+    and_not false d e = refl
+count_without test k holds (j ∷ ks) (inr i) =
+    let rest = count_without test k holds ks i in
+    let here = at_least_none (test j) (same_key k j) in
+    omega (arith, rest, here)
+count_without test k holds [] i = absurd i
+
+-- what differs from a key passes that test too
+still_passes : (test : Key → Bool) (k q : Key) → test q ≡ true → (k ≡ q → ⊥) → but_for k test q ≡ true
+still_passes test k q holds apart = by (test q) (same_key k q) refl holds
+  where
+    by : (b c : Bool) → same_key k q ≡ c → b ≡ true → (b && not c) ≡ true
+    by b true e h = absurd (apart (same_key_is k q e))
+    by true false e h = refl
+    by false false e h = absurd (true≢false (sym h))
+
+pub count_among : (test other : Key → Bool) (xs ys : List Key) → IsOnce xs → ((q : Key) → In xs q → test q ≡ true → In ys q × (other q ≡ true)) → count_of test xs ≤ count_of other ys
+count_among test other [] ys once f = omega arith
+count_among test other (x ∷ xs) ys once f = by (test x) refl (λ other2 g. count_among test other2 xs ys once.1 g)
+  where
+    by : (b : Bool) → test x ≡ b → ((other2 : Key → Bool) → ((q : Key) → In xs q → test q ≡ true → In ys q × (other2 q ≡ true)) → count_of test xs ≤ count_of other2 ys)
+        → one_if b + count_of test xs ≤ count_of other ys
+    by true e later =
+        let here = f x (inl refl) e in
+        let rest = later (but_for x other) (λ q i t. (let there = f q (inr i) t in (there.0, still_passes other x q there.1 (λ same. once.0 (subst (λ (z : Key). In xs z) (sym same) i))))) in
+        let less = count_without other x here.1 ys here.0 in
+        omega (arith, rest, less)
+    by false e later = let rest = later other (λ q i t. f q (inr i) t) in omega (arith, rest)
+
+-- and one more key does
+pub count_below : (test other : Key → Bool) (k : Key) (xs ys : List Key) → IsOnce xs → ((q : Key) → In xs q → test q ≡ true → In ys q × (other q ≡ true)) → In ys k → other k ≡ true → test k ≡ false
+    → count_of test xs < count_of other ys
+count_below test other k xs ys once f i holds fails =
+    let rest = count_among test (but_for k other) xs ys once (λ q j t. (let there = f q j t in (there.0, still_passes other k q there.1 (λ same. true≢false (sym t ∙ ap test (sym same) ∙ fails))))) in
+    let less = count_without other k holds ys i in
+    omega (arith, rest, less)

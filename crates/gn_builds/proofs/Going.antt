@@ -9,18 +9,21 @@ use Rattle.gn_outside.specs.Lists.{Extends}
 use Rattle.gn_outside.specs.Sources.{plain_reads}
 use Rattle.gn_runs.specs.Runs.{Question, Content}
 use Rattle.gn_closure.specs.Closure.{In}
+use Rattle.gn_closure.specs.Computed.{is_too_large}
+use Rattle.gn_graph.specs.Needs.{home}
 use Rattle.gn_environment.specs.Chains.{is_one_of}
 use Rattle.gn_executions.specs.Base.{BaseState}
-use Rattle.gn_core.specs.Keys.{Layer, Key, Read, Import, Unit_of, Resolve, Answer, found, no_value, same_key}
+use Rattle.gn_core.specs.Keys.{Layer, Key, Read, Import, Unit_of, Resolve, Answer, found, no_value, same_key, units}
 use Rattle.gn_core.specs.Machine.{State, Block, File, Leads, IsOver, IsOverEvent, read_limit}
 use Rattle.gn_core.proofs.Puts.{put_other}
 use Rattle.gn_book.specs.Keys.{key_of}
 use Rattle.gn_book.specs.Logs.{Log, state_of, key_at, with_key, with_event, IsFree}
 use Rattle.gn_book.specs.declared.book.Claim.{Claim}
-use Rattle.gn_builds.specs.Worlds.{files_of, world_of, content_in}
+use Rattle.gn_projects.specs.Files.{content_in, files_of}
+use Rattle.gn_projects.specs.Worlds.{world_of}
+use Rattle.gn_projects.proofs.Files.{tree_content}
 use Rattle.gn_builds.specs.Working.{IsRightOver, IsInNeed, AsksContent}
-use Rattle.gn_builds.specs.Driving.{IsDriven, keys_of, IsClaim, AreClaims, IsLacked, IsGoing, HasRead, is_read, paths_read, unknown_of, left_to_do, ReadsNumbered, FailsAt, HasTooMany}
-use Rattle.gn_builds.proofs.Layered.{tree_content}
+use Rattle.gn_builds.specs.Driving.{IsDriven, keys_of, IsClaim, AreClaims, IsLacked, IsGoing, HasRead, AreOfLayer, is_read, paths_read, unknown_of, left_to_do, ReadsNumbered, FailsAt, IsLarge}
 use Rattle.gn_builds.proofs.Counts.{any_in}
 use Rattle.gn_builds.proofs.Unknown.{unknown_more, unknown_same}
 use Rattle.gn_builds.proofs.PlainReads.{one_read}
@@ -28,7 +31,7 @@ use Rattle.gn_builds.proofs.ReadPaths.{over_more, paths_more, paths_same, read_n
 use Rattle.gn_builds.proofs.Named.{is_new}
 use Rattle.gn_builds.proofs.Logs.{after_event, key_still, number_still}
 use Rattle.gn_builds.proofs.Stacks.{none_some, first_apart, given_or_kept, leads_first, leads_from}
-use Rattle.gn_builds.proofs.Steps.{needed_lacks, step_settled, step_waits, step_closes}
+use Rattle.gn_builds.proofs.Steps.{needed_lacks, step_settled, driven_settled, less_settled, step_waits, driven_waits, less_waits, step_closes}
 
 -- a key of another claim
 in_keys : (cs : List Claim) (c : Claim) → In cs c → In (keys_of cs) (key_of c.key)
@@ -86,10 +89,10 @@ module _ (start : BaseState) (known : List (List ℕ)) (before now : SourceState
       (λ x i is. filed_claim l (key_of c.key) v x (λ e. first_apart (state_of l) (key_of c.key) (keys_of cs) going.driven.stacked.chained (subst (λ (z : Key). In (keys_of cs) z) e (in_keys cs x i))) is)
       going.claims.1
 
-  pub going_settled : (room : ℕ) → IsRightOver start (state_of l).filed (key_of c.key) v → ((tree : Tree) → before.tree ≡ Some tree → IsOverEvent (world_of (files_of start tree)) (File 0 (key_of c.key) v))
-      → IsGoing start known before now settled_log cs reads × (left_to_do room settled_log < left_to_do room l)
-  going_settled room right over =
-      let step = step_settled start l (key_of c.key) (keys_of cs) v going.driven room right in (
+  pub going_settled : (layer : Layer) (room : ℕ) → IsRightOver start (state_of l).filed (key_of c.key) v → ((tree : Tree) → before.tree ≡ Some tree → IsOverEvent (world_of (files_of start tree)) (File 0 (key_of c.key) v))
+      → IsGoing start known before now settled_log cs reads × (left_to_do layer room settled_log < left_to_do layer room l)
+  going_settled layer room right over =
+      let step = step_settled start l (key_of c.key) (keys_of cs) v going.driven layer room right in (
         record {
           driven = step.0;
           claims = others;
@@ -118,10 +121,10 @@ module _ (start : BaseState) (known : List (List ℕ)) (before now : SourceState
   abbrev taken : Log
   taken = with_event (with_key l (Import m path)) (Block 0 (key_of c.key) (Import m path) place false)
 
-  pub going_waits : (room : ℕ) → IsFree (state_of l) (Import m path) → IsClaim taken other → key_of other.key ≡ Import m path
-      → IsGoing start known before now taken (other ∷ c ∷ cs) reads × (left_to_do room taken < left_to_do room l)
-  going_waits room free claim is =
-      let step = step_waits start l (key_of c.key) (Import m path) (keys_of cs) place asked going.driven need content free.unfiled room free in
+  pub going_waits : (layer : Layer) (room : ℕ) → AreOfLayer layer (keys_of (c ∷ cs)) → IsFree (state_of l) (Import m path) → IsClaim taken other → key_of other.key ≡ Import m path
+      → IsGoing start known before now taken (other ∷ c ∷ cs) reads × (left_to_do layer room taken < left_to_do layer room l)
+  going_waits layer room are free claim is =
+      let step = step_waits start l (key_of c.key) (Import m path) (keys_of cs) place asked going.driven need content free.unfiled layer room are free in
       let more = not_read_more l (Import m path) refl in (
         record {
           driven = subst (λ (z : Key). IsDriven start taken (z ∷ key_of c.key ∷ keys_of cs)) (sym is) step.0;
@@ -158,10 +161,10 @@ module _ (start : BaseState) (known : List (List ℕ)) (before now : SourceState
       ap (λ b. if b then l.keys else l.keys ++ Import m path ∷ [])
       (any_in l.keys (Import m path) (going.driven.named.claimed (Import m path) (leads_from (state_of l) (key_of c.key) (keys_of cs) going.driven.stacked (Import m path) leads)))
 
-  pub going_closes : (room : ℕ) → Leads (state_of l).blocks (Import m path) (key_of c.key)
-      → IsGoing start known before now closed_log cs reads × (left_to_do room closed_log < left_to_do room l)
-  going_closes room leads =
-      let step = step_closes start l (key_of c.key) (Import m path) (keys_of cs) place asked going.driven need content none room leads m path refl in
+  pub going_closes : (layer : Layer) (room : ℕ) → Leads (state_of l).blocks (Import m path) (key_of c.key)
+      → IsGoing start known before now closed_log cs reads × (left_to_do layer room closed_log < left_to_do layer room l)
+  going_closes layer room leads =
+      let step = step_closes start l (key_of c.key) (Import m path) (keys_of cs) place asked going.driven need content none layer room leads m path refl in
       let more = not_read_more l (Import m path) refl in (
         record {
           driven = step.0;
@@ -204,8 +207,11 @@ module _ (start : BaseState) (known : List (List ℕ)) (before was now : SourceS
   grown_paths : paths_read named_log.keys ≡ paths_read l.keys ++ path ∷ []
   grown_paths = ap paths_read grown_keys ∙ paths_more l.keys path
 
-  pub driven_reading : (room : ℕ) → IsDriven start reading (Read path ∷ key_of c.key ∷ keys_of cs) × (left_to_do room reading < left_to_do (suc room) l)
-  driven_reading room = step_waits start l (key_of c.key) (Read path) (keys_of cs) place asked going.driven need tt free.unfiled room free
+  pub driven_reading : IsDriven start reading (Read path ∷ key_of c.key ∷ keys_of cs)
+  driven_reading = driven_waits start l (key_of c.key) (Read path) (keys_of cs) place asked going.driven need tt free.unfiled free
+
+  reading_less : (layer : Layer) (room : ℕ) → left_to_do layer room reading < left_to_do layer (suc room) l
+  reading_less layer room = less_waits start l (key_of c.key) (Read path) (keys_of cs) place asked going.driven need tt free.unfiled free layer room tt
 
   over_reading : (tree : Tree) → before.tree ≡ Some tree → IsOver (world_of (files_of start tree)) reading.events
   over_reading tree told = over_more (world_of (files_of start tree)) l.events (Block 0 (key_of c.key) (Read path) place false) (going.source.over tree told) tt
@@ -213,16 +219,16 @@ module _ (start : BaseState) (known : List (List ℕ)) (before was now : SourceS
   claims_read : (content : Content) → AreClaims (read_log content) (c ∷ cs)
   claims_read content = each_claim l (read_log content) (c ∷ cs) (λ x i has.
       filed_claim reading (Read path) (found content) x
-      (λ e. first_apart (state_of reading) (Read path) (key_of c.key ∷ keys_of cs) (driven_reading 0).0.stacked.chained (subst (λ (z : Key). In (key_of c.key ∷ keys_of cs) z) e (in_keys (c ∷ cs) x i)))
+      (λ e. first_apart (state_of reading) (Read path) (key_of c.key ∷ keys_of cs) driven_reading.stacked.chained (subst (λ (z : Key). In (key_of c.key ∷ keys_of cs) z) e (in_keys (c ∷ cs) x i)))
       (blocked_claim named_log (key_of c.key) (Read path) place false x (named_claim l (Read path) x has))) going.claims
 
-  settled_read : (content : Content) (room : ℕ) → IsDriven start (read_log content) (key_of c.key ∷ keys_of cs) × (left_to_do room (read_log content) < left_to_do room reading)
-  settled_read content room = step_settled start reading (Read path) (key_of c.key ∷ keys_of cs) (found content) (driven_reading room).0 room (content, refl)
+  settled_read : (content : Content) → IsDriven start (read_log content) (key_of c.key ∷ keys_of cs)
+  settled_read content = driven_settled start reading (Read path) (key_of c.key ∷ keys_of cs) (found content) driven_reading (content, refl)
 
-  read_less : (content : Content) (room : ℕ) → left_to_do room (read_log content) < left_to_do (suc room) l
-  read_less content room =
-      let settled = (settled_read content room).1 in
-      let read = (driven_reading room).1 in
+  read_less : (content : Content) (layer : Layer) (room : ℕ) → left_to_do layer room (read_log content) < left_to_do layer (suc room) l
+  read_less content layer room =
+      let settled = less_settled start reading (Read path) (key_of c.key ∷ keys_of cs) (found content) driven_reading layer room in
+      let read = reading_less layer room in
       omega (arith, settled, read)
 
   over_read : (content : Content) → ((tree : Tree) → before.tree ≡ Some tree → content ≡ content_in (read_of tree path)) → (tree : Tree) → before.tree ≡ Some tree → IsOver (world_of (files_of start tree)) (read_log content).events
@@ -234,10 +240,10 @@ module _ (start : BaseState) (known : List (List ℕ)) (before was now : SourceS
     same_paths : unknown_of known (paths_read (read_log content).keys) ≡ unknown_of known (paths_read l.keys)
     same_paths = ap (unknown_of known) grown_paths ∙ unknown_same known (paths_read l.keys) path old
 
-    pub going_takes : (room : ℕ) → IsGoing start known before now (read_log content) (c ∷ cs) reads × (left_to_do room (read_log content) < left_to_do (suc room) l)
-    going_takes room = (
+    pub going_takes : (layer : Layer) (room : ℕ) → IsGoing start known before now (read_log content) (c ∷ cs) reads × (left_to_do layer room (read_log content) < left_to_do layer (suc room) l)
+    going_takes layer room = (
       record {
-        driven = (settled_read content room).0;
+        driven = settled_read content;
         claims = claims_read content;
         source = record {
           tree = ap (λ (s : SourceState). s.tree) same_source ∙ going.source.tree;
@@ -249,7 +255,7 @@ module _ (start : BaseState) (known : List (List ℕ)) (before was now : SourceS
         counted = going.counted ∙ ap (λ (ps : List (List ℕ)). length ps) (sym same_paths);
         few = going.few;
       },
-      read_less content room,
+      read_less content layer room,
     )
 
   -- it wasn't known: what the source has read
@@ -259,18 +265,18 @@ module _ (start : BaseState) (known : List (List ℕ)) (before was now : SourceS
 
     pub read_fails_at : Extends was.reads now.reads (one_read path true ∷ []) → was.faults < now.faults → ReadsNumbered start known before now × FailsAt path before now
     read_fails_at recorded rose = (
-      read_numbered start known before was now l reading (Read path ∷ key_of c.key ∷ keys_of cs) path going.source (driven_reading 0).0 over_reading grown_unknown tree_same true recorded rose,
-      read_fails start known before was now l reading (Read path ∷ key_of c.key ∷ keys_of cs) path going.source (driven_reading 0).0 over_reading grown_unknown tree_same recorded rose,
+      read_numbered start known before was now l reading (Read path ∷ key_of c.key ∷ keys_of cs) path going.source driven_reading over_reading grown_unknown tree_same true recorded rose,
+      read_fails start known before was now l reading (Read path ∷ key_of c.key ∷ keys_of cs) path going.source driven_reading over_reading grown_unknown tree_same recorded rose,
     )
 
     pub read_is_lost : Extends was.reads now.reads (plain_reads (path ∷ [])) ⊎ (now.reads ≡ was.reads) → now.faults ≡ was.faults → ReadsNumbered start known before now × (now.faults ≡ before.faults)
     read_is_lost recorded same =
-        (read_lost start known before was now l reading (Read path ∷ key_of c.key ∷ keys_of cs) path going.source (driven_reading 0).0 over_reading grown_unknown tree_same recorded same, same ∙ going.source.faults)
+        (read_lost start known before was now l reading (Read path ∷ key_of c.key ∷ keys_of cs) path going.source driven_reading over_reading grown_unknown tree_same recorded same, same ∙ going.source.faults)
 
     module _ (content : Content) (is : (tree : Tree) → before.tree ≡ Some tree → content ≡ content_in (read_of tree path)) (recorded : Extends was.reads now.reads (plain_reads (path ∷ []))) (same : now.faults ≡ was.faults) where
       source_read : HasRead start known before now (read_log content)
       source_read =
-          read_known start known before was now l reading (Read path ∷ key_of c.key ∷ keys_of cs) path going.source (driven_reading 0).0 over_reading grown_unknown tree_same recorded same (read_log content) refl (over_read content is)
+          read_known start known before was now l reading (Read path ∷ key_of c.key ∷ keys_of cs) path going.source driven_reading over_reading grown_unknown tree_same recorded same (read_log content) refl (over_read content is)
 
       counted_read : reads + 1 ≡ length (unknown_of known (paths_read (read_log content).keys))
       counted_read =
@@ -278,11 +284,16 @@ module _ (start : BaseState) (known : List (List ℕ)) (before was now : SourceS
           let long : length (unknown_of known (paths_read l.keys) ++ path ∷ []) ≡ length (unknown_of known (paths_read l.keys)) + 1 = length-append (unknown_of known (paths_read l.keys)) (path ∷ []) in
           omega (arith, more, long, going.counted)
 
-      pub going_reads : (room : ℕ) → reads + 1 ≤ read_limit → IsGoing start known before now (read_log content) (c ∷ cs) (reads + 1) × (left_to_do room (read_log content) < left_to_do (suc room) l)
-      going_reads room few = (
-        record { driven = (settled_read content room).0; claims = claims_read content; source = source_read; counted = counted_read; few = few },
-        read_less content room,
+      pub going_reads : (layer : Layer) (room : ℕ) → reads + 1 ≤ read_limit → IsGoing start known before now (read_log content) (c ∷ cs) (reads + 1) × (left_to_do layer room (read_log content) < left_to_do layer (suc room) l)
+      going_reads layer room few = (
+        record { driven = settled_read content; claims = claims_read content; source = source_read; counted = counted_read; few = few },
+        read_less content layer room,
       )
 
-      pub reads_too_many : read_limit < reads + 1 → HasTooMany start known before now
-      reads_too_many many = (read_log content, key_of c.key ∷ keys_of cs, (settled_read content 0).0, source_read, omega (arith, many, counted_read))
+      pub reads_too_many : read_limit < reads + 1 → IsLarge start known before now
+      reads_too_many many = (read_log content, key_of c.key ∷ keys_of cs, settled_read content, source_read, inl (omega (arith, many, counted_read)))
+
+-- more units are reached than in a build may be
+pub reaches_too_many : (start : BaseState) (known : List (List ℕ)) (before now : SourceState) (l : Log) (cs : List Claim) (reads : ℕ) → IsGoing start known before now l cs reads
+    → is_too_large home (units (state_of l).filed) ≡ true → IsLarge start known before now
+reaches_too_many start known before now l cs reads going large = (l, keys_of cs, going.driven, going.source, inr large)

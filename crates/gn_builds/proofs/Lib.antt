@@ -1,6 +1,4 @@
-pub mod Layered
 pub mod Parts
-pub mod Builds
 pub mod Stacks
 pub mod Counts
 pub mod Logs
@@ -9,10 +7,16 @@ pub mod Steps
 pub mod PlainReads
 pub mod ReadPaths
 pub mod Unknown
-pub mod Rest
 pub mod Going
 pub mod Begins
-pub mod Built
-pub mod ImportTables
-pub mod Causes
 pub mod Own
+pub mod Seen
+pub mod Units
+pub mod Members
+pub mod Orders
+pub mod Executions
+pub mod Asked
+pub mod Rest
+pub mod Built
+pub mod Needed
+pub mod Causes

@@ -1,15 +1,13 @@
 -- The steps of loading by one seat keep its keys what they are.
-use Rattle.std.proofs.Common.{◌≡◌, ◌⊎◌, inl, inr, ℕ, zero, suc, ◌<◌, List, [], ◌∷◌, ◌++◌, length, unwrap_or, Some, None, Bool, true, false, if◌then◌else◌, cond, slice_get, refl, sym, ◌∙◌, ap, subst, true≢false, arith}
+use Rattle.std.proofs.Common.{◌≡◌, ◌⊎◌, inl, inr, ℕ, zero, suc, ◌<◌, List, [], ◌∷◌, ◌++◌, length, unwrap_or, Some, None, Bool, true, false, if◌then◌else◌, slice_get, refl, sym, ◌∙◌, ap, subst, true≢false, arith}
 use Rattle.std.specs.List.{list_any}
 use Rattle.gn_closure.specs.Closure.{In}
-use Rattle.gn_closure.specs.Reach.{Unit_key, Done}
 use Rattle.gn_labels.specs.declared.label.Label.{Label}
-use Rattle.gn_core.specs.Keys.{Layer, early, usual, Key, Read, Import, Unit_of, Resolve, Answer, Filed, unit_in, same_key}
+use Rattle.gn_core.specs.Keys.{Layer, Key, Read, Import, Unit_of, Resolve, Answer, Filed, same_key}
 use Rattle.gn_core.specs.Machine.{State, Claim, File, happens, IsFiled}
-use Rattle.gn_core.proofs.Puts.{same_key_is, put_some, put_has, put_own}
+use Rattle.gn_core.proofs.Puts.{put_some, put_has, put_own}
 use Rattle.gn_book.specs.Graphs.{is_unit}
 use Rattle.gn_book.specs.Logs.{Log, with_key}
-use Rattle.gn_builds.specs.Worlds.{nothing_needed}
 use Rattle.gn_builds.specs.Driving.{IsOfKind, AreNamed}
 use Rattle.gn_builds.proofs.Counts.{IsOnce, in_more, in_front, in_new, any_in, in_any}
 
@@ -18,6 +16,11 @@ pub number_of : (xs : List Key) (q : Key) → In xs q → (n : ℕ) × (slice_ge
 number_of (x ∷ xs) q (inl e) = (zero, ap Some e)
 number_of (x ∷ xs) q (inr j) = let rest = number_of xs q j in (suc rest.0, rest.1)
 number_of [] q j = absurd j
+
+pub found_number : (ks : List Key) (n : ℕ) (k : Key) → slice_get ks n ≡ Some k → In ks k
+found_number [] n k e = absurd (cc e)
+found_number (x ∷ ks) zero k e = inl (cc e)
+found_number (x ∷ ks) (suc n) k e = inr (found_number ks n k e)
 
 pub in_at : (ks : List Key) (n : ℕ) → n < length ks → In ks (unwrap_or (slice_get ks n) (Read []))
 in_at [] n less = absurd (omega (arith, less))
@@ -77,19 +80,14 @@ is_new l s ks on named unit apart none = by (list_any (same_key on) l.keys) refl
 -- what an import must be that gets a number
 abbrev pub MayBeNamed : List Key → Key → Type 0
 MayBeNamed names (Read path) = Unit {0}
-MayBeNamed names (Import layer path) = ((layer ≡ early []) ⊎ (layer ≡ usual [])) × In names (Read path)
+MayBeNamed names (Import layer path) = In names (Read path)
 MayBeNamed names (Unit_of unit) = ⊥
 MayBeNamed names (Resolve label) = ⊥
 
 -- a key is claimed behind the others
 module _ (l : Log) (s t : State) (ks : List Key) (on : Key) (named : AreNamed l.keys s ks) (may : MayBeNamed l.keys on) (filed : t.filed ≡ s.filed) where
-  new_import : (layer : Layer) (path : List ℕ) → on ≡ Import layer path → ((layer ≡ early []) ⊎ (layer ≡ usual [])) × In (with_key l on).keys (Read path)
-  new_import layer path e =
-      let is : MayBeNamed l.keys (Import layer path) = subst (MayBeNamed l.keys) e may in
-      (is.0, in_with_old l on (Read path) is.1)
-
-  no_unit : (u : Unit_key) → on ≡ Unit_of u → ⊥
-  no_unit u e = subst (MayBeNamed l.keys) e may
+  new_import : (layer : Layer) (path : List ℕ) → on ≡ Import layer path → In (with_key l on).keys (Read path)
+  new_import layer path e = in_with_old l on (Read path) (subst (MayBeNamed l.keys) e may)
 
   no_label : (label : Label) → on ≡ Resolve label → ⊥
   no_label label e = subst (MayBeNamed l.keys) e may
@@ -107,14 +105,12 @@ module _ (l : Log) (s t : State) (ks : List Key) (on : Key) (named : AreNamed l.
       | inr a ↦ inl (inl a)
     ];
     imports = λ layer path i. elim (in_with l on (Import layer path) i) [
-      | inl a ↦ (let old = named.imports layer path a in (old.0, in_with_old l on (Read path) old.1))
+      | inl a ↦ in_with_old l on (Read path) (named.imports layer path a)
       | inr a ↦ new_import layer path a
     ];
-    units = λ u i. elim (in_with l on (Unit_of u) i) [ inl a ↦ named.units u a | inr a ↦ absurd (no_unit u a) ];
     labels = λ label i. elim (in_with l on (Resolve label) i) [ inl a ↦ named.labels label a | inr a ↦ no_label label a ];
     claimed = λ k i. elim i [ inl e ↦ subst (λ (z : Key). In (with_key l on).keys z) e (in_with_new l on) | inr j ↦ in_with_old l on k (named.claimed k j) ];
     filed = λ k f. in_with_old l on k (named.filed k (same_filed k f));
-    nothing = λ u d e. named.nothing u d (ap (λ (m : Filed). unit_in (m (Unit_of u))) (sym filed) ∙ e);
     kinds = λ k v e. named.kinds k v (ap (λ (m : Filed). m k) (sym filed) ∙ e);
   }
 
@@ -125,11 +121,9 @@ named_still l s t ks on named there filed =
     (record {
       begun = λ k i unit. elim (named.begun k i unit) [ inl a ↦ inl a | inr a ↦ inr (a.0, ap (λ (m : Filed). m k) filed ∙ a.1) ];
       imports = named.imports;
-      units = named.units;
       labels = named.labels;
       claimed = named.claimed;
       filed = λ k f. named.filed k (f.0, ap (λ (m : Filed). m k) (sym filed) ∙ f.1);
-      nothing = λ u d e. named.nothing u d (ap (λ (m : Filed). unit_in (m (Unit_of u))) (sym filed) ∙ e);
       kinds = λ k v e. named.kinds k v (ap (λ (m : Filed). m k) (sym filed) ∙ e);
     })
   where
@@ -138,16 +132,9 @@ named_still l s t ks on named there filed =
     same false e = absurd (true≢false (sym e))
 
 -- the answer of the first key is filed
-module _ (names : List Key) (s : State) (k : Key) (ks : List Key) (v : Answer) (named : AreNamed names s (k ∷ ks)) (plain : (d : Done) → is_unit k ≡ true → unit_in (Some v) ≡ Some (Some d) → d ≡ nothing_needed) (kind : IsOfKind k v) where
+module _ (names : List Key) (s : State) (k : Key) (ks : List Key) (v : Answer) (named : AreNamed names s (k ∷ ks)) (kind : IsOfKind k v) where
   abbrev later : State
   later = happens s (File 0 k v)
-
-  unit_of_key : (u : Unit_key) (d : Done) → unit_in (later.filed (Unit_of u)) ≡ Some (Some d) → d ≡ nothing_needed
-  unit_of_key u d e = by (same_key k (Unit_of u)) refl e
-    where
-      by : (b : Bool) → same_key k (Unit_of u) ≡ b → unit_in (cond b (Some v) (s.filed (Unit_of u))) ≡ Some (Some d) → d ≡ nothing_needed
-      by true same h = plain d (ap is_unit (same_key_is k (Unit_of u) same)) h
-      by false same h = named.nothing u d h
 
   pub named_settled : AreNamed names later ks
   named_settled = record {
@@ -159,11 +146,9 @@ module _ (names : List Key) (s : State) (k : Key) (ks : List Key) (v : Answer) (
       | inr a ↦ inr (put_has s.filed k v q a.0 a.1)
     ];
     imports = named.imports;
-    units = named.units;
     labels = named.labels;
     claimed = λ q i. named.claimed q (inr i);
     filed = λ q f. elim (put_some s.filed k v q f.0 f.1) [ inl a ↦ named.claimed q (inl a.0) | inr a ↦ named.filed q (f.0, a) ];
-    nothing = unit_of_key;
     kinds = λ q y e. elim (put_some s.filed k v q y e) [
       | inl a ↦ subst (λ (z : Answer). IsOfKind q z) a.1 (subst (λ (z : Key). IsOfKind z v) a.0 kind)
       | inr a ↦ named.kinds q y a
@@ -175,10 +160,8 @@ pub named_begun : (names : List Key) (s : State) (k : Key) → AreNamed names s 
 named_begun names s k named there = record {
   begun = λ q i unit. elim (named.begun q i unit) [ inl a ↦ absurd a | inr a ↦ inr a ];
   imports = named.imports;
-  units = named.units;
   labels = named.labels;
   claimed = λ q i. elim i [ inl e ↦ subst (λ (z : Key). In names z) e there | inr j ↦ absurd j ];
   filed = named.filed;
-  nothing = named.nothing;
   kinds = named.kinds;
 }

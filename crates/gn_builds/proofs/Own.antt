@@ -7,12 +7,16 @@ use Rattle.gn_core.specs.Keys.{Key, Read, Import, Unit_of, Resolve, found, Filed
 use Rattle.gn_core.specs.Machine.{State, Event, Claim, Block, File, Stop, happens, replay, NeedsAt, Allowed, Runs, IsOver, IsOverEvent}
 use Rattle.gn_core.proofs.Puts.{key_own, put_own}
 use Rattle.gn_book.specs.Logs.{opening, state_of}
-use Rattle.gn_builds.specs.Worlds.{Files, content_at, world_of, base_of_layer, import_of_layer, unit_of_key}
+use Rattle.gn_projects.specs.Bases.{base_of_layer}
+use Rattle.gn_projects.specs.Files.{Files, content_at, import_of_layer}
+use Rattle.gn_projects.specs.Worlds.{world_of}
+use Rattle.gn_projects.proofs.Files.{import_tree, path_any}
+use Rattle.gn_projects.proofs.Layered.{unit_tree}
+use Rattle.gn_builds.specs.Working.{unit_of_key}
 use Rattle.gn_builds.specs.Driving.{paths_read}
 use Rattle.gn_builds.specs.Own.{content_found, read_by, FilesWereRead}
 use Rattle.gn_builds.proofs.Stacks.{put_else}
-use Rattle.gn_builds.proofs.Layered.{import_tree, unit_tree, path_any}
-use Rattle.gn_builds.proofs.Rest.{in_read}
+use Rattle.gn_builds.proofs.ReadPaths.{in_read}
 
 -- a file that was read is needed no more
 unread : (filed : Filed) (path other : List ℕ) (c : Content) → Read path ≡ Read other → content_in (filed (Read other)) ≡ None → filed (Read path) ≡ Some (found c) → ⊥

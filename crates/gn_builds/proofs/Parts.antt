@@ -2,19 +2,22 @@
 use Rattle.std.proofs.Common.{◌≡◌, ℕ, List, [], Option, Some, None, refl, sym, ◌∙◌, ap, subst}
 use Rattle.gn_paths.specs.declared.place.Place.{Place}
 use Rattle.gn_definitions.specs.Imported.{ImportState}
-use Rattle.gn_runs.specs.Runs.{Question, content_of, import_of, is_unusable, Answers, End, ended, wrong, spoiled, needs, Run, IsTree}
+use Rattle.gn_runs.specs.Runs.{Question, content_of, import_of, is_absent, is_unusable, Answers, End, ended, wrong, spoiled, needs, Run, IsTree}
 use Rattle.gn_runs.specs.Laws.{Below, IsSettled, IsUnknown, IsAsked}
 use Rattle.gn_runs.proofs.TreeLaws.{tree_stays_settled, tree_stays_in_need, tree_spoiled_by_unusable, tree_asks_known}
-use Rattle.gn_closure.specs.Reach.{Unit_key, Setup}
+use Rattle.gn_closure.specs.Reach.{Unit_key}
 use Rattle.gn_executions.specs.Base.{BaseState}
-use Rattle.gn_core.specs.Keys.{Layer, early, usual, Key, Read, Import, Unit_of, Resolve, Answer, no_value, unit_is, Filed, Leaving, UnitLeft, layer_of, key_of, content_in, imported_in, shown}
+use Rattle.gn_core.specs.Keys.{Layer, Key, Read, Import, Unit_of, Resolve, Answer, no_value, unit_is, Filed, Leaving, UnitLeft, layer_of, key_of, content_in, imported_in, shown}
 use Rattle.gn_core.specs.Machine.{State, NeedsAt, IsRight, IsRightImport, ClosesCycle, IsFiled, spoiled_as}
-use Rattle.gn_core.specs.Layered.{IsPart}
+use Rattle.gn_core.specs.Layered.{IsPart, HasLayer}
 use Rattle.gn_core.proofs.Kept.{shown_grows}
-use Rattle.gn_builds.specs.Worlds.{base_filed, base_of_layer, import_of_layer, unit_over, evaluator}
-use Rattle.gn_builds.specs.Working.{over, IsRightOver, IsInNeed, HasBase}
+use Rattle.gn_projects.specs.Bases.{base_of_layer}
+use Rattle.gn_projects.specs.Files.{Files, import_of_layer}
+use Rattle.gn_projects.specs.Worlds.{unit_over}
+use Rattle.gn_projects.proofs.Files.{import_tree}
+use Rattle.gn_projects.proofs.Layered.{unit_tree, whole_builds_are_layered}
+use Rattle.gn_builds.specs.Working.{evaluator, over, IsRightOver, IsInNeed}
 use Rattle.gn_builds.specs.Laws.{PartsGiveAnswers, PartsGiveNeeds, NeededImportsAreRead, CyclesHaveNoValue, TreesDontMatter}
-use Rattle.gn_builds.proofs.Layered.{import_tree, unit_tree}
 
 unknown_at : (filed : Filed) (l : Layer) (q : Question) → filed (key_of l q) ≡ None → IsUnknown (shown filed l) q
 unknown_at filed l (content_of path) h = rw h refl
@@ -28,10 +31,19 @@ same_import part filed l q le h = by (part (Import l q)) refl h
     by None e i = absurd (cc i)
     by (Some v) e i = le (Import l q) v e
 
--- what stands beneath the files behind the build configuration is the same over all that is filed
-pub same_base : (start : BaseState) (part filed : Filed) (l : Layer) → IsPart part filed → HasBase part l → base_of_layer start filed l ≡ base_of_layer start part l
-same_base start part filed (early toolchain) le has = refl
-same_base start part filed (usual toolchain) le has = ap (base_filed start) (le (Unit_of (Setup [])) (unit_is has.1) has.2 ∙ sym has.2)
+-- an evaluation whose part has all that it sees is the same over all that is filed
+abbrev no_files : BaseState → Files
+no_files start = record { start = start; given = λ path. is_absent; paths = [] }
+
+import_same : (start : BaseState) (part filed : Filed) (l : Layer) (path : List ℕ) → IsPart part filed → HasLayer (evaluator start) part l → (a : Answers)
+    → import_of_layer (base_of_layer start filed l) l path a ≡ import_of_layer (base_of_layer start part l) l path a
+import_same start part filed l path le has a =
+    ap (λ (m : Answers → Run (Leaving ImportState)). m a) ((whole_builds_are_layered (no_files start)).imports_based l path part filed has le)
+
+unit_same : (start : BaseState) (part filed : Filed) (k : Unit_key) → IsPart part filed → HasLayer (evaluator start) part (layer_of k) → (a : Answers)
+    → unit_over (base_of_layer start filed (layer_of k)) k a ≡ unit_over (base_of_layer start part (layer_of k)) k a
+unit_same start part filed k le has a =
+    ap (λ (m : Answers → Run (Leaving UnitLeft)). m a) ((whole_builds_are_layered (no_files start)).units_based k part filed has le)
 
 import_parts : (base : BaseState) (part : Filed) (s : State) (l : Layer) (path : List ℕ) (v : Answer) → IsPart part s.filed
     → IsRightImport (over part) l path (import_of_layer base l path (shown part l)) (import_of_layer base l path (shown part l)).end v
@@ -73,11 +85,11 @@ unit_parts base part s k v le right =
 pub parts_give_answers : PartsGiveAnswers
 parts_give_answers start part s (Read path) v le seen right = right
 parts_give_answers start part s (Import l path) v le seen right =
-    subst (λ (base : BaseState). IsRightImport s l path (import_of_layer base l path (shown s.filed l)) (import_of_layer base l path (shown s.filed l)).end v)
-    (sym (same_base start part s.filed l le seen)) (import_parts (base_of_layer start part l) part s l path v le right)
+    subst (λ (run : Run (Leaving ImportState)). IsRightImport s l path run run.end v) (sym (import_same start part s.filed l path le seen (shown s.filed l)))
+    (import_parts (base_of_layer start part l) part s l path v le right)
 parts_give_answers start part s (Unit_of k) v le seen right =
-    subst (λ (base : BaseState). IsSettled (unit_over base k (shown s.filed (layer_of k))).end × (v ≡ unit_is (unit_over base k (shown s.filed (layer_of k)))))
-    (sym (same_base start part s.filed (layer_of k) le seen)) (unit_parts (base_of_layer start part (layer_of k)) part s k v le right)
+    subst (λ (run : Run (Leaving UnitLeft)). IsSettled run.end × (v ≡ unit_is run)) (sym (unit_same start part s.filed k le seen (shown s.filed (layer_of k))))
+    (unit_parts (base_of_layer start part (layer_of k)) part s k v le right)
 parts_give_answers start part s (Resolve label) v le seen right = right
 
 -- what a run needs over a part and isn't filed it needs over all that is filed
@@ -96,15 +108,13 @@ parts_give_needs start part filed (Read path) on place asked le seen lacks need 
 parts_give_needs start part filed (Import l path) on place asked le seen lacks need =
     let q : Question = need.0 in
     let still = needs_still (λ a. import_of_layer (base_of_layer start part l) l path a) part filed l on place asked (import_tree (base_of_layer start part l) l path) le lacks need in
-    let moved = subst (λ (base : BaseState). ((import_of_layer base l path (shown filed l)).end ≡ needs q place) × ((import_of_layer base l path (shown filed l)).asked ≡ asked))
-    (sym (same_base start part filed l le seen)) still in
+    let moved = subst (λ (run : Run (Leaving ImportState)). (run.end ≡ needs q place) × (run.asked ≡ asked)) (sym (import_same start part filed l path le seen (shown filed l))) still in
     ((q, need.1, moved.0), (q, need.1, moved.0, moved.1))
 parts_give_needs start part filed (Unit_of k) on place asked le seen lacks need =
     let q : Question = need.0 in
     let l : Layer = layer_of k in
     let still = needs_still (λ a. unit_over (base_of_layer start part l) k a) part filed l on place asked (unit_tree (base_of_layer start part l) k) le lacks need in
-    let moved = subst (λ (base : BaseState). ((unit_over base k (shown filed l)).end ≡ needs q place) × ((unit_over base k (shown filed l)).asked ≡ asked))
-    (sym (same_base start part filed l le seen)) still in
+    let moved = subst (λ (run : Run (Leaving UnitLeft)). (run.end ≡ needs q place) × (run.asked ≡ asked)) (sym (unit_same start part filed k le seen (shown filed l))) still in
     ((q, need.1, moved.0), (q, need.1, moved.0, moved.1))
 parts_give_needs start part filed (Resolve label) on place asked le seen lacks need = absurd need
 

@@ -1,17 +1,23 @@
 -- What a source has read while loading went on.
 use Rattle.std.proofs.Common.{◌≡◌, ◌⊎◌, inl, inr, ℕ, ◌<◌, List, [], ◌∷◌, ◌++◌, length, Option, Some, None, Bool, true, false, refl, sym, ◌∙◌, ap, subst, append_assoc, append-nil, arith}
 use Rattle.std.specs.Prelude.{option_map, IsSome}
+use Rattle.std.specs.List.{IsDistinct, AllByRecursion}
 use Rattle.gn_outside.specs.Tree.{Tree}
 use Rattle.gn_outside.specs.States.{SourceRead, SourceState}
 use Rattle.gn_outside.specs.Lists.{Extends}
 use Rattle.gn_outside.specs.Sources.{CountsFailures, plain_reads}
+use Rattle.gn_imports.specs.Projects.{IsOneOf}
+use Rattle.gn_imports.proofs.PathOrder.{path_eq, path_eq-Decides}
+use Rattle.gn_closure.specs.Closure.{In}
 use Rattle.gn_executions.specs.Base.{BaseState}
 use Rattle.gn_core.specs.Keys.{Key, Read, Import, Unit_of, Resolve}
 use Rattle.gn_core.specs.Worlds.{World}
 use Rattle.gn_core.specs.Machine.{Event, IsOver, IsOverEvent}
 use Rattle.gn_book.specs.Logs.{Log}
-use Rattle.gn_builds.specs.Worlds.{files_of, world_of}
+use Rattle.gn_projects.specs.Files.{files_of}
+use Rattle.gn_projects.specs.Worlds.{world_of}
 use Rattle.gn_builds.specs.Driving.{IsDriven, count_of, is_read, paths_read, unknown_of, HasRead, ReadsNumbered, FailsAt}
+use Rattle.gn_builds.proofs.Counts.{IsOnce}
 use Rattle.gn_builds.proofs.PlainReads.{one_read, ended_by, paths-plain, stops-plain, none-plain, paths-ended, stops-ended, some-ended, plain-ended}
 
 -- what was told goes on
@@ -47,6 +53,43 @@ paths_counted (Read path ∷ ks) = let rest = paths_counted ks in omega (arith, 
 paths_counted (Import layer path ∷ ks) = let rest = paths_counted ks in omega (arith, rest)
 paths_counted (Unit_of unit ∷ ks) = let rest = paths_counted ks in omega (arith, rest)
 paths_counted (Resolve label ∷ ks) = let rest = paths_counted ks in omega (arith, rest)
+
+-- the paths of the reads among keys, each of which stands once
+
+pub read_in : (ks : List Key) (path : List ℕ) → IsOneOf path (paths_read ks) → In ks (Read path)
+read_in [] path i = absurd i
+read_in (Read other ∷ ks) path (inl e) = inl (ap Read (sym e))
+read_in (Read other ∷ ks) path (inr i) = inr (read_in ks path i)
+read_in (Import layer other ∷ ks) path i = inr (read_in ks path i)
+read_in (Unit_of unit ∷ ks) path i = inr (read_in ks path i)
+read_in (Resolve label ∷ ks) path i = inr (read_in ks path i)
+
+pub in_read : (ks : List Key) (path : List ℕ) → In ks (Read path) → IsOneOf path (paths_read ks)
+in_read [] path i = absurd i
+in_read (Read other ∷ ks) path (inl e) = let same : other ≡ path = cc e in inl (sym same)
+in_read (Read other ∷ ks) path (inr i) = inr (in_read ks path i)
+in_read (Import layer other ∷ ks) path (inl e) = absurd (cc e)
+in_read (Import layer other ∷ ks) path (inr i) = in_read ks path i
+in_read (Unit_of unit ∷ ks) path (inl e) = absurd (cc e)
+in_read (Unit_of unit ∷ ks) path (inr i) = in_read ks path i
+in_read (Resolve label ∷ ks) path (inl e) = absurd (cc e)
+in_read (Resolve label ∷ ks) path (inr i) = in_read ks path i
+
+apart_paths : (q : List ℕ) (rs : List (List ℕ)) → (IsOneOf q rs → ⊥) → AllByRecursion (λ y. path_eq q y ≡ false) rs
+apart_paths q [] none = tt
+apart_paths q (r ∷ rs) none = (not_same (path_eq q r) refl, apart_paths q rs (λ o. none (inr o)))
+  where
+    not_same : (b : Bool) → path_eq q r ≡ b → b ≡ false
+    not_same true e = absurd (none (inl ((path_eq-Decides q r).0 e)))
+    not_same false e = refl
+
+pub reads_distinct : (ks : List Key) → IsOnce ks → IsDistinct path_eq (paths_read ks)
+unfolding IsDistinct
+reads_distinct [] o = tt
+reads_distinct (Read path ∷ ks) o = (apart_paths path (paths_read ks) (λ i. o.0 (read_in ks path i)), reads_distinct ks o.1)
+reads_distinct (Import layer path ∷ ks) o = reads_distinct ks o.1
+reads_distinct (Unit_of unit ∷ ks) o = reads_distinct ks o.1
+reads_distinct (Resolve label ∷ ks) o = reads_distinct ks o.1
 
 -- one more event over a tree
 pub over_more : (w : World) (es : List Event) (e : Event) → IsOver w es → IsOverEvent w e → IsOver w (es ++ e ∷ [])

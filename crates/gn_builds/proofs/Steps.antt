@@ -1,7 +1,6 @@
--- The steps of loading by one seat: each is allowed, and leaves less to do.
-use Rattle.std.proofs.Common.{◌≡◌, ◌⊎◌, inl, inr, ◌↔◌, ℕ, suc, ◌<◌, List, [], ◌∷◌, ◌++◌, slice_get, Option, Some, None, Bool, true, false, if◌then◌else◌, refl, sym, ◌∙◌, ap, subst, true≢false}
+-- The steps of loading by one seat: each is allowed, and leaves less to do on the unit of a layer.
+use Rattle.std.proofs.Common.{◌≡◌, inl, inr, ◌↔◌, ℕ, suc, ◌<◌, List, [], ◌∷◌, ◌++◌, slice_get, Option, Some, None, Bool, true, false, if◌then◌else◌, refl, sym, ◌∙◌, ap, subst, true≢false}
 use Rattle.std.specs.List.{list_any}
-use Rattle.std.proofs.lemmas.Option.{same_Some}
 use Rattle.gn_paths.specs.declared.place.Place.{Place}
 use Rattle.gn_definitions.specs.Imported.{ImportState}
 use Rattle.gn_runs.specs.Runs.{Question, content_of, import_of, Content, Imported, has_value, is_unusable, End, ended, wrong, spoiled, needs, Run}
@@ -9,8 +8,8 @@ use Rattle.gn_runs.specs.Laws.{IsUnknown}
 use Rattle.gn_runs.proofs.TreeLaws.{tree_needs_unknown}
 use Rattle.gn_imports.specs.Rounds.{imported_of}
 use Rattle.gn_closure.specs.Closure.{In}
-use Rattle.gn_closure.specs.Reach.{Unit_key, Setup, Load, Done}
-use Rattle.gn_core.specs.Keys.{Layer, early, usual, Key, Read, Import, Unit_of, Resolve, Answer, found, import_is, no_value, unit_is, record_is, Leaving, UnitLeft, Filed, content_in, imported_in, unit_in, done_in, seen_end, key_of, layer_of, shown, put, same_key}
+use Rattle.gn_closure.specs.Reach.{Unit_key}
+use Rattle.gn_core.specs.Keys.{Layer, Key, Read, Import, Unit_of, Resolve, Answer, found, import_is, no_value, unit_is, record_is, Leaving, Filed, content_in, imported_in, seen_end, key_of, layer_of, shown, put, same_key}
 use Rattle.gn_core.specs.Machine.{State, Event, Claim, Block, File, happens, Leads, NeedsAt, Allowed, Runs, IsRight, IsRightImport, spoiled_as, ClosesCycle}
 use Rattle.gn_core.proofs.Puts.{put_own}
 use Rattle.gn_book.specs.Graphs.{is_unit, UnitsHaveNumbers}
@@ -18,33 +17,22 @@ use Rattle.gn_book.specs.Logs.{Log, opening, state_of, with_key, with_event, key
 use Rattle.gn_book.specs.Next.{IsReadyNumber}
 use Rattle.gn_book.specs.Tasks.{is_task}
 use Rattle.gn_executions.specs.Base.{BaseState}
-use Rattle.gn_builds.specs.Worlds.{Files, evaluator, world_of, base_of_layer, import_of_layer, unit_over, unit_of_key, nothing_needed}
-use Rattle.gn_builds.specs.Working.{over, IsRightOver, IsInNeed, AsksContent}
+use Rattle.gn_projects.specs.Bases.{base_of_layer}
+use Rattle.gn_projects.specs.Files.{Files, import_of_layer}
+use Rattle.gn_projects.specs.Worlds.{unit_over, world_of}
+use Rattle.gn_projects.proofs.Files.{import_tree}
+use Rattle.gn_projects.proofs.Layered.{unit_tree}
+use Rattle.gn_builds.specs.Working.{evaluator, over, IsRightOver, IsInNeed, AsksContent}
 use Rattle.gn_builds.specs.Stacks.{IsAskable, MayWait, IsStacked, TopIsReady}
-use Rattle.gn_builds.specs.Driving.{IsOfKind, AreNamed, IsDriven, remaining, left_to_do}
-use Rattle.gn_builds.proofs.Builds.{unit_nothing}
-use Rattle.gn_builds.proofs.Layered.{import_tree, unit_tree}
+use Rattle.gn_builds.specs.Driving.{IsOfKind, AreNamed, IsDriven, IsOfLayer, AreOfLayer, remaining, left_to_do}
 use Rattle.gn_builds.proofs.Logs.{after_event, event_runs, still_differ}
 use Rattle.gn_builds.proofs.Parts.{own_answers, own_needs, needed_imports_are_read, cycles_have_no_value, trees_dont_matter}
 use Rattle.gn_builds.proofs.Stacks.{none_some, not_unit, begun, waiting_on, closing, settled, leads_from, unit_closes_none}
 use Rattle.gn_builds.proofs.Named.{number_of, once, MayBeNamed, is_new, named_more, named_still, named_settled, named_begun}
-use Rattle.gn_builds.proofs.Counts.{any_in, settled_less, early_less, usual_less, reading_less}
+use Rattle.gn_builds.proofs.Counts.{any_in, settled_less, import_less, reading_less}
 
 abbrev DifferIn : List Key → Type 0
 DifferIn ks = (i j : ℕ) (q : Key) → slice_get ks i ≡ Some q → slice_get ks j ≡ Some q → i ≡ j
-
--- a unit that has an answer needs nothing
-unit_plain : (start : BaseState) (part : Filed) (u : Unit_key) (v : Answer) (d : Done) → v ≡ unit_is (unit_of_key start part u (shown part (layer_of u))) → unit_in (Some v) ≡ Some (Some d) → d ≡ nothing_needed
-unit_plain start part u v d is h =
-    let run : Run (Leaving UnitLeft) = unit_of_key start part u (shown part (layer_of u)) in
-    let same : Some (done_in run.end) ≡ Some (Some d) = ap (λ (x : Answer). unit_in (Some x)) (sym is) ∙ h in
-    unit_nothing (base_of_layer start part (layer_of u)) u (shown part (layer_of u)) d (same_Some (done_in run.end) (Some d) same)
-
-plain : (start : BaseState) (part : Filed) (k : Key) (v : Answer) → IsRightOver start part k v → (d : Done) → is_unit k ≡ true → unit_in (Some v) ≡ Some (Some d) → d ≡ nothing_needed
-plain start part (Read path) v right d unit h = absurd (true≢false (sym unit))
-plain start part (Import layer path) v right d unit h = absurd (true≢false (sym unit))
-plain start part (Unit_of u) v right d unit h = unit_plain start part u v d right.1 h
-plain start part (Resolve label) v right d unit h = absurd (true≢false (sym unit))
 
 -- a right answer is of the kind of its key
 spoiled_kind : (x : Option Answer) (q : List ℕ) (p : Place) (run : Run (Leaving ImportState)) → run.end ≡ spoiled q p → imported_in (Some (spoiled_as x q p run)) ≡ Some is_unusable
@@ -81,31 +69,38 @@ module _ (start : BaseState) (l : Log) (k : Key) (ks : List Key) (v : Answer) (d
   filed_state : (P : State → Type 0) → P (happens (state_of l) filed_event) → P (state_of filed_log)
   filed_state P p = subst P (sym (after_event l filed_event)) p
 
-  pub step_settled : (room : ℕ) → IsRightOver start (state_of l).filed k v → IsDriven start filed_log ks × (left_to_do room filed_log < left_to_do room l)
-  step_settled room right =
+  pub driven_settled : IsRightOver start (state_of l).filed k v → IsDriven start filed_log ks
+  driven_settled right =
       let rest = settled (state_of l) k ks v d.stacked in
       let allowed : (files : Files) → files.start ≡ start → Allowed (world_of files) (λ path. false) (state_of l) filed_event =
       λ files same. (
         d.stacked.held k (inl refl),
         trees_dont_matter files (state_of l) k v (subst (λ (b : BaseState). IsRight (evaluator b) (state_of l).filed (state_of l) k v) (sym same) (own_answers start (state_of l) k v right)),
-      ) in (
-        record {
-          seats = d.seats;
-          apart = d.apart;
-          runs = λ files same. event_runs (world_of files) (λ path. false) l filed_event (d.runs files same) (allowed files same);
-          stacked = filed_state (λ s. IsStacked s ks) rest.0;
-          ready = filed_state (λ s. TopIsReady s ks) rest.1;
-          named = filed_state (λ s. AreNamed l.keys s ks) (named_settled l.keys (state_of l) k ks v d.named (λ x unit h. plain start (state_of l).filed k v right x unit h) (right_kind start (state_of l).filed k v right));
-        },
-        filed_state (λ s. remaining room l.keys s.filed < left_to_do room l) (settled_less room l.keys (state_of l).filed k v (d.stacked.unfiled k (inl refl)) (once l.keys d.apart) (d.named.claimed k (inl refl))),
-      )
+      ) in
+      record {
+        seats = d.seats;
+        apart = d.apart;
+        runs = λ files same. event_runs (world_of files) (λ path. false) l filed_event (d.runs files same) (allowed files same);
+        stacked = filed_state (λ s. IsStacked s ks) rest.0;
+        ready = filed_state (λ s. TopIsReady s ks) rest.1;
+        named = filed_state (λ s. AreNamed l.keys s ks) (named_settled l.keys (state_of l) k ks v d.named (right_kind start (state_of l).filed k v right));
+      }
+
+  pub less_settled : (layer : Layer) (room : ℕ) → left_to_do layer room filed_log < left_to_do layer room l
+  less_settled layer room =
+      filed_state (λ s. remaining layer room l.keys s.filed < left_to_do layer room l)
+      (settled_less layer room l.keys (state_of l).filed k v (d.stacked.unfiled k (inl refl)) (once l.keys d.apart) (d.named.claimed k (inl refl)))
+
+  pub step_settled : (layer : Layer) (room : ℕ) → IsRightOver start (state_of l).filed k v → IsDriven start filed_log ks × (left_to_do layer room filed_log < left_to_do layer room l)
+  step_settled layer room right = (driven_settled right, less_settled layer room)
 
 -- a unit is taken up
 pub step_begun : (start : BaseState) (l : Log) (n : ℕ) → IsDriven start l [] → UnitsHaveNumbers l → IsReadyNumber l n → In l.keys (key_at l n)
-    → IsDriven start (with_event l (Claim 0 (key_at l n))) (key_at l n ∷ []) × ((room : ℕ) → left_to_do room (with_event l (Claim 0 (key_at l n))) ≡ left_to_do room l)
+    → IsDriven start (with_event l (Claim 0 (key_at l n))) (key_at l n ∷ []) × ((layer : Layer) (room : ℕ) → left_to_do layer room (with_event l (Claim 0 (key_at l n))) ≡ left_to_do layer room l)
 step_begun start l n d numbers ready there = by (key_at l n) refl ready.task ready.free there
   where
-    by : (k : Key) → key_at l n ≡ k → is_task k ≡ true → IsFree (state_of l) k → In l.keys k → IsDriven start (with_event l (Claim 0 k)) (k ∷ []) × ((room : ℕ) → left_to_do room (with_event l (Claim 0 k)) ≡ left_to_do room l)
+    by : (k : Key) → key_at l n ≡ k → is_task k ≡ true → IsFree (state_of l) k → In l.keys k → IsDriven start (with_event l (Claim 0 k)) (k ∷ [])
+        × ((layer : Layer) (room : ℕ) → left_to_do layer room (with_event l (Claim 0 k)) ≡ left_to_do layer room l)
     by (Read path) e task free i = absurd (true≢false (sym task))
     by (Import layer path) e task free i = absurd (true≢false (sym task))
     by (Resolve label) e task free i = absurd (d.named.labels label i)
@@ -121,7 +116,7 @@ step_begun start l n d numbers ready there = by (key_at l n) refl ready.task rea
             ready = subst (λ s. TopIsReady s (Unit_of u ∷ [])) (sym state) one.1;
             named = subst (λ s. AreNamed l.keys s (Unit_of u ∷ [])) (sym state) (named_begun l.keys (state_of l) (Unit_of u) d.named i);
           },
-          λ room. ap (λ (s : State). remaining room l.keys s.filed) state,
+          λ layer room. ap (λ (s : State). remaining layer room l.keys s.filed) state,
         )
 
 -- what is needed over what is filed is the same over every tree
@@ -157,29 +152,32 @@ same_layer_asked : (m n : Layer) (q : Question) (path : List ℕ) → Import n p
 same_layer_asked m n (content_of other) path e = absurd (cc e)
 same_layer_asked m n (import_of other) path e = let same : n ≡ m = cc e in same
 
-pub needed_layer : (start : BaseState) (names : List Key) (s : State) (ks : List Key) (k : Key) (n : Layer) (path : List ℕ) (place : Place) (asked : List Question)
-    → AreNamed names s ks → In names k → IsInNeed start s.filed k (Import n path) place asked → (n ≡ early []) ⊎ (n ≡ usual [])
-needed_layer start names s ks (Read p) n path place asked named i need = absurd need
-needed_layer start names s ks (Import m p) n path place asked named i need =
-    let same = same_layer_asked m n need.0 path need.1 in
-    elim (named.imports m p i).0 [ inl e ↦ inl (same ∙ e) | inr e ↦ inr (same ∙ e) ]
-needed_layer start names s ks (Unit_of (Setup t)) n path place asked named i need =
-    elim (named.units (Setup t) i) [
-      | inl e ↦ (let same : t ≡ [] = cc e in inl (same_layer_asked (early t) n need.0 path need.1 ∙ ap early same))
-      | inr e ↦ absurd (cc e)
-    ]
-needed_layer start names s ks (Unit_of (Load dir t)) n path place asked named i need =
-    elim (named.units (Load dir t) i) [
-      | inl e ↦ absurd (cc e)
-      | inr e ↦ (let same : t ≡ [] = cc e in inr (same_layer_asked (usual t) n need.0 path need.1 ∙ ap usual same))
-    ]
-needed_layer start names s ks (Resolve label) n path place asked named i need = absurd need
+of_layer_asked : (layer m : Layer) (q : Question) → m ≡ layer → IsOfLayer layer (key_of m q)
+of_layer_asked layer m (content_of other) same = tt
+of_layer_asked layer m (import_of other) same = same
+
+pub needed_of_layer : (start : BaseState) (part : Filed) (layer : Layer) (k on : Key) (place : Place) (asked : List Question) → IsOfLayer layer k → IsInNeed start part k on place asked → IsOfLayer layer on
+needed_of_layer start part layer (Read p) on place asked is need = absurd need
+needed_of_layer start part layer (Import m p) on place asked is need = subst (IsOfLayer layer) (sym need.1) (of_layer_asked layer m need.0 is)
+needed_of_layer start part layer (Unit_of u) on place asked is need = subst (IsOfLayer layer) (sym need.1) (of_layer_asked layer (layer_of u) need.0 is)
+needed_of_layer start part layer (Resolve label) on place asked is need = absurd need
+
+-- what the first key needs is of the layer of the keys
+pub needed_are_of_layer : (start : BaseState) (part : Filed) (layer : Layer) (k on : Key) (ks : List Key) (place : Place) (asked : List Question) → AreOfLayer layer (k ∷ ks)
+    → IsInNeed start part k on place asked → AreOfLayer layer (on ∷ k ∷ ks)
+needed_are_of_layer start part layer k on ks place asked are need = λ q i. elim i [
+  | inl e ↦ subst (IsOfLayer layer) e (needed_of_layer start part layer k on place asked (are k (inl refl)) need)
+  | inr j ↦ are q j
+]
+
+-- a unit is of its layer
+pub unit_of_layer : (u : Unit_key) → AreOfLayer (layer_of u) (Unit_of u ∷ [])
+unit_of_layer u = λ q i. elim i [ inl e ↦ subst (IsOfLayer (layer_of u)) e refl | inr j ↦ absurd j ]
 
 may_be_named : (start : BaseState) (names : List Key) (s : State) (ks : List Key) (k on : Key) (place : Place) (asked : List Question)
     → AreNamed names s ks → In names k → IsInNeed start s.filed k on place asked → AsksContent on asked → MayBeNamed names on
 may_be_named start names s ks k (Read path) place asked named i need content = tt
-may_be_named start names s ks k (Import n path) place asked named i need content =
-    (needed_layer start names s ks k n path place asked named i need, named.filed (Read path) (needed_imports_are_read start s.filed k n path place asked need content))
+may_be_named start names s ks k (Import n path) place asked named i need content = named.filed (Read path) (needed_imports_are_read start s.filed k n path place asked need content)
 may_be_named start names s ks k (Unit_of u) place asked named i need content = needed_askable start k (Unit_of u) s.filed place asked need
 may_be_named start names s ks k (Resolve label) place asked named i need content = needed_askable start k (Resolve label) s.filed place asked need
 
@@ -247,35 +245,45 @@ module _ (start : BaseState) (l : Log) (k on : Key) (ks : List Key) (place : Pla
   grown : list_any (same_key on) l.keys ≡ false → more.keys ≡ l.keys ++ on ∷ []
   grown new = ap (λ b. if b then l.keys else l.keys ++ on ∷ []) new
 
-  less_by : (room : ℕ) (q : Key) → MayBeNamed l.keys q → list_any (same_key q) l.keys ≡ false → remaining room (l.keys ++ q ∷ []) (state_of l).filed < remaining (room_before q room) l.keys (state_of l).filed
-  less_by room (Read path) may new = reading_less l.keys path room (state_of l).filed
-  less_by room (Import n path) may new = elim may.0 [
-    | inl e ↦ subst (λ (m : Layer). remaining room (l.keys ++ Import m path ∷ []) (state_of l).filed < remaining room l.keys (state_of l).filed) (sym e)
-        (early_less room l.keys path (subst (λ (m : Layer). list_any (same_key (Import m path)) l.keys ≡ false) e new) (once l.keys d.apart) may.1 (state_of l).filed)
-    | inr e ↦ subst (λ (m : Layer). remaining room (l.keys ++ Import m path ∷ []) (state_of l).filed < remaining room l.keys (state_of l).filed) (sym e)
-        (usual_less room l.keys path (subst (λ (m : Layer). list_any (same_key (Import m path)) l.keys ≡ false) e new) (once l.keys d.apart) may.1 (state_of l).filed)
-  ]
-  less_by room (Unit_of u) may new = absurd may
-  less_by room (Resolve label) may new = absurd may
+  less_by : (layer : Layer) (room : ℕ) (q : Key) → IsOfLayer layer q → MayBeNamed l.keys q → list_any (same_key q) l.keys ≡ false
+      → remaining layer room (l.keys ++ q ∷ []) (state_of l).filed < remaining layer (room_before q room) l.keys (state_of l).filed
+  less_by layer room (Read path) is may new = reading_less l.keys path layer room (state_of l).filed
+  less_by layer room (Import n path) is may new =
+      subst (λ (m : Layer). remaining m room (l.keys ++ Import n path ∷ []) (state_of l).filed < remaining m room l.keys (state_of l).filed) is
+      (import_less n room l.keys path new (once l.keys d.apart) may (state_of l).filed)
+  less_by layer room (Unit_of u) is may new = absurd may
+  less_by layer room (Resolve label) is may new = absurd may
 
-  pub step_waits : (room : ℕ) → IsFree (state_of l) on → IsDriven start waiting_log (on ∷ k ∷ ks) × (left_to_do room waiting_log < left_to_do (room_before on room) l)
-  step_waits room free =
-      let apart : In (k ∷ ks) on → ⊥ = λ i. none_some ((state_of l).claims on) 0 free.unclaimed (d.stacked.held on i) in
-      let may = may_be_named start l.keys (state_of l) (k ∷ ks) k on place asked d.named (d.named.claimed k (inl refl)) need content in
-      let new = is_new l (state_of l) (k ∷ ks) on d.named (not_unit on askable) apart none in
-      let next = waiting_on (state_of l) k on ks place d.stacked (needing_waits start k on (state_of l).filed place asked need) askable free in (
+  module _ (free : IsFree (state_of l) on) where
+    on_apart : In (k ∷ ks) on → ⊥
+    on_apart i = none_some ((state_of l).claims on) 0 free.unclaimed (d.stacked.held on i)
+
+    on_may : MayBeNamed l.keys on
+    on_may = may_be_named start l.keys (state_of l) (k ∷ ks) k on place asked d.named (d.named.claimed k (inl refl)) need content
+
+    on_new : list_any (same_key on) l.keys ≡ false
+    on_new = is_new l (state_of l) (k ∷ ks) on d.named (not_unit on askable) on_apart none
+
+    pub driven_waits : IsDriven start waiting_log (on ∷ k ∷ ks)
+    driven_waits =
+        let next = waiting_on (state_of l) k on ks place d.stacked (needing_waits start k on (state_of l).filed place asked need) askable free in
         record {
           seats = d.seats;
-          apart = subst (λ (z : List Key). DifferIn z) (sym (grown new)) (still_differ l.keys on new d.apart);
+          apart = subst (λ (z : List Key). DifferIn z) (sym (grown on_new)) (still_differ l.keys on on_new d.apart);
           runs = λ files same. event_runs (world_of files) (λ path. false) more wait_event (d.runs files same)
-              (allowed_block false ((λ e. absurd (true≢false (sym e))), (λ leads. absurd (apart (leads_from (state_of l) k ks d.stacked on leads)))) files same);
+              (allowed_block false ((λ e. absurd (true≢false (sym e))), (λ leads. absurd (on_apart (leads_from (state_of l) k ks d.stacked on leads)))) files same);
           stacked = waiting_state (λ s. IsStacked s (on ∷ k ∷ ks)) next.0;
           ready = waiting_state (λ s. TopIsReady s (on ∷ k ∷ ks)) next.1;
-          named = waiting_state (λ s. AreNamed more.keys s (on ∷ k ∷ ks)) (named_more l (state_of l) (happens (state_of l) wait_event) (k ∷ ks) on d.named may refl);
-        },
-        waiting_state (λ s. remaining room more.keys s.filed < left_to_do (room_before on room) l)
-            (subst (λ (z : List Key). remaining room z (state_of l).filed < left_to_do (room_before on room) l) (sym (grown new)) (less_by room on may new)),
-      )
+          named = waiting_state (λ s. AreNamed more.keys s (on ∷ k ∷ ks)) (named_more l (state_of l) (happens (state_of l) wait_event) (k ∷ ks) on d.named on_may refl);
+        }
+
+    pub less_waits : (layer : Layer) (room : ℕ) → IsOfLayer layer on → left_to_do layer room waiting_log < left_to_do layer (room_before on room) l
+    less_waits layer room is =
+        waiting_state (λ s. remaining layer room more.keys s.filed < left_to_do layer (room_before on room) l)
+        (subst (λ (z : List Key). remaining layer room z (state_of l).filed < left_to_do layer (room_before on room) l) (sym (grown on_new)) (less_by layer room on is on_may on_new))
+
+  pub step_waits : (layer : Layer) (room : ℕ) → AreOfLayer layer (k ∷ ks) → IsFree (state_of l) on → IsDriven start waiting_log (on ∷ k ∷ ks) × (left_to_do layer room waiting_log < left_to_do layer (room_before on room) l)
+  step_waits layer room are free = (driven_waits free, less_waits free layer room (needed_of_layer start (state_of l).filed layer k on place asked (are k (inl refl)) need))
 
   -- or its wait closes a cycle, and it has no value
   abbrev close_event : Event
@@ -322,8 +330,8 @@ module _ (start : BaseState) (l : Log) (k on : Key) (ks : List Key) (place : Pla
           let there : IsInNeed start (state_of l).filed (Import m1 p1) (Import n1 q1) place asked = subst (λ (z : Key). IsInNeed start (state_of l).filed z (Import n1 q1) place asked) e1 (subst (λ (z : Key). IsInNeed start (state_of l).filed k z place asked) i1 need) in
           same_layer_asked m1 n1 there.0 q1 there.1
 
-  pub step_closes : (room : ℕ) → Leads (state_of l).blocks on k → (n : Layer) (q : List ℕ) → on ≡ Import n q → IsDriven start (ended_log q) ks × (left_to_do room (ended_log q) < left_to_do room l)
-  step_closes room leads n q is =
+  pub step_closes : (layer : Layer) (room : ℕ) → Leads (state_of l).blocks on k → (n : Layer) (q : List ℕ) → on ≡ Import n q → IsDriven start (ended_log q) ks × (left_to_do layer room (ended_log q) < left_to_do layer room l)
+  step_closes layer room leads n q is =
       let there = leads_from (state_of l) k ks d.stacked on leads in
       let unit = not_a_unit there in
       let imported = import_by k refl unit need in
@@ -345,10 +353,10 @@ module _ (start : BaseState) (l : Log) (k on : Key) (ks : List Key) (place : Pla
               ));
           stacked = ended_state q (λ s. IsStacked s ks) rest.0;
           ready = ended_state q (λ s. TopIsReady s ks) rest.1;
-          named = ended_state q (λ s. AreNamed more.keys s ks) (named_settled more.keys (happens (state_of l) close_event) k ks (no_value q place asked) named (λ x u h. absurd (true≢false (sym u ∙ unit)))
+          named = ended_state q (λ s. AreNamed more.keys s ks) (named_settled more.keys (happens (state_of l) close_event) k ks (no_value q place asked) named
               (subst (λ (z : Key). IsOfKind z (no_value q place asked)) (sym imported.2) (is_unusable, refl)));
         },
-        ended_state q (λ s. remaining room more.keys s.filed < left_to_do room l)
-            (subst (λ (z : List Key). remaining room z (put (state_of l).filed k (Some (no_value q place asked))) < left_to_do room l) (sym keys)
-            (settled_less room l.keys (state_of l).filed k (no_value q place asked) (d.stacked.unfiled k (inl refl)) (once l.keys d.apart) (d.named.claimed k (inl refl)))),
+        ended_state q (λ s. remaining layer room more.keys s.filed < left_to_do layer room l)
+            (subst (λ (z : List Key). remaining layer room z (put (state_of l).filed k (Some (no_value q place asked))) < left_to_do layer room l) (sym keys)
+            (settled_less layer room l.keys (state_of l).filed k (no_value q place asked) (d.stacked.unfiled k (inl refl)) (once l.keys d.apart) (d.named.claimed k (inl refl)))),
       )

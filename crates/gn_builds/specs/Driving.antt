@@ -1,5 +1,5 @@
 -- The log of loading by one seat, and how far it has come.
-use Rattle.std.specs.Prelude.{◌≡◌, ◌⊎◌, ℕ, ◌+◌, ◌*◌, ◌<◌, ◌≤◌, List, [], ◌∷◌, map, length, Option, Some, None, Bool, true, false, not, is_some, IsSome}
+use Rattle.std.specs.Prelude.{◌≡◌, ◌⊎◌, ℕ, suc, ◌+◌, ◌-◌, ◌*◌, ◌<◌, ◌≤◌, List, [], ◌∷◌, map, length, Option, Some, None, Bool, true, false, not, ◌&&◌, ◌||◌, is_some, IsSome}
 use Rattle.std.specs.List.{filter, list_any}
 use Rattle.gn_outside.specs.Tree.{Tree}
 use Rattle.gn_outside.specs.States.{SourceRead, SourceState, paths_of}
@@ -8,19 +8,21 @@ use Rattle.gn_outside.specs.Sources.{FailedAt, ReadsOnBy, plain_reads}
 use Rattle.gn_runs.specs.Runs.{Content, Imported}
 use Rattle.gn_labels.specs.declared.label.Label.{Label}
 use Rattle.gn_closure.specs.Closure.{In}
-use Rattle.gn_closure.specs.Reach.{Unit_key, Setup}
+use Rattle.gn_closure.specs.Computed.{load_limit, setup_limit, is_too_large}
+use Rattle.gn_graph.specs.Needs.{home}
 use Rattle.gn_graph.specs.Numbers.{IsMore}
 use Rattle.gn_environment.specs.Chains.{is_one_of}
 use Rattle.gn_executions.specs.Base.{BaseState}
-use Rattle.gn_core.specs.Keys.{Layer, early, usual, Key, Read, Import, Unit_of, Resolve, Answer, found, Filed, imported_in, units, same_key}
+use Rattle.gn_core.specs.Keys.{Layer, Key, Read, Import, Unit_of, Resolve, Answer, found, Filed, imported_in, layer_of, units, same_key}
 use Rattle.gn_core.specs.Machine.{State, Runs, Leads, IsOver, IsFiled, read_limit}
 use Rattle.gn_book.specs.Keys.{key_of}
 use Rattle.gn_book.specs.Graphs.{is_unit}
 use Rattle.gn_book.specs.Logs.{Log, KeysDiffer, opening, state_of, key_at}
 use Rattle.gn_book.specs.Claims.{HasClaim}
 use Rattle.gn_book.specs.declared.book.Claim.{Claim}
-use Rattle.gn_builds.specs.Worlds.{Files, files_of, world_of}
-use Rattle.gn_builds.specs.Builds.{root, NeedNothing}
+use Rattle.gn_projects.specs.Files.{Files, files_of}
+use Rattle.gn_projects.specs.Worlds.{world_of}
+use Rattle.gn_projects.specs.Loaded.{is_build_file}
 use Rattle.gn_builds.specs.Stacks.{IsStacked, TopIsReady}
 
 -- an answer is of the kind of its key: what there is at a path, or what an import leaves
@@ -30,13 +32,11 @@ IsOfKind (Import layer path) v = (left : Imported) × (imported_in (Some v) ≡ 
 IsOfKind (Unit_of unit) v = Unit {0}
 IsOfKind (Resolve label) v = Unit {0}
 
--- The keys that have numbers: just two units, what they ask, directly or through imports, and no import whose file isn't read first. Each that is no unit
--- is claimed or filed
+-- The keys that have numbers: units, what they ask, directly or through imports, and no import whose file isn't read first. Each that is no unit is claimed
+-- or filed
 pub record AreNamed (names : List Key) (s : State) (ks : List Key) : Type 0 where
   pub begun : (k : Key) → In names k → is_unit k ≡ false → In ks k ⊎ IsFiled s.filed k
-  pub imports : (layer : Layer) (path : List ℕ) → In names (Import layer path) → ((layer ≡ early []) ⊎ (layer ≡ usual [])) × In names (Read path)
-  pub nothing : NeedNothing (units s.filed)
-  pub units : (u : Unit_key) → In names (Unit_of u) → (u ≡ Setup []) ⊎ (u ≡ root)
+  pub imports : (layer : Layer) (path : List ℕ) → In names (Import layer path) → In names (Read path)
   pub labels : (label : Label) → In names (Resolve label) → ⊥
   pub claimed : (k : Key) → In ks k → In names k
   pub filed : (k : Key) → IsFiled s.filed k → In names k
@@ -78,8 +78,19 @@ abbrev pub with_claim : Option Claim → List Claim → List Claim
 with_claim None cs = cs
 with_claim (Some c) cs = c ∷ cs
 
--- The measure of loading: how many files can still be read, how many imports of each layer can still be claimed of files that were read, and how many keys have
--- no answer
+-- Layers: a seat that works on a unit claims imports of the unit's layer alone
+
+abbrev pub IsOfLayer : Layer → Key → Type 0
+IsOfLayer layer (Read path) = Unit {0}
+IsOfLayer layer (Import l path) = l ≡ layer
+IsOfLayer layer (Unit_of unit) = layer_of unit ≡ layer
+IsOfLayer layer (Resolve label) = ⊥
+
+abbrev pub AreOfLayer : Layer → List Key → Type 0
+AreOfLayer layer ks = (k : Key) → In ks k → IsOfLayer layer k
+
+-- The measure of the work on one unit: how many files can still be read, how many imports of its layer can still be claimed of files that were read, and how
+-- many keys have no answer
 
 abbrev pub one_if : Bool → ℕ
 one_if true = 1
@@ -102,15 +113,35 @@ abbrev pub is_open : Filed → Key → Bool
 is_open filed k = not (is_some (filed k))
 
 -- `room`: how many files can still be read, and taken of those that were read before
-unfoldable pub remaining : ℕ → List Key → Filed → ℕ
-remaining room names filed = 7 * room + (2 * (count_of (is_awaited (early []) names) names + count_of (is_awaited (usual []) names) names) + count_of (is_open filed) names)
+unfoldable pub remaining : Layer → ℕ → List Key → Filed → ℕ
+remaining layer room names filed = 5 * room + (2 * count_of (is_awaited layer names) names + count_of (is_open filed) names)
 
--- how many of the two units of a build have no answer
-abbrev pub units_left : Filed → ℕ
-units_left filed = one_if (is_open filed (Unit_of (Setup []))) + one_if (is_open filed (Unit_of root))
+abbrev pub left_to_do : Layer → ℕ → Log → ℕ
+left_to_do layer room l = remaining layer room l.keys (state_of l).filed
 
-abbrev pub left_to_do : ℕ → Log → ℕ
-left_to_do room l = remaining room l.keys (state_of l).filed
+-- The measure of the work on all units: how many can still get their answers where no limit on units is exceeded
+
+unfoldable pub unit_limit : ℕ
+unit_limit = load_limit + setup_limit
+
+abbrev pub is_finished : Filed → Key → Bool
+is_finished filed k = is_unit k && is_some (filed k)
+
+unfoldable pub units_left : Log → ℕ
+units_left l = suc unit_limit - count_of (is_finished (state_of l).filed) l.keys
+
+-- Build files
+
+-- it is claimed or has its answer
+abbrev pub is_begun : State → Key → Bool
+is_begun s k = is_some (s.filed k) || is_some (s.claims k)
+
+abbrev pub is_loaded : State → Key → Bool
+is_loaded s k = is_build_file k && is_begun s k
+
+-- how many build files are claimed or have answers
+unfoldable pub files_begun : Log → ℕ
+files_begun l = count_of (is_loaded (state_of l)) l.keys
 
 -- Reads
 
@@ -158,7 +189,9 @@ pub record FailsAt (path : List ℕ) (before now : SourceState) : Type 0 where
   pub failed : before.faults < now.faults
   pub last : IsSome before.reads → FailedAt path before now
 
--- more files were read than a build may ask for
-abbrev pub HasTooMany : BaseState → List (List ℕ) → SourceState → SourceState → Type 0
-HasTooMany start known before now =
-    (l : Log) × (ks : List Key) × IsDriven start l ks × HasRead start known before now l × (read_limit < length (unknown_of known (paths_read l.keys)))
+-- more files were read than a build may ask for, or more units are reached than in a build may be
+abbrev pub HasTooMany : List (List ℕ) → Log → Type 0
+HasTooMany known l = (read_limit < length (unknown_of known (paths_read l.keys))) ⊎ (is_too_large home (units (state_of l).filed) ≡ true)
+
+abbrev pub IsLarge : BaseState → List (List ℕ) → SourceState → SourceState → Type 0
+IsLarge start known before now = (l : Log) × (ks : List Key) × IsDriven start l ks × HasRead start known before now l × HasTooMany known l

@@ -4,23 +4,20 @@ use Rattle.gn_paths.specs.declared.place.Place.{Place}
 use Rattle.gn_runs.specs.Runs.{Question}
 use Rattle.gn_core.specs.Keys.{Layer, Key, Read, Import, Answer, no_value, Filed}
 use Rattle.gn_core.specs.Machine.{State, NeedsAt, IsRight, ClosesCycle, IsFiled}
-use Rattle.gn_core.specs.Layered.{IsPart, IsLayered}
+use Rattle.gn_core.specs.Layered.{IsPart}
 use Rattle.gn_executions.specs.Base.{BaseState}
-use Rattle.gn_builds.specs.Worlds.{Files, world_of, evaluator}
-use Rattle.gn_builds.specs.Working.{IsRightOver, IsInNeed, IsSeen, AsksContent}
-
--- the laws of loading in any order hold of today's builds
-abbrev pub TodayIsLayered : Type 0
-TodayIsLayered = (files : Files) → IsLayered (world_of files)
+use Rattle.gn_projects.specs.Files.{Files}
+use Rattle.gn_projects.specs.Worlds.{world_of}
+use Rattle.gn_builds.specs.Working.{evaluator, IsRightOver, IsInNeed, IsSeen, AsksContent}
 
 -- an answer that is right over a part of what is filed is right over all of it
 abbrev pub PartsGiveAnswers : Type 0
-PartsGiveAnswers = (start : BaseState) (part : Filed) (s : State) (k : Key) (v : Answer) → IsPart part s.filed → IsSeen part k → IsRightOver start part k v
+PartsGiveAnswers = (start : BaseState) (part : Filed) (s : State) (k : Key) (v : Answer) → IsPart part s.filed → IsSeen start part k → IsRightOver start part k v
     → IsRight (evaluator start) s.filed s k v
 
 -- what is needed over a part of what is filed is needed over all of it, where it isn't filed
 abbrev pub PartsGiveNeeds : Type 0
-PartsGiveNeeds = (start : BaseState) (part filed : Filed) (k on : Key) (place : Place) (asked : List Question) → IsPart part filed → IsSeen part k → filed on ≡ None
+PartsGiveNeeds = (start : BaseState) (part filed : Filed) (k on : Key) (place : Place) (asked : List Question) → IsPart part filed → IsSeen start part k → filed on ≡ None
     → IsInNeed start part k on place asked → NeedsAt (evaluator start) filed filed k on place × IsInNeed start filed k on place asked
 
 -- an import is needed only where it is known what there is at its path

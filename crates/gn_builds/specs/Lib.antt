@@ -1,10 +1,7 @@
-pub mod Worlds
 pub mod Working
-pub mod Builds
 pub mod Laws
 pub mod Stacks
 pub mod Driving
-pub mod Loaded
 pub mod Rest
 pub mod Causes
 pub mod Own

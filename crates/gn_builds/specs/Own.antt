@@ -5,7 +5,8 @@ use Rattle.gn_executions.specs.Base.{BaseState}
 use Rattle.gn_core.specs.Keys.{Key, Read, Answer, found, import_is, no_value, unit_is, record_is}
 use Rattle.gn_core.specs.Machine.{IsOver}
 use Rattle.gn_book.specs.Logs.{Log, state_of}
-use Rattle.gn_builds.specs.Worlds.{Files, world_of}
+use Rattle.gn_projects.specs.Files.{Files}
+use Rattle.gn_projects.specs.Worlds.{world_of}
 use Rattle.gn_builds.specs.Driving.{IsDriven, paths_read}
 
 abbrev pub content_found : Option Answer → Content

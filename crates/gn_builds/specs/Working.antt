@@ -1,13 +1,25 @@
 -- What an evaluation over some part of the answers that are filed comes to.
-use Rattle.std.specs.Prelude.{◌≡◌, List, [], Some, None}
+use Rattle.std.specs.Prelude.{◌≡◌, List, [], None}
 use Rattle.gn_paths.specs.declared.place.Place.{Place}
-use Rattle.gn_runs.specs.Runs.{Question, content_of, ended, needs, Run}
+use Rattle.gn_runs.specs.Runs.{Question, content_of, is_absent, Answers, needs, Run}
 use Rattle.gn_runs.specs.Laws.{IsAsked}
-use Rattle.gn_closure.specs.Reach.{Setup}
-use Rattle.gn_core.specs.Keys.{Layer, early, usual, Key, Read, Import, Unit_of, Resolve, Answer, unit_is, Filed, Leaving, UnitLeft, key_of, layer_of, shown}
+use Rattle.gn_closure.specs.Reach.{Unit_key}
+use Rattle.gn_core.specs.Keys.{Key, Read, Import, Unit_of, Resolve, Answer, Filed, Leaving, UnitLeft, key_of, layer_of, shown}
+use Rattle.gn_core.specs.Worlds.{World}
 use Rattle.gn_core.specs.Machine.{State, IsRight}
+use Rattle.gn_core.specs.Layered.{HasLayer}
 use Rattle.gn_executions.specs.Base.{BaseState}
-use Rattle.gn_builds.specs.Worlds.{evaluator, base_of_layer, import_of_layer, unit_of_key}
+use Rattle.gn_projects.specs.Files.{import_of_layer}
+use Rattle.gn_projects.specs.Bases.{base_of_layer}
+use Rattle.gn_projects.specs.Worlds.{unit_over, world_of}
+
+-- the world over no files: which events are allowed, but for what files hold, doesn't hang on them
+abbrev pub evaluator : BaseState → World
+evaluator start = world_of (record { start = start; given = λ path. is_absent; paths = [] })
+
+-- the evaluation of a unit over what is filed
+abbrev pub unit_of_key : BaseState → Filed → Unit_key → Answers → Run (Leaving UnitLeft)
+unit_of_key start filed k answers = unit_over (base_of_layer start filed (layer_of k)) k answers
 
 -- what is filed, where nothing is claimed
 abbrev pub over : Filed → State
@@ -26,16 +38,12 @@ IsInNeed start part (Unit_of k) on place asked =
     (q : Question) × (on ≡ key_of (layer_of k) q) × ((unit_of_key start part k (shown part (layer_of k))).end ≡ needs q place) × ((unit_of_key start part k (shown part (layer_of k))).asked ≡ asked)
 IsInNeed start part (Resolve label) on place asked = ⊥
 
--- the part has what the evaluation of a key sees of other units: that of a file behind the build configuration sees what that has left
-abbrev pub HasBase : Filed → Layer → Type 0
-HasBase part (early toolchain) = Unit {0}
-HasBase part (usual toolchain) = (left : Leaving UnitLeft) × (run : Run (Leaving UnitLeft)) × (part (Unit_of (Setup [])) ≡ Some (unit_is run)) × (run.end ≡ ended left)
-
-abbrev pub IsSeen : Filed → Key → Type 0
-IsSeen part (Read path) = Unit {0}
-IsSeen part (Import l path) = HasBase part l
-IsSeen part (Unit_of k) = HasBase part (layer_of k)
-IsSeen part (Resolve label) = ⊥
+-- the part has what the evaluation of a key sees of other units
+abbrev pub IsSeen : BaseState → Filed → Key → Type 0
+IsSeen start part (Read path) = Unit {0}
+IsSeen start part (Import l path) = HasLayer (evaluator start) part l
+IsSeen start part (Unit_of k) = HasLayer (evaluator start) part (layer_of k)
+IsSeen start part (Resolve label) = ⊥
 
 -- before an import is needed it was asked what there is at its path
 abbrev pub AsksContent : Key → List Question → Type 0

@@ -21,8 +21,7 @@ use Rattle.gn_core.specs.Counted.{units_reached, exceeds_limits}
 use Rattle.gn_core.specs.Layered.{IsLayered}
 use Rattle.gn_core.specs.Machine.{IsNeeded, Exceeds}
 use Rattle.gn_core.proofs.Counting.{reached_listed, listed_reached, limits_computed}
-use Rattle.gn_builds.specs.Loaded.{too_large}
-use Rattle.gn_projects.specs.Errors.{IsOnCycle, IsLeastPlace, fault_toolchain, cycle_under, IsFaultOf, of_unit, of_import, of_cycle, IsErrorOf, of_limits, of_files}
+use Rattle.gn_projects.specs.Errors.{too_large, IsOnCycle, IsLeastPlace, fault_toolchain, cycle_under, IsFaultOf, of_unit, of_import, of_cycle, IsErrorOf, of_limits, of_files}
 use Rattle.gn_projects.specs.Computed.{goes_round, cause_under, faults_at, faults_of_unit, faults_of, first_of, least_of, loading_error}
 use Rattle.gn_projects.specs.ErrorLaws.{FaultsAreFound, ErrorIsFound, NoErrorIsDone}
 use Rattle.gn_projects.proofs.Links.{wrong_stops, wrong_is_unusable, cycle_goes, round_is_unusable, of_layer, is_project, links_true, answer_wrong, wrong_answer, run_of, unit_true, spoiler_needed, leads_needed, Spoils, unusable_spoils}

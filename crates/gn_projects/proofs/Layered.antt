@@ -16,8 +16,8 @@ use Rattle.gn_executions.proofs.ExecutionTrees.{setup_execution_tree, found_load
 use Rattle.gn_core.specs.Keys.{Layer, early, usual, Key, Unit_of, Answer, found, import_is, no_value, unit_is, record_is, unit_in, Filed, Leaving, UnitLeft, layer_of, done_in, units}
 use Rattle.gn_core.specs.Worlds.{true_meaning}
 use Rattle.gn_core.specs.Layered.{IsPart, HasDefinition, HasLayer}
-use Rattle.gn_builds.specs.Worlds.{Files, beneath_of, import_of_layer}
-use Rattle.gn_builds.proofs.Layered.{import_tree, seen_tree, seen_absent, listed}
+use Rattle.gn_projects.specs.Files.{Files, beneath_of, import_of_layer}
+use Rattle.gn_projects.proofs.Files.{import_tree, seen_tree, seen_absent, listed}
 use Rattle.gn_projects.specs.Bases.{left_of, left_in, left_at, default_by, default_in, context_under, other_base, early_base, behind, usual_behind, usual_base, base_of_layer}
 use Rattle.gn_projects.specs.Worlds.{unit_end, unit_run, configuration_leaves, file_leaves, unit_over, setup_run, default_of, stage_of_layer, stage_of, world_of}
 use Rattle.gn_projects.specs.Laws.{WholeBuildsAreLayered}
@@ -211,7 +211,7 @@ module _ (files : Files) (b c : Filed) (le : IsPart b c) where
       ∙ usual_other toolchain d h m.left m.done (bytes_eq toolchain (default_by m.left)) refl
       ∙ ap (usual_behind files.start b toolchain) (sym m.here)
 
-  base_stays : (l : Layer) → HasLayer (world_of files) b l → base_of_layer files.start c l ≡ base_of_layer files.start b l
+  pub base_stays : (l : Layer) → HasLayer (world_of files) b l → base_of_layer files.start c l ≡ base_of_layer files.start b l
   base_stays (early toolchain) h = early_stays toolchain h
   base_stays (usual toolchain) h = usual_stays toolchain h
 

@@ -1,3 +1,4 @@
+pub mod Files
 pub mod Layered
 pub mod Whole
 pub mod Links

@@ -21,8 +21,7 @@ use Rattle.gn_core.specs.Layered.{IsLayered}
 use Rattle.gn_core.specs.Machine.{asked_in, IsNeeded, by_unit, by_import}
 use Rattle.gn_core.proofs.Lowered.{true_fixed}
 use Rattle.gn_core.proofs.Counting.{asked_there, there_asked, key_import}
-use Rattle.gn_builds.specs.Builds.{link_in}
-use Rattle.gn_projects.specs.Errors.{link_at}
+use Rattle.gn_projects.specs.Errors.{link_in, link_at}
 use Rattle.gn_projects.specs.Computed.{goes_round}
 
 -- The end of an import in its answer

@@ -10,7 +10,7 @@ use Rattle.gn_closure.proofs.Least.{first_held}
 use Rattle.gn_core.specs.Keys.{Layer, Key, Import, Unit_of, Answer, unit_in, units, Filed}
 use Rattle.gn_core.specs.Worlds.{World, all_meanings}
 use Rattle.gn_core.specs.Layered.{IsLayered}
-use Rattle.gn_core.specs.Machine.{State, replay, IsFiled, asked_in, IsNeeded, by_unit, by_import, IsQuiet, IsOpening, Exceeds, FiledExceeds}
+use Rattle.gn_core.specs.Machine.{State, replay, IsFiled, asked_in, IsNeeded, by_unit, by_import, HasLoaded, IsOpening, Exceeds, FiledExceeds}
 use Rattle.gn_core.proofs.Quiet.{Both, run_both, above, holds_above, back, needed_filed, reached_filed_unit}
 use Rattle.gn_core.proofs.Limits.{limits_agree}
 use Rattle.gn_projects.specs.Errors.{link_filed, link_at, Leads, LeadsToCall, IsOnCycle, IsLeastPlace, fault_toolchain, default_told, shown_of_layer, cycle_under, IsFaultOf, of_unit, of_import, of_cycle, IsErrorOf, of_limits, of_files}
@@ -48,7 +48,7 @@ module _ (f g : List ℕ → Option Link) (P : List ℕ → Type 0) (same : (pat
   pub cycle_same : (path : List ℕ) → P path → IsOnCycle f path → IsOnCycle g path
   cycle_same path p h = (h.0, sym (same path p) ∙ h.1, (leads_same h.0.path path (next path h.0 p h.1) h.2).0)
 
-module _ (w : World) (l : IsLayered w) (known : List ℕ → Bool) (first s : State) (op : IsOpening w known first) (b : Both w l known first op s) (quiet : IsQuiet w s) where
+module _ (w : World) (l : IsLayered w) (known : List ℕ → Bool) (first s : State) (op : IsOpening w known first) (b : Both w l known first op s) (quiet : HasLoaded w s) where
   pub is_part : (k : Key) (v : Answer) → s.filed k ≡ Some v → all_meanings w k ≡ Some v
   is_part k v e = above w l first s b.inv b.bases b.scope op.records op.units k v e
 

@@ -12,7 +12,7 @@ use Rattle.gn_core.specs.Statements.{IsLoadingRun}
 use Rattle.gn_core.proofs.Based.{unit_layer, import_layer}
 use Rattle.gn_core.proofs.Lowered.{filed_are_meanings}
 use Rattle.gn_core.proofs.Quiet.{run_both, quiet_agree}
-use Rattle.gn_builds.specs.Worlds.{Files}
+use Rattle.gn_projects.specs.Files.{Files}
 use Rattle.gn_projects.specs.Worlds.{world_of}
 use Rattle.gn_projects.specs.Laws.{IsLoading, FiledIsMeant, OrderDoesNotMatter, ClaimedHaveLayer, FilesAreFound, LackingFilesAreWrong}
 use Rattle.gn_projects.proofs.Layered.{whole_builds_are_layered}

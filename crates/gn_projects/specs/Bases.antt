@@ -12,7 +12,7 @@ use Rattle.gn_runs.specs.Runs.{End, ended, wrong, spoiled, needs}
 use Rattle.gn_closure.specs.Reach.{Unit_key, Setup, Load}
 use Rattle.gn_graph.specs.Needs.{home}
 use Rattle.gn_core.specs.Keys.{Layer, early, usual, Unit_of, Answer, found, import_is, no_value, unit_is, record_is, Filed, Leaving, UnitLeft}
-use Rattle.gn_builds.specs.Worlds.{beneath_of}
+use Rattle.gn_projects.specs.Files.{beneath_of}
 use Rattle.gn_projects.specs.Needs.{is_toolchain, toolchain_name}
 
 -- what a unit has left, where it is done

@@ -11,8 +11,7 @@ use Rattle.gn_closure.specs.Reach.{Unit_key}
 use Rattle.gn_core.specs.Keys.{Leaving, UnitLeft, layer_of, units}
 use Rattle.gn_core.specs.Worlds.{World, project, all_meanings}
 use Rattle.gn_core.specs.Counted.{units_reached, exceeds_limits}
-use Rattle.gn_builds.specs.Loaded.{too_large}
-use Rattle.gn_projects.specs.Errors.{fault_toolchain}
+use Rattle.gn_projects.specs.Errors.{too_large, fault_toolchain}
 
 -- links lead from an import further than there are files: they go round a cycle
 abbrev pub goes_round : Project → List ℕ → Bool

@@ -7,7 +7,7 @@ use Rattle.gn_closure.specs.Reach.{Unit_key, Done, Is_reached, Holds}
 use Rattle.gn_core.specs.Keys.{units}
 use Rattle.gn_core.specs.Worlds.{World, all_meanings}
 use Rattle.gn_core.specs.Layered.{IsLayered}
-use Rattle.gn_core.specs.Machine.{State, Event, replay, IsQuiet, Exceeds, FiledExceeds}
+use Rattle.gn_core.specs.Machine.{State, Event, replay, HasLoaded, Exceeds, FiledExceeds}
 use Rattle.gn_core.specs.Statements.{IsLoadingRun}
 use Rattle.gn_projects.specs.Errors.{IsFaultOf, IsErrorOf}
 use Rattle.gn_projects.specs.Computed.{faults_of, loading_error}
@@ -26,11 +26,11 @@ abbrev pub NoErrorIsDone : Type 0
 NoErrorIsDone = (w : World) → IsLayered w → (known : List ℕ → Bool) → loading_error w known ≡ None
     → (k : Unit_key) → Holds w.home (units (all_meanings w)) (Is_reached k) → (d : Done) × (units (all_meanings w) k ≡ Some (Some d))
 
--- when loading has come to rest, in whatever order, what is filed has the faults of the tree, and its error
+-- when all is loaded, in whatever order, what is filed has the faults of the tree, and its error
 abbrev pub QuietHasFaults : Type 0
-QuietHasFaults = (w : World) (known : List ℕ → Bool) (s : State) (es : List Event) → IsLoadingRun w known s es → IsQuiet w (replay s es)
+QuietHasFaults = (w : World) (known : List ℕ → Bool) (s : State) (es : List Event) → IsLoadingRun w known s es → HasLoaded w (replay s es)
     → (fault : Fault) → IsFaultOf w (replay s es).filed fault ↔ IsFaultOf w (all_meanings w) fault
 
 abbrev pub QuietHasError : Type 0
-QuietHasError = (w : World) (known : List ℕ → Bool) (s : State) (es : List Event) → IsLoadingRun w known s es → IsQuiet w (replay s es)
+QuietHasError = (w : World) (known : List ℕ → Bool) (s : State) (es : List Event) → IsLoadingRun w known s es → HasLoaded w (replay s es)
     → (fault : Fault) → (loading_error w known ≡ Some fault) ↔ IsErrorOf w (replay s es).filed (FiledExceeds w known (replay s es).filed) fault

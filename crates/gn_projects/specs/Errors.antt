@@ -3,18 +3,28 @@ use Rattle.std.specs.Prelude.{◌≡◌, ℕ, List, [], Option, Some, None, fals
 use Rattle.std.specs.Str.{bytes_eq}
 use Rattle.gn_paths.specs.declared.place.Place.{Place}
 use Rattle.gn_definitions.specs.Imported.{ImportState}
+use Rattle.gn_faults.specs.declared.code.Code.TheVariants as code
 use Rattle.gn_faults.specs.declared.fault.Fault.{Fault}
+use Rattle.gn_faults.specs.declared.stage.Stage.TheVariants.{Loading}
 use Rattle.gn_faults.specs.Order.{is_before as stands_before}
-use Rattle.gn_imports.specs.Causes.{Link, is_before, cycle_fault, led}
+use Rattle.gn_imports.specs.Causes.{Link, link_of, is_before, cycle_fault, led}
 use Rattle.gn_runs.specs.Runs.{wrong, Run}
 use Rattle.gn_closure.specs.Reach.{Unit_key, Setup, Done, Units, Is_reached, Holds}
-use Rattle.gn_core.specs.Keys.{Layer, early, usual, Import, Unit_of, Answer, import_is, unit_is, Filed, Leaving, UnitLeft, units}
+use Rattle.gn_core.specs.Keys.{Layer, early, usual, Import, Unit_of, Answer, import_is, no_value, unit_is, Filed, Leaving, UnitLeft, seen_end, units}
 use Rattle.gn_core.specs.Worlds.{World}
 use Rattle.gn_core.specs.Machine.{IsNeeded}
-use Rattle.gn_builds.specs.Builds.{link_in}
-use Rattle.gn_builds.specs.Loaded.{too_large}
+
+-- the error of a build that is larger than a limit
+abbrev pub too_large : Fault
+too_large = record { stage = Loading; place = None; toolchain = []; code = code.TooLarge; detail = [] }
 
 -- Words on the links between imports
+
+-- the import to which the answer of an import leads that can't be used
+abbrev pub link_in : Answer → Option Link
+link_in (import_is run) = link_of (seen_end run.end)
+link_in (no_value path place asked) = Some (record { path = path; place = place })
+link_in _ = None
 
 -- the import to which the answer of an import leads that can't be used
 abbrev pub link_filed : Option Answer → Option Link

@@ -18,7 +18,7 @@ use Rattle.gn_core.specs.Worlds.{World, true_meaning}
 use Rattle.gn_core.specs.Layered.{IsLayered, HasLayer}
 use Rattle.gn_core.specs.Machine.{State, Event, replay, Runs, IsOver, IsQuiet, IsOpening}
 use Rattle.gn_core.specs.Statements.{IsLoadingRun}
-use Rattle.gn_builds.specs.Worlds.{Files}
+use Rattle.gn_projects.specs.Files.{Files}
 use Rattle.gn_projects.specs.Needs.{toolchain_name}
 use Rattle.gn_projects.specs.Worlds.{world_of}
 

@@ -1,7 +1,9 @@
+pub mod Files
 pub mod Needs
 pub mod Bases
 pub mod Worlds
 pub mod Laws
 pub mod Errors
 pub mod Computed
+pub mod Loaded
 pub mod ErrorLaws

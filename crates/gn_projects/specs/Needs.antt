@@ -13,7 +13,7 @@ use Rattle.gn_items.specs.declared.item.Item.{Item}
 use Rattle.gn_items.specs.declared.tool.Tool.{Tool}
 use Rattle.gn_items.specs.declared.default_toolchain.DefaultToolchain.{DefaultToolchain}
 use Rattle.gn_closure.specs.Reach.{Target, Toolchain, Done}
-use Rattle.gn_builds.specs.Worlds.{toolchain_text}
+use Rattle.gn_projects.specs.Files.{toolchain_text}
 
 -- the labels that an item has at a variable
 abbrev pub labels_at : Item → Variable → List Label

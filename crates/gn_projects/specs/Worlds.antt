@@ -6,14 +6,13 @@ use Rattle.gn_meaning.specs.Steps.{Left}
 use Rattle.gn_executions.specs.Base.{BaseState}
 use Rattle.gn_executions.specs.Found.{found_load_execution}
 use Rattle.gn_executions.specs.Setups.{setup_execution}
-use Rattle.gn_imports.specs.Rounds.{final}
+use Rattle.gn_imports.specs.Rounds.{Project, final}
 use Rattle.gn_runs.specs.Runs.{Answers, End, ended, wrong, spoiled, needs, Run}
 use Rattle.gn_closure.specs.Reach.{Unit_key, Setup, Load}
 use Rattle.gn_graph.specs.Needs.{home}
-use Rattle.gn_core.specs.Keys.{Layer, early, usual, Key, Read, Import, Unit_of, Resolve, Leaving, UnitLeft, layer_of}
+use Rattle.gn_core.specs.Keys.{Layer, early, usual, Key, Read, Import, Unit_of, Resolve, Leaving, UnitLeft, layer_of, seen}
 use Rattle.gn_core.specs.Worlds.{World}
-use Rattle.gn_builds.specs.Builds.{early_project_of}
-use Rattle.gn_builds.specs.Worlds.{Files, content_at, import_of_layer}
+use Rattle.gn_projects.specs.Files.{Files, content_at, import_of_layer}
 use Rattle.gn_projects.specs.Bases.{left_of, default_in, base_of_layer}
 use Rattle.gn_projects.specs.Needs.{file_needs, configuration_needs}
 
@@ -38,6 +37,14 @@ file_leaves left = record { needs = file_needs left.effects.items; beneath = Non
 abbrev pub unit_over : BaseState → Unit_key → Answers → Run (Leaving UnitLeft)
 unit_over base (Setup toolchain) answers = unit_run configuration_leaves (setup_execution base toolchain answers)
 unit_over base (Load dir toolchain) answers = unit_run file_leaves (found_load_execution base dir toolchain answers)
+
+-- the imports of the build configuration of the default toolchain
+abbrev pub early_project_of : Files → Project
+early_project_of files = record {
+  content = content_at files;
+  paths = files.paths;
+  execute = λ path answers. seen (import_of_layer files.start (early []) path answers);
+}
 
 -- the build configuration of the default toolchain over all answers, and that toolchain: the empty text where it isn't done
 unfoldable pub setup_run : Files → Run (Leaving UnitLeft)

@@ -1,5 +1,5 @@
--- The laws of loading in any order hold of today's builds.
-use Rattle.std.proofs.Common.{◌≡◌, ℕ, ◌<◌, List, [], ◌∷◌, Option, Some, None, Bool, true, false, ◌||◌, if◌then◌else◌, refl, sym, ◌∙◌, ap, subst, ◌⊎◌, inl, inr, true≢false, arith}
+-- Files, and executions as trees of questions.
+use Rattle.std.proofs.Common.{◌≡◌, ℕ, List, [], ◌∷◌, Option, Some, None, Bool, true, false, ◌||◌, if◌then◌else◌, refl, sym, ◌∙◌, ap, subst, ◌⊎◌, inl, inr, true≢false}
 use Rattle.std.specs.Prelude.{is_some}
 use Rattle.std.specs.List.{list_any}
 use Rattle.std.proofs.lemmas.Bool.{or_left, or_right}
@@ -13,17 +13,12 @@ use Rattle.gn_runs.specs.Runs.{Question, is_absent, Answers, End, ended, wrong, 
 use Rattle.gn_runs.proofs.Trees.{tree_then, tree_leaves, tree_same}
 use Rattle.gn_imports.specs.Projects.{IsOneOf, IsWrong}
 use Rattle.gn_imports.proofs.PathOrder.{any_one}
-use Rattle.gn_closure.specs.Reach.{Unit_key, Setup, Load, Done}
 use Rattle.gn_meaning.specs.Steps.{Left}
-use Rattle.gn_executions.specs.Units.{import_execution, import_meaning, load_execution}
-use Rattle.gn_executions.specs.Setups.{setup_execution}
+use Rattle.gn_executions.specs.Units.{import_execution, import_meaning}
 use Rattle.gn_executions.specs.Base.{BaseState}
-use Rattle.gn_executions.proofs.ExecutionTrees.{import_execution_tree, import_meaning_tree, load_execution_tree, setup_execution_tree, absent_import}
-use Rattle.gn_core.specs.Keys.{Layer, early, usual, Key, Unit_of, Answer, unit_in, Filed, Leaving, UnitLeft, layer_of, seen}
-use Rattle.gn_core.specs.Worlds.{true_meaning}
-use Rattle.gn_core.specs.Layered.{IsPart, HasLayer}
-use Rattle.gn_builds.specs.Worlds.{Files, files_of, content_at, content_in, when_of, toolchain_of, left_end, left_run, base_filed, base_of_layer, configuration_leaves, file_leaves, import_of_layer, unit_over, stage_of_layer, stage_of, world_of}
-use Rattle.gn_builds.specs.Laws.{TodayIsLayered}
+use Rattle.gn_executions.proofs.ExecutionTrees.{import_execution_tree, import_meaning_tree, absent_import}
+use Rattle.gn_core.specs.Keys.{Layer, Leaving, seen}
+use Rattle.gn_projects.specs.Files.{Files, files_of, content_at, content_in, when_of, toolchain_of, left_end, left_run, import_of_layer}
 
 abbrev as_run : {A : Type 0} → End A → List Question → Run A
 as_run end asked = record { end = end; asked = asked }
@@ -59,10 +54,6 @@ left_tree {A} {B} f m t =
 pub import_tree : (base : BaseState) (l : Layer) (path : List ℕ) → IsTree (λ answers. import_of_layer base l path answers)
 import_tree base l path = left_tree (λ (value : ImportState). value) (import_execution base (when_of l) (toolchain_of l) path) (import_execution_tree base (when_of l) (toolchain_of l) path)
 
-pub unit_tree : (base : BaseState) (k : Unit_key) → IsTree (λ answers. unit_over base k answers)
-unit_tree base (Setup toolchain) = left_tree configuration_leaves (setup_execution base toolchain) (setup_execution_tree base toolchain)
-unit_tree base (Load dir toolchain) = left_tree file_leaves (load_execution base dir toolchain) (load_execution_tree base dir toolchain)
-
 pub seen_tree : (base : BaseState) (l : Layer) (path : List ℕ) → IsTree (λ answers. seen (import_of_layer base l path answers))
 seen_tree base l path =
     tree_same (λ answers. seen (import_of_layer base l path answers)) (import_meaning base (when_of l) (toolchain_of l) path) (λ a. seen_followed (import_execution base (when_of l) (toolchain_of l) path a))
@@ -72,24 +63,6 @@ pub seen_absent : (base : BaseState) (l : Layer) (path : List ℕ) (a : Answers)
 seen_absent base l path a h =
     subst (λ (r : Run ImportState). IsWrong r.end) (sym (seen_followed (import_execution base (when_of l) (toolchain_of l) path a)))
     (subst IsWrong (sym (absent_import base (when_of l) (toolchain_of l) path a h)) tt)
-
--- the base of a layer is what stands in an earlier stage
-base_sees : (files : Files) (l : Layer) (b c : Filed) → ((q : Key) → stage_of q < stage_of_layer l → b q ≡ Some (true_meaning (world_of files) q)) → ((q : Key) → stage_of q < stage_of_layer l → c q ≡ Some (true_meaning (world_of files) q))
-    → base_of_layer files.start b l ≡ base_of_layer files.start c l
-base_sees files (early toolchain) b c h g = refl
-base_sees files (usual toolchain) b c h g = ap (base_filed files.start) (h (Unit_of (Setup [])) (omega arith) ∙ sym (g (Unit_of (Setup [])) (omega arith)))
-
--- a unit that is done has an answer
-has_unit : (x : Option Answer) (y : Option Done) → unit_in x ≡ Some y → (v : Answer) × (x ≡ Some v)
-has_unit None y h = absurd (cc h)
-has_unit (Some v) y h = (v, refl)
-
--- and it stays where that is
-base_based : (files : Files) (l : Layer) (b c : Filed) → HasLayer (world_of files) b l → IsPart b c → base_of_layer files.start c l ≡ base_of_layer files.start b l
-base_based files (early toolchain) b c h le = refl
-base_based files (usual toolchain) b c h le =
-    let has = has_unit (b (Unit_of (Setup []))) (Some h.0) h.1 in
-    ap (base_filed files.start) (le (Unit_of (Setup [])) has.0 has.1 ∙ sym has.1)
 
 any_path : (ps : List (List ℕ)) (q : List ℕ) → list_any (bytes_eq q) ps ≡ true → IsOneOf q ps
 any_path [] q e = absurd (true≢false (sym e))
@@ -120,24 +93,3 @@ tree_content start tree path = by (list_any (bytes_eq path) (keys tree)) refl (g
     by true e x h = refl
     by false e None h = sym (ap (λ (o : Option FileContent). content_in (answer_of o)) h)
     by false e (Some y) h = absurd (true≢false (sym (path_any (keys tree) path (any_one (keys tree) path (sym (contains_key-keys tree path) ∙ ap is_some h))) ∙ e))
-
-pub today_is_layered : TodayIsLayered
-today_is_layered files = record {
-  is = record {
-    projects = λ base l. record {
-      trees = seen_tree (base_of_layer files.start base l) l;
-      listed = listed files;
-      absent = λ path a h. seen_absent (base_of_layer files.start base l) l path a h;
-    };
-    imports = λ base l path. import_tree (base_of_layer files.start base l) l path;
-    trees = λ base k. unit_tree (base_of_layer files.start base (layer_of k)) k;
-  };
-  imports_see = λ l path b c h g. ap {B = Answers → Run (Leaving ImportState)} (λ (base : BaseState) (a : Answers). import_of_layer base l path a) (base_sees files l b c h g);
-  units_see = λ k b c h g. ap {B = Answers → Run (Leaving UnitLeft)} (λ (base : BaseState) (a : Answers). unit_over base k a) (base_sees files (layer_of k) b c h g);
-  records_see = λ l b c h g. refl;
-  one_stage = λ l p q. refl;
-  asks_low = λ k path. omega arith;
-  imports_based = λ l path b c h le. ap {B = Answers → Run (Leaving ImportState)} (λ (base : BaseState) (a : Answers). import_of_layer base l path a) (base_based files l b c h le);
-  units_based = λ k b c h le. ap {B = Answers → Run (Leaving UnitLeft)} (λ (base : BaseState) (a : Answers). unit_over base k a) (base_based files (layer_of k) b c h le);
-  records_based = λ l b c h le. refl;
-}
