@@ -1,59 +1,44 @@
--- A build that was loaded, by what it keeps.
-use Rattle.std.proofs.Common.{◌≡◌, ℕ, zero, suc, ◌<◌, List, [], ◌∷◌, length, slice_get, Option, Some, None, ◌∙◌, ap, subst}
+-- The numbers of the executions of a build that was loaded.
+use Rattle.std.proofs.Common.{◌≡◌, ◌⊎◌, inl, inr, ℕ, zero, suc, ◌+◌, ◌<◌, List, [], ◌∷◌, ◌++◌, map, take, length, get_or, slice_get, slice_index, Option, Some, refl, sym, ◌∙◌, ap, subst, arith}
+use Rattle.std.specs.List.{flat_map}
 use Rattle.std.proofs.Math.Logic.{∥∥₁_elim}
-use Rattle.std.proofs.lemmas.Grind.{not_there}
-use Rattle.std.proofs.lemmas.Option.{same_Some}
 use Rattle.std.specs.Coded.{×_prop, Unit-prop, le_prop}
+use Rattle.std.proofs.lemmas.List.{take_more, flat_map_more, map-append}
+use Rattle.std.proofs.lemmas.Option.{slice_get_within}
+use Rattle.gn_outside.specs.Lists.{Each}
+use Rattle.gn_closure.specs.Closure.{In}
 use Rattle.gn_items.specs.Effects.{Effects}
-use Rattle.gn_runs.specs.Runs.{End, ended, wrong, spoiled, needs}
-use Rattle.gn_core.specs.Keys.{Leaving, UnitLeft, Key, Answer, found, import_is, no_value, unit_is, record_is}
-use Rattle.gn_book.specs.Logs.{Log, state_of}
-use Rattle.gn_builds.specs.Loaded.{effects_in, effects_of}
-use Rattle.gn_load.specs.Answers.{unit_run, left_in, left_by}
-use Rattle.gn_load.specs.Whole.{AreWithin, IsLeft, IsWhole}
+use Rattle.gn_core.specs.Keys.{Answer}
+use Rattle.gn_book.specs.Logs.{Log, state_of, key_at}
+use Rattle.gn_projects.specs.Loaded.{effects_of}
+use Rattle.gn_builds.specs.Rest.{AreInOrder, effects_at}
+use Rattle.gn_load.specs.Whole.{AreWithin}
 
--- what an execution has left that has ended
-effects_left : (end : End (Leaving UnitLeft)) (e : Effects) → Some e ≡ left_in end → e ≡ effects_in end
-effects_left (ended left) e h = same_Some e left.effects h
-effects_left (wrong fault) e h = absurd (cc h)
-effects_left (spoiled path place) e h = absurd (cc h)
-effects_left (needs question place) e h = absurd (cc h)
+within_prop : (l : Log) (ns : List ℕ) → IsProp (AreWithin l ns)
+within_prop l [] = Unit-prop
+within_prop l (n ∷ ns) = ×_prop le_prop (within_prop l ns)
 
-pub effects_found : (x : Option Answer) (e : Effects) → Some e ≡ left_by (unit_run x) → e ≡ effects_of x
-effects_found None e h = absurd (cc h)
-effects_found (Some (found content)) e h = absurd (cc h)
-effects_found (Some (import_is run)) e h = absurd (cc h)
-effects_found (Some (no_value path place asked)) e h = absurd (cc h)
-effects_found (Some (unit_is run)) e h = effects_left run.end e h
-effects_found (Some (record_is bytes)) e h = absurd (cc h)
+-- what a build keeps of them
+pub are_within : (l : Log) (ns : List ℕ) → ∥ AreWithin l ns ∥₁ → AreWithin l ns
+are_within l ns within = ∥∥₁_elim within (within_prop l ns) (λ is. is)
 
--- a unit has left something
-left_there : (l : Log) (unit : Key) → IsLeft l unit → None ≡ left_by (unit_run ((state_of l).filed unit)) → ⊥
-left_there l unit left none =
-    let there : None ≡ left_in (ended left.1) = none ∙ ap (λ (x : Option Answer). left_by (unit_run x)) left.2 ∙ ap left_in left.3 in
-    absurd (cc there)
+each_of : {X : Type 0} (P : X → Type 0) (xs : List X) → ((x : X) → In xs x → P x) → Each P xs
+each_of P [] all = tt
+each_of P (x ∷ xs) all = (all x (inl refl), each_of P xs (λ y i. all y (inr i)))
 
-module _ (l : Log) (early imports : List (List ℕ × ℕ)) (configuration file : Key) where
-  -- the build configuration has
-  pub is_set_up : ∥ IsWhole l early imports configuration file ∥₁ → None ≡ left_by (unit_run ((state_of l).filed configuration)) → ⊥
-  is_set_up whole none = not_there whole (λ is. left_there l configuration is.set_up none)
+-- numbers of executions have keys
+pub within_order : (default : List ℕ) (l : Log) (ns : List ℕ) → AreInOrder default l ns → AreWithin l ns
+within_order default l ns order = each_of (λ n. n < length l.keys) ns (λ n i. let k = order.each n i in slice_get_within l.keys n k.0 k.1)
 
-  -- the build file has
-  pub is_left : ∥ IsWhole l early imports configuration file ∥₁ → None ≡ left_by (unit_run ((state_of l).filed file)) → ⊥
-  is_left whole none = not_there whole (λ is. left_there l file is.left none)
+pub within_index : (l : Log) (ns : List ℕ) → AreWithin l ns → (i : ℕ) → i < length ns → slice_index ns i < length l.keys
+within_index l [] within i less = absurd (omega (arith, less))
+within_index l (m ∷ ns) within zero less = within.0
+within_index l (m ∷ ns) within (suc i) less = within_index l ns within.1 i (omega (arith, less))
 
-  within_prop : (es : List (List ℕ × ℕ)) → IsProp (AreWithin l es)
-  within_prop [] = Unit-prop
-  within_prop (e ∷ es) = ×_prop le_prop (within_prop es)
-
-  -- the numbers of imports name keys
-  pub early_within : ∥ IsWhole l early imports configuration file ∥₁ → AreWithin l early
-  early_within whole = ∥∥₁_elim whole (within_prop early) (λ is. is.early_within)
-
-  pub are_within : ∥ IsWhole l early imports configuration file ∥₁ → AreWithin l imports
-  are_within whole = ∥∥₁_elim whole (within_prop imports) (λ is. is.within)
-
-pub within_at : (l : Log) (es : List (List ℕ × ℕ)) → AreWithin l es → (n : ℕ) (e : List ℕ × ℕ) → slice_get es n ≡ Some e → e.1 < length l.keys
-within_at l [] within n e is = absurd (cc is)
-within_at l (d ∷ es) within zero e is = subst (λ (c : List ℕ × ℕ). c.1 < length l.keys) (same_Some d e is) within.0
-within_at l (d ∷ es) within (suc n) e is = within_at l es within.1 n e is
+-- what one more execution has left stands behind what those before it have left
+pub left_more : {A : Type 0} (f : Effects → List A) (l : Log) (ns : List ℕ) (i : ℕ) (initial old new : List A) (e : Effects) → i < length ns → old ≡ initial ++ flat_map f (map (effects_at l) (take i ns)) → new ≡ old ++ f e
+    → e ≡ effects_at l (slice_index ns i) → new ≡ initial ++ flat_map f (map (effects_at l) (take (i + 1) ns))
+left_more f l ns i initial old new e less before more is =
+    let one : f e ≡ f (effects_at l (slice_index ns i)) = ap f is in
+    let all : map (effects_at l) (take i ns) ++ effects_at l (slice_index ns i) ∷ [] ≡ map (effects_at l) (take (i + 1) ns) = sym (map-append (effects_at l) (take i ns) (slice_index ns i ∷ [])) ∙ ap (map (effects_at l)) (sym (take_more ns i 0 less)) in
+    more ∙ (λ j. before j ++ one j) ∙ flat_map_more f initial (map (effects_at l) (take i ns)) (effects_at l (slice_index ns i)) ∙ ap (λ (es : List Effects). initial ++ flat_map f es) all

@@ -9,7 +9,7 @@ use Rattle.gn_outside.specs.declared.stops.ReadStop.TheVariants.{Failed as ReadF
 use Rattle.gn_outside.specs.Lists.{Extends}
 use Rattle.gn_outside.specs.Sources.{plain_reads}
 use Rattle.gn_core.specs.Keys.{Read}
-use Rattle.gn_builds.specs.Worlds.{content_in}
+use Rattle.gn_projects.specs.Files.{content_in}
 use Rattle.gn_load.specs.Answers.{content_view}
 use Rattle.gn_load.specs.Performing.{IsContent, IsReadBy, IsWorkOf}
 use Rattle.gn_load.specs.declared.answer.FileContent.{FileContent}

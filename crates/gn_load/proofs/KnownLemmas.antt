@@ -20,10 +20,8 @@ use Rattle.gn_imports.proofs.PathOrder.{path_eq, path_eq-Decides}
 use Rattle.gn_closure.specs.Closure.{In}
 use Rattle.gn_core.specs.Keys.{Key, Read, same_key}
 use Rattle.gn_book.specs.Logs.{Log, with_key}
-use Rattle.gn_builds.specs.Worlds.{content_in}
-use Rattle.gn_builds.specs.Driving.{count_of, is_read, one_if}
-use Rattle.gn_builds.specs.Causes.{read_count}
-use Rattle.gn_builds.proofs.Counts.{in_front, in_new, in_any, count_more}
+use Rattle.gn_projects.specs.Files.{content_in}
+use Rattle.gn_builds.proofs.Counts.{in_front, in_new, in_any}
 use Rattle.gn_load.specs.Answers.{content_view}
 use Rattle.gn_load.specs.Turns.{known_paths, KeepsKnown}
 use Rattle.gn_load.specs.declared.answer.FileContent.{FileContent}
@@ -104,10 +102,6 @@ rest_same (e ∷ es) path h = by (path_eq path e.0) (rest_same es path) h
     by true more none = absurd (cc none)
     by false more none = ap (λ (rest : Contents). e ∷ rest) (more none)
 
-pub paths_length : (es : Contents) → length (known_paths es) ≡ length es
-paths_length [] = refl
-paths_length (e ∷ es) = let more = paths_length es in omega (arith, more)
-
 -- a table that a map has has no path twice
 pub sorted_differ : (ps : List (List ℕ)) → IsStrictlySortedBy (slice_cmp nat_cmp) ps → AllDiffer ps
 unfolding IsStrictlySortedBy
@@ -156,17 +150,6 @@ has_new l k = by (list_any (same_key k) l.keys) refl
     by : (b : Bool) → list_any (same_key k) l.keys ≡ b → In (if b then l.keys else l.keys ++ k ∷ []) k
     by true is = in_any l.keys k is
     by false is = in_new l.keys k
-
--- how many are reads
-pub same_count : (l : Log) (k : Key) → is_read k ≡ false → read_count (with_key l k) ≡ read_count l
-same_count l k none = by (list_any (same_key k) l.keys)
-  where
-    by : (b : Bool) → count_of is_read (if b then l.keys else l.keys ++ k ∷ []) ≡ count_of is_read l.keys
-    by true = refl
-    by false = let more : count_of is_read (l.keys ++ k ∷ []) ≡ count_of is_read l.keys + 0 = count_more is_read l.keys k ∙ ap (λ (b : Bool). count_of is_read l.keys + one_if b) none in omega (arith, more)
-
-pub one_more : (l : Log) (path : List ℕ) → list_any (same_key (Read path)) l.keys ≡ false → read_count (with_key l (Read path)) ≡ read_count l + 1
-one_more l path new = ap (λ (b : Bool). count_of is_read (if b then l.keys else l.keys ++ Read path ∷ [])) new ∙ count_more is_read l.keys (Read path)
 
 -- What is kept of it
 

@@ -1,16 +1,23 @@
 mod Contents
-mod SetUps
-mod Seen
 mod KnownLemmas
 mod DriverParts
+mod CurrentLemmas
+mod DoneLemmas
 mod ReadLemmas
 mod ToldLemmas
 mod Evaluations
+mod Performs
+mod NeedsLemmas
 mod TurnLemmas
+mod TableLemmas
+mod ExecutionLemmas
+mod GeneratedLemmas
+mod JudgingLemmas
 mod BuiltLemmas
 mod PlainLemmas
 mod LinkLemmas
+mod LimitLemmas
 mod TakeLemmas
-mod WorkLemmas
 mod EndLemmas
 mod SetupLemmas
+pub mod KeptLemmas

@@ -6,13 +6,11 @@ use Rattle.gn_values.specs.Tables.{at_name}
 use Rattle.gn_core.specs.Keys.{Key, Read}
 use Rattle.gn_core.specs.Machine.{read_limit}
 use Rattle.gn_book.specs.Keys.{key_of}
-use Rattle.gn_book.specs.Logs.{Log, state_of}
+use Rattle.gn_book.specs.Logs.{Log}
 use Rattle.gn_book.specs.declared.book.Claim.{Claim}
 use Rattle.gn_builds.specs.Driving.{IsClaim}
-use Rattle.gn_load.specs.Bases.{AreBases}
 use Rattle.gn_load.specs.Turns.{IsTaken, IsKnownAt, IsFiledFrom, IsRead, ReadsOnce, IsReadOnce}
 use Rattle.gn_load.specs.declared.answer.FileContent.{FileContent}
-use Rattle.gn_load.specs.declared.bases.Bases.{Bases}
 use Rattle.gn_load.specs.declared.driver.Driver.{Driver}
 use Rattle.gn_load.specs.declared.driver.Stop.{Stop}
 use Rattle.gn_load.specs.declared.driver.Stop.TheVariants.{Memory}
@@ -26,10 +24,6 @@ module _ (old mid : Driver) (c : Claim) (found : Option FileContent) (is : IsKno
   module _ (read : (path : List ℕ) × (key_of c.key ≡ Read path)) where
     pub same_claim : IsClaim old.book c → IsClaim mid.book c
     same_claim claim = subst (λ (l : Log). IsClaim l c) (sym (at read.0 read.1).1.1) claim
-
-    pub same_bases : AreBases old.bases (state_of old.book).filed → AreBases mid.bases (state_of mid.book).filed
-    same_bases are =
-        subst (λ (b : Bases). AreBases b (state_of mid.book).filed) (sym (at read.0 read.1).1.0.bases) (subst (λ (l : Log). AreBases old.bases (state_of l).filed) (sym (at read.0 read.1).1.1) are)
 
     pub same_reads : old.reads ≤ read_limit → mid.reads ≤ read_limit
     same_reads few = subst (λ (n : ℕ). n ≤ read_limit) (sym (at read.0 read.1).1.0.reads) few

@@ -10,7 +10,7 @@ use Rattle.gn_outside.specs.Tree.{Tree, read_of}
 use Rattle.gn_outside.specs.Lists.{Each}
 use Rattle.gn_runs.specs.Runs.{Content}
 use Rattle.gn_values.specs.Tables.{Table, with_name, with_names}
-use Rattle.gn_builds.specs.Worlds.{content_in}
+use Rattle.gn_projects.specs.Files.{content_in}
 use Rattle.gn_load.specs.Answers.{content_view}
 use Rattle.gn_load.specs.Turns.{known_paths}
 use Rattle.gn_load.specs.Setups.{contents_known}

@@ -1,5 +1,6 @@
 -- The key of a claim needs another one: what becomes of that, by its key.
 use Rattle.std.proofs.Common.{◌≡◌, ℕ, zero, suc, ◌<◌, List, [], ◌∷◌, length, slice_get, unwrap_or, Option, Some, None, Bool, true, false, sym, ◌∙◌, ap, subst, arith}
+use Rattle.std.proofs.lemmas.Option.{slice_get_within}
 use Rattle.gn_paths.specs.declared.place.Place.{Place}
 use Rattle.gn_core.specs.Keys.{Key, Read, Answer}
 use Rattle.gn_core.specs.Machine.{State, Block, File, Leads}
@@ -14,12 +15,6 @@ use Rattle.gn_builds.specs.Driving.{IsClaim, IsLacked}
 use Rattle.gn_builds.proofs.Logs.{after_event}
 use Rattle.gn_builds.proofs.Going.{named_claim, blocked_claim}
 use Rattle.gn_load.specs.Turns.{TakesAs}
-
--- a place that has something is within the list
-pub got_within : {A : Type 0} (xs : List A) (n : ℕ) (x : A) → slice_get xs n ≡ Some x → n < length xs
-got_within [] n x e = absurd (cc e)
-got_within (y ∷ xs) zero x e = omega arith
-got_within (y ∷ xs) (suc n) x e = let less = got_within xs n x e in omega (arith, less)
 
 -- an answer is filed by the seat of a claim, for its key
 pub filed_as : (old new : Log) (c : Claim) (v : Answer) → IsClaim old c → new ≡ with_event old (File c.seat (key_at old c.number) v) → new ≡ with_event old (File 0 (key_of c.key) v)
@@ -74,7 +69,7 @@ module _ (old : Log) (c : Claim) (on : Key) (n : ℕ) (place : Place) (is : IsCl
               free,
               subst (λ (l : Log). IsClaim l other) (sym there)
                   (record {
-                    held = record { number = subst (λ (m : ℕ). m < length named.keys) (sym h.5) (got_within named.keys n on at); claimed = ap (state_of log).claims names ∙ given free };
+                    held = record { number = subst (λ (m : ℕ). m < length named.keys) (sym h.5) (slice_get_within named.keys n on at); claimed = ap (state_of log).claims names ∙ given free };
                     seat = h.4 ∙ kept.seat;
                     key = h.3 ∙ key ∙ sym names;
                   }),

@@ -4,8 +4,9 @@ use Rattle.gn_definitions.specs.Imported.{ImportState}
 use Rattle.gn_items.specs.Effects.{Effects}
 use Rattle.gn_items.specs.Questions.{question_of}
 use Rattle.gn_runs.specs.Runs.{Content, has_bytes, is_absent, is_too_big, End, ended, wrong, spoiled, needs, Run}
+use Rattle.gn_closure.specs.Reach.{Done}
 use Rattle.gn_core.specs.Keys.{Answer, found, import_is, no_value, unit_is, Leaving, UnitLeft}
-use Rattle.gn_builds.specs.Worlds.{nothing_needed}
+use Rattle.gn_projects.specs.Needs.{file_needs, configuration_needs}
 use Rattle.gn_load.specs.declared.answer.FileContent.{FileContent}
 use Rattle.gn_load.specs.declared.answer.FileContent.TheVariants.{Bytes, Absent, TooBig}
 use Rattle.gn_load.specs.declared.answer.Executed.{Executed}
@@ -19,20 +20,25 @@ content_view (Bytes file) = has_bytes file.value.bytes
 content_view Absent = is_absent
 content_view TooBig = is_too_big
 
--- how an execution has ended, as a run
-abbrev pub run_of : {A B : Type 0} → (A → B) → Executed A → Run (Leaving B)
-run_of f (Left value effects) = record { end = ended (record { value = f value; effects = effects }); asked = effects.asked }
+-- how an execution has ended, as a run: what it leaves is made of its value and of its effects
+abbrev pub run_of : {A B : Type 0} → (A → Effects → B) → Executed A → Run (Leaving B)
+run_of f (Left value effects) = record { end = ended (record { value = f value effects; effects = effects }); asked = effects.asked }
 run_of f (Wrong fault asked) = record { end = wrong fault; asked = map question_of asked.items }
 run_of f (Spoiled path place asked) = record { end = spoiled path place; asked = map question_of asked.items }
 
--- what a unit has left: it needs nothing yet
-abbrev pub unit_left : Option ImportState → UnitLeft
-unit_left beneath = record { needs = nothing_needed; beneath = beneath }
+-- what a unit needs that has left this: a build configuration leaves what stands beneath the files behind it, and a build file has items
+abbrev pub needs_of : Option ImportState → Effects → Done
+needs_of (Some value) effects = configuration_needs effects.default_toolchain
+needs_of None effects = file_needs effects.items
+
+-- what a unit has left
+abbrev pub unit_left : Option ImportState → Effects → UnitLeft
+unit_left beneath effects = record { needs = needs_of beneath effects; beneath = beneath }
 
 -- what is filed, as the answer of a key
 abbrev pub meaning_of : Filed → Answer
 meaning_of (content_filed content) = found (content_view content)
-meaning_of (import_filed executed) = import_is (run_of (λ value. value) executed)
+meaning_of (import_filed executed) = import_is (run_of (λ value effects. value) executed)
 meaning_of (unit_filed executed) = unit_is (run_of unit_left executed)
 meaning_of (NoValue path place asked) = no_value path place (map question_of asked.items)
 

@@ -1,17 +1,19 @@
 -- What the work on one claim comes to, outside the book: over some part of the answers that are filed.
-use Rattle.std.specs.Prelude.{◌≡◌, true, ◌⊎◌, ℕ, ◌<◌, List, [], ◌∷◌, map, Option, Result, Ok, Err}
+use Rattle.std.specs.Prelude.{◌≡◌, true, ◌⊎◌, ℕ, ◌<◌, List, [], ◌∷◌, Option, Result, Ok, Err}
 use Rattle.gn_outside.specs.Tree.{Tree, read_of}
 use Rattle.gn_outside.specs.States.{SourceState, SourceRead}
 use Rattle.gn_outside.specs.Lists.{Extends}
 use Rattle.gn_outside.specs.Sources.{plain_reads}
-use Rattle.gn_items.specs.Questions.{question_of}
+use Rattle.gn_items.specs.declared.key.Key.{Key as Named}
 use Rattle.gn_runs.specs.Runs.{has_bytes}
 use Rattle.gn_executions.specs.Base.{BaseState}
 use Rattle.gn_core.specs.Keys.{Key, Read, Import, Unit_of, Resolve, found, Filed}
 use Rattle.gn_book.specs.Keys.{key_of as named_by}
-use Rattle.gn_builds.specs.Worlds.{content_in}
+use Rattle.gn_projects.specs.Files.{content_in}
 use Rattle.gn_builds.specs.Working.{IsRightOver, IsInNeed, AsksContent}
 use Rattle.gn_load.specs.Answers.{content_view, meaning_of}
+use Rattle.gn_load.specs.Bases.{IsBaseFor}
+use Rattle.gn_load.specs.Kept.{asked_so_far, asked_for, KeepsOf}
 use Rattle.gn_load.specs.declared.answer.FileContent.{FileContent}
 use Rattle.gn_load.specs.declared.work.Performed.{Performed}
 use Rattle.gn_load.specs.declared.work.Performed.TheVariants.{Answered, Needs}
@@ -21,8 +23,17 @@ use Rattle.gn_load.specs.declared.work.PerformStop.TheVariants.{Failed, Memory}
 -- The work on a claim: the answer is right over this part, or the evaluation needs another answer over it
 abbrev pub IsPerformed : BaseState → Filed → Key → Performed → Type 0
 IsPerformed start part k (Answered filed) = IsRightOver start part k (meaning_of filed)
-IsPerformed start part k (Needs on place asked) =
-    IsInNeed start part k (named_by on) place (map question_of asked.items) × AsksContent (named_by on) (map question_of asked.items)
+IsPerformed start part k (Needs on place kept) =
+    IsInNeed start part k (named_by on) place (asked_for (named_by on) (asked_so_far kept)) × AsksContent (named_by on) (asked_for (named_by on) (asked_so_far kept))
+
+-- it is the work on a claim over a base, where the base is that of its key
+abbrev pub IsPerformedOver : BaseState → Filed → Key → Performed → Type 0
+IsPerformedOver base part k done = (start : BaseState) → IsBaseFor start part k base → IsPerformed start part k done
+
+-- what is kept is the rest of the execution of the key over this part, where it is to go on
+abbrev pub KeepsFor : BaseState → Filed → Named → Performed → Type 0
+KeepsFor base part key (Answered filed) = Unit {0}
+KeepsFor base part key (Needs on place kept) = KeepsOf base part key kept
 
 -- the answer of a read is what the tree has at its path
 abbrev pub IsOfTree : Tree → Key → Performed → Type 0
@@ -59,7 +70,7 @@ abbrev pub IsEvaluated : {E : Type 0} → Result Performed E → Result Performe
 IsEvaluated (Ok done) r = r ≡ Ok done
 IsEvaluated (Err e) r = r ≡ Err Memory
 
--- no record is made yet
+-- the work on a claim makes no record
 abbrev pub HasWork : Key → Type 0
 HasWork (Read path) = Unit {0}
 HasWork (Import l path) = Unit {0}

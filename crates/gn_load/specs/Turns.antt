@@ -1,34 +1,27 @@
 -- What the turns of loading by one seat do.
 use Rattle.std.specs.Prelude.{◌≡◌, ◌⊎◌, ℕ, suc, ◌+◌, ◌-◌, ◌<◌, ◌≤◌, List, [], ◌∷◌, map, length, Option, Some, None, true, false, Result, Ok, Err}
-use Rattle.std.specs.Map.{keys_of}
-use Rattle.std.specs.List.Sorted.{IsStrictlySortedBy}
-use Rattle.std.specs.Ordering.{nat_cmp}
-use Rattle.std.specs.Cmp.Lexicographic.{slice_cmp}
 use Rattle.gn_paths.specs.declared.place.Place.{Place}
 use Rattle.gn_outside.specs.Tree.{Tree, read_of}
 use Rattle.gn_outside.specs.States.{SourceState}
 use Rattle.gn_outside.specs.Lists.{Extends, Each}
 use Rattle.gn_outside.specs.Sources.{plain_reads}
 use Rattle.gn_runs.specs.Runs.{Question, Content}
-use Rattle.gn_values.specs.Tables.{at_name, with_name, without_name}
-use Rattle.gn_items.specs.declared.key.When.{When}
-use Rattle.gn_items.specs.declared.key.When.TheVariants.{Early, Usual}
+use Rattle.gn_values.specs.Tables.{at_name, without_name}
 use Rattle.gn_closure.specs.Closure.{In}
 use Rattle.gn_closure.specs.Reach.{Unit_key}
 use Rattle.gn_executions.specs.Base.{BaseState}
-use Rattle.gn_core.specs.Keys.{early, usual, Key, Read, Unit_of, Answer, found, Filed}
+use Rattle.gn_core.specs.Keys.{Key, Read, Unit_of, Answer, found}
 use Rattle.gn_core.specs.Machine.{Block, File, Leads, read_limit}
+use Rattle.gn_core.specs.Layered.{IsPart}
 use Rattle.gn_book.specs.Keys.{key_of}
 use Rattle.gn_book.specs.Logs.{Log, state_of, with_key, with_event, IsFree}
 use Rattle.gn_book.specs.declared.book.Claim.{Claim}
-use Rattle.gn_builds.specs.Worlds.{content_in}
+use Rattle.gn_projects.specs.Files.{content_in}
 use Rattle.gn_builds.specs.Stacks.{MayWait}
-use Rattle.gn_builds.specs.Rest.{AreImports}
-use Rattle.gn_builds.specs.Causes.{read_count}
-use Rattle.gn_builds.specs.Working.{IsInNeed, IsSeen, AsksContent}
-use Rattle.gn_builds.specs.Driving.{keys_of as claimed_keys, IsClaim, with_claim, IsGoing, ReadsNumbered, FailsAt, HasTooMany, left_to_do, IsBegun}
+use Rattle.gn_builds.specs.Working.{IsInNeed, AsksContent}
+use Rattle.gn_builds.specs.Driving.{keys_of as claimed_keys, IsClaim, with_claim, IsGoing, AreOfLayer, ReadsNumbered, FailsAt, IsLarge, left_to_do, IsBegun}
 use Rattle.gn_load.specs.Answers.{content_view}
-use Rattle.gn_load.specs.Bases.{AreBases}
+use Rattle.gn_load.specs.Current.{layer_now, IsCurrent}
 use Rattle.gn_load.specs.declared.answer.FileContent.{FileContent}
 use Rattle.gn_load.specs.declared.driver.Driver.{Driver}
 use Rattle.gn_load.specs.declared.driver.Stop.{Stop}
@@ -55,34 +48,25 @@ pub record KeepsKnown (known : List (List ℕ)) (before : SourceState) (left : L
   pub only : (path : List ℕ) → In (known_paths left) path → In known path
   pub told : (tree : Tree) → before.tree ≡ Some tree → Each (λ (e : List ℕ × FileContent). content_view e.1 ≡ content_in (read_of tree e.0)) left
 
--- what the evaluations of claims see of other units is filed
-abbrev pub AreSeen : Filed → List Claim → Type 0
-AreSeen filed cs = (k : Key) → In (claimed_keys cs) k → IsSeen filed k
-
--- The driver goes on with these claims. It has the bases of its evaluations, what was read before and isn't filed, and the number of each import that has
--- one; what is filed was read, or was read before
+-- The driver goes on with these claims. It has the base of their layer, and what was read before and isn't filed; what is filed was read, or was read before
 pub record Goes (known : List (List ℕ)) (before now : SourceState) (d : Driver) (cs : List Claim) : Type 0 where
-  pub going : IsGoing d.bases.early known before now d.book cs d.reads
-  pub bases : AreBases d.bases (state_of d.book).filed
-  pub seen : AreSeen (state_of d.book).filed cs
+  pub going : IsGoing d.base.start known before now d.book cs d.reads
+  pub base : IsCurrent d.base (state_of d.book).filed
+  pub layer : AreOfLayer (layer_now d.base) (claimed_keys cs)
   pub kept : KeepsKnown known before d.known.entries d.book.keys
-  pub counted : d.reads + length known ≡ read_count d.book + length d.known.entries
-  pub early : AreImports (early []) d.book d.early.entries
-  pub imports : AreImports (usual []) d.book d.imports.entries
 
 -- the rest of the driver stays
 pub record IsStill (old new : Driver) : Type 0 where
+  pub base : new.base ≡ old.base
   pub known : new.known.entries ≡ old.known.entries
   pub reads : new.reads ≡ old.reads
-  pub early : new.early ≡ old.early
-  pub imports : new.imports ≡ old.imports
 
 -- Where loading ends before all is loaded
 
 -- a read has failed, the build is too large, or memory was wanting
 abbrev pub IsStop : BaseState → List (List ℕ) → SourceState → SourceState → Stop → Type 0
 IsStop start known before now (Failed path) = ReadsNumbered start known before now × FailsAt path before now
-IsStop start known before now TooLarge = HasTooMany start known before now
+IsStop start known before now TooLarge = IsLarge start known before now
 IsStop start known before now Memory = ReadsNumbered start known before now × (now.faults ≡ before.faults)
 
 -- Turns
@@ -91,8 +75,7 @@ IsStop start known before now Memory = ReadsNumbered start known before now × (
 pub record IsCounted (old new : Driver) (c : Claim) (v : Answer) : Type 0 where
   pub book : new.book ≡ with_event old.book (File 0 (key_of c.key) v)
   pub waiting : new.waiting ≡ old.waiting
-  pub imports : (new.early ≡ old.early) × (new.imports ≡ old.imports)
-  pub begins : (new.bases ≡ old.bases) × (new.known ≡ old.known)
+  pub begins : (new.base ≡ old.base) × (new.known ≡ old.known)
   pub reads : new.reads ≡ old.reads + 1
 
 abbrev pub ReadsAs : Driver → Driver → Claim → Answer → Result (Unit {0}) Stop → Type 0
@@ -135,11 +118,9 @@ IsRead before after old new c r = (path : List ℕ) → key_of c.key ≡ Read pa
 -- what was read before at a path is taken out
 pub record IsTakenFrom (path : List ℕ) (old new : Driver) : Type 0 where
   pub known : new.known.entries ≡ without_name path old.known.entries
-  pub bases : new.bases ≡ old.bases
+  pub base : new.base ≡ old.base
   pub waiting : new.waiting ≡ old.waiting
   pub reads : new.reads ≡ old.reads
-  pub early : new.early ≡ old.early
-  pub imports : new.imports ≡ old.imports
 
 abbrev pub IsTaken : List ℕ → Driver → Driver → Type 0
 IsTaken path old new = IsTakenFrom path old new × (new.book ≡ old.book)
@@ -152,12 +133,10 @@ IsKnownAt old new k content = (content ≡ None) × (new ≡ old)
 -- what was read before is filed
 pub record IsFiledFrom (old new : Driver) (c : Claim) (content : FileContent) : Type 0 where
   pub book : new.book ≡ with_event old.book (File 0 (key_of c.key) (found (content_view content)))
-  pub bases : new.bases ≡ old.bases
+  pub base : new.base ≡ old.base
   pub known : new.known ≡ old.known
   pub waiting : new.waiting ≡ old.waiting
   pub reads : new.reads ≡ old.reads
-  pub early : new.early ≡ old.early
-  pub imports : new.imports ≡ old.imports
 
 -- the answer of a read that was known before is filed, and the source isn't asked
 pub record IsFiledKnown (before after : SourceState) (old new : Driver) (c : Claim) (path : List ℕ) (content : FileContent) : Type 0 where
@@ -181,41 +160,42 @@ ReadsOnce before after old new c path (Some content) r = IsReadKnown before afte
 abbrev pub IsReadOnce : SourceState → SourceState → Driver → Driver → Claim → Result (Unit {0}) Stop → Type 0
 IsReadOnce before after old new c r = (path : List ℕ) → key_of c.key ≡ Read path → ReadsOnce before after old new c path (at_name path old.known.entries) r
 
--- the number of an import is put down, among those of the layer
-abbrev pub IsNumbered : List (List ℕ × ℕ) → List (List ℕ × ℕ) → List ℕ → ℕ → Type 0
-IsNumbered old new path number = (new ≡ with_name path number old) × IsStrictlySortedBy (slice_cmp nat_cmp) (keys_of new)
-
-abbrev pub NotedAmong : List (List ℕ × ℕ) → List (List ℕ × ℕ) → When → When → List ℕ → ℕ → Type 0
-NotedAmong old new Early Early path number = IsNumbered old new path number
-NotedAmong old new Early Usual path number = new ≡ old
-NotedAmong old new Usual Early path number = new ≡ old
-NotedAmong old new Usual Usual path number = IsNumbered old new path number
-
-pub record IsNoted (old new : Driver) (when : When) (path : List ℕ) (number : ℕ) : Type 0 where
-  pub early : NotedAmong old.early.entries new.early.entries Early when path number
-  pub imports : NotedAmong old.imports.entries new.imports.entries Usual when path number
-  pub book : new.book ≡ old.book
-  pub bases : new.bases ≡ old.bases
-  pub known : new.known ≡ old.known
-  pub waiting : new.waiting ≡ old.waiting
-  pub reads : new.reads ≡ old.reads
-
 -- nothing is left to go on with only where no claim waits
 abbrev pub IsNextOf : Option Claim → List Claim → Type 0
 IsNextOf None cs = cs ≡ []
 IsNextOf (Some c) cs = Unit {0}
 
+-- the answer of a claim is filed, and the seat goes on with the one behind it
+pub record Settles (old new : Driver) (c : Claim) (v : Answer) (first : Option Claim) : Type 0 where
+  pub book : new.book ≡ with_event old.book (File 0 (key_of c.key) v)
+  pub waiting : old.waiting.items ≡ with_claim first new.waiting.items
+  pub next : IsNextOf first new.waiting.items
+  pub rest : IsStill old new
+
+-- a claim waits for another one, with which the seat goes on
+pub record Waits (old new : Driver) (c other : Claim) (first : Option Claim) : Type 0 where
+  pub next : first ≡ Some other
+  pub waiting : new.waiting.items ≡ c ∷ old.waiting.items
+  pub book : new.book ≡ old.book
+  pub rest : IsStill old new
+
 -- how many files it can still read, and take of those that were read before
 abbrev pub room_of : Driver → ℕ
 room_of d = (suc read_limit - d.reads) + length d.known.entries
 
--- the driver goes on, and less is left to do; no key goes, and no unit is taken up
+-- the driver goes on, and less is left to do; no key and no answer goes, and no unit is taken up
 pub record IsTurned (known : List (List ℕ)) (before now : SourceState) (old new : Driver) (cs : List Claim) : Type 0 where
   pub goes : Goes known before now new cs
-  pub start : new.bases.early ≡ old.bases.early
-  pub less : left_to_do (room_of new) new.book < left_to_do (room_of old) old.book
+  pub base : new.base ≡ old.base
+  pub less : left_to_do (layer_now old.base) (room_of new) new.book < left_to_do (layer_now old.base) (room_of old) old.book
   pub begun : (k : Key) → IsBegun (state_of old.book) k → IsBegun (state_of new.book) k
+  pub more : IsPart (state_of old.book).filed (state_of new.book).filed
   pub units : (u : Unit_key) → IsBegun (state_of new.book) (Unit_of u) → IsBegun (state_of old.book) (Unit_of u)
+
+-- want of memory ends loading
+abbrev pub IsLifted : {E : Type 0} → Result (Option Claim) E → Result (Option Claim) Stop → Type 0
+IsLifted (Ok next) r = r ≡ Ok next
+IsLifted (Err e) r = r ≡ Err Memory
 
 -- no read goes on: it is done in the turn in which it is claimed
 abbrev pub MayGoOn : Option Claim → Type 0
@@ -225,14 +205,14 @@ MayGoOn (Some c) = MayWait (key_of c.key)
 -- what one turn comes to
 abbrev pub IsTurn : List (List ℕ) → SourceState → SourceState → Driver → Driver → Result (Option Claim) Stop → Type 0
 IsTurn known before now old new (Ok next) = IsTurned known before now old new (with_claim next new.waiting.items) × IsNextOf next new.waiting.items × MayGoOn next
-IsTurn known before now old new (Err stop) = IsStop old.bases.early known before now stop
+IsTurn known before now old new (Err stop) = IsStop old.base.start known before now stop
 
 -- what the read of a file comes to, for which the key of a claim waits
 abbrev pub IsReadFor : List (List ℕ) → SourceState → SourceState → Driver → Driver → Claim → Result (Unit {0}) Stop → Type 0
 IsReadFor known before now old new c (Ok u) = IsTurned known before now old new (c ∷ new.waiting.items) × (new.waiting ≡ old.waiting)
-IsReadFor known before now old new c (Err stop) = IsStop old.bases.early known before now stop
+IsReadFor known before now old new c (Err stop) = IsStop old.base.start known before now stop
 
 -- what the work on a unit and on all that it needs comes to
 abbrev pub IsFinish : List (List ℕ) → SourceState → SourceState → Driver → Driver → Result (Unit {0}) Stop → Type 0
 IsFinish known before now old new (Ok u) = IsTurned known before now old new [] × (new.waiting.items ≡ [])
-IsFinish known before now old new (Err stop) = IsStop old.bases.early known before now stop
+IsFinish known before now old new (Err stop) = IsStop old.base.start known before now stop

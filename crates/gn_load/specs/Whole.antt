@@ -1,27 +1,25 @@
--- What holds of the parts of a build that was loaded.
-use Rattle.std.specs.Prelude.{◌≡◌, ℕ, ◌<◌, List, length, map, Some}
+-- What holds of the parts of a build that was loaded: values that stand in the order of texts by which they differ.
+use Rattle.std.specs.Prelude.{◌≡◌, ℕ, ◌<◌, List, [], ◌∷◌, map, length, Option, Some, None}
 use Rattle.gn_outside.specs.Lists.{Each}
-use Rattle.gn_items.specs.Effects.{Effects}
-use Rattle.gn_runs.specs.Runs.{Run, ended}
-use Rattle.gn_core.specs.Keys.{Leaving, UnitLeft, Key, unit_is}
-use Rattle.gn_book.specs.Logs.{Log, state_of}
-use Rattle.gn_builds.specs.Loaded.{effects_at}
+use Rattle.gn_closure.specs.Closure.{In}
+use Rattle.gn_items.specs.Effects.{Effects, no_effects}
+use Rattle.gn_book.specs.Logs.{Log}
 
--- the numbers of imports name keys
-abbrev pub AreWithin : Log → List (List ℕ × ℕ) → Type 0
-AreWithin l imports = Each (λ (e : List ℕ × ℕ). e.1 < length l.keys) imports
+-- The entries of a table: each value stands at a key that has its texts, and these values are there
+pub record IsTable {K V : Type 0} (view : K → List (List ℕ)) (texts : V → List (List ℕ)) (has : V → Type 0) (entries : List (K × V)) : Type 0 where
+  pub each : Each (λ (e : K × V). has e.1 × (view e.0 ≡ texts e.1)) entries
+  pub all : (v : V) → has v → In (map (λ (e : K × V). e.1) entries) v
 
--- what imports have left, by their numbers
-abbrev pub effects_by : Log → List (List ℕ × ℕ) → List Effects
-effects_by l imports = map (λ (e : List ℕ × ℕ). effects_at l e.1) imports
+-- a toolchain that isn't the default one, as toolchains are ordered
+abbrev pub text_key : Option (List ℕ) → List ℕ
+text_key None = []
+text_key (Some text) = 0 ∷ text
 
--- a unit of a build has an answer, which has a value
-abbrev pub IsLeft : Log → Key → Type 0
-IsLeft l unit = (run : Run (Leaving UnitLeft)) × (value : Leaving UnitLeft) × ((state_of l).filed unit ≡ Some (unit_is run)) × (run.end ≡ ended value)
+-- these numbers have keys
+abbrev pub AreWithin : Log → List ℕ → Type 0
+AreWithin l numbers = Each (λ n. n < length l.keys) numbers
 
--- the units of a build have left something, and the numbers of its imports name keys
-pub record IsWhole (l : Log) (early imports : List (List ℕ × ℕ)) (configuration file : Key) : Type 0 where
-  pub set_up : IsLeft l configuration
-  pub left : IsLeft l file
-  pub early_within : AreWithin l early
-  pub within : AreWithin l imports
+-- what an execution has left: nothing, where there is none
+abbrev pub effects_left : Option Effects → Effects
+effects_left None = no_effects
+effects_left (Some effects) = effects

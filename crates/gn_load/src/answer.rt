@@ -2,18 +2,18 @@
 
 ghost use Rattle.std.specs.Prelude.{◌≡◌, ◌<◌, IfOk, Some, length, option_map};
 ghost use Rattle.gn_book.specs.Keys.{key_of};
+ghost use Rattle.gn_book.specs.Graphs.{mentioned};
 ghost use Rattle.gn_book.specs.Logs.{key_at, state_of};
-ghost use Rattle.gn_graph.specs.Needs.{done_of};
+ghost use Rattle.gn_core.specs.Keys.{done_in};
 ghost use Rattle.gn_load.specs.Answers.{content_view, run_of, unit_left, meaning_of, unit_run, left_in};
-ghost use Rattle.gn_builds.specs.Worlds.{nothing_needed};
 
 use crate::file_bytes::FileBytes;
+use crate::needs::unit_needs;
 use gn_book::{Book, KeyId, Mentions};
 use gn_definitions::ImportValue;
 use gn_faults::Fault;
-use gn_graph::UnitNeeds;
 use gn_items::{Key, Outcome, Question};
-use gn_paths::{Path, Place, Text};
+use gn_paths::{Path, Place};
 use std::alloc::{AllocError, Global};
 use std::marker::Model;
 use std::sync::Arc;
@@ -113,14 +113,19 @@ impl Answer {
     }
 }
 
-// A unit that is done needs nothing: labels of other directories aren't followed yet, nor is that of the default toolchain.
-fn nothing_needed(alloc: Global) -> UnitNeeds
-    ensures { done_of result ≡ nothing_needed }
+// What a unit says that has ended.
+fn unit_mentions(
+    alloc: Global,
+    executed: &Executed<Option<ImportValue>>,
+) -> Result<Mentions, AllocError>
+    ensures { IfOk result (λ mentions. mentioned mentions ≡ Some (done_in (run_of unit_left executed.now).end)) }
 {
-    UnitNeeds {
-        default: Text::new(alloc),
-        targets: Vec::new(alloc),
-        toolchains: Vec::new(alloc),
+    match executed {
+        Executed::Left(beneath, outcome) => Ok(Mentions::Needs(unit_needs(
+            alloc, beneath, outcome,
+        )?)),
+        Executed::Wrong(..) => Ok(Mentions::Nothing),
+        Executed::Spoiled(..) => Ok(Mentions::Nothing),
     }
 }
 
@@ -132,9 +137,7 @@ impl gn_book::Answer for Answer {
             Filed::Content(_) => Ok(Mentions::NoUnit),
             Filed::Import(_) => Ok(Mentions::NoUnit),
             Filed::NoValue(..) => Ok(Mentions::NoUnit),
-            Filed::Unit(Executed::Left(..)) => Ok(Mentions::Needs(nothing_needed(alloc))),
-            Filed::Unit(Executed::Wrong(..)) => Ok(Mentions::Nothing),
-            Filed::Unit(Executed::Spoiled(..)) => Ok(Mentions::Nothing),
+            Filed::Unit(executed) => unit_mentions(alloc, executed),
         }
     }
 }

@@ -1,56 +1,32 @@
 // A build that was loaded.
 
-ghost use Rattle.std.specs.Prelude.{◌≡◌, ◌++◌, Some, IfOk, OnOk, map, option_map};
+ghost use Rattle.std.specs.Prelude.{◌≡◌, ◌<◌, ◌++◌, Some, IfOk, OnOk, map, length, option_map};
 ghost use Rattle.std.specs.List.{flat_map};
-ghost use Rattle.gn_book.specs.Keys.{key_of};
-ghost use Rattle.gn_book.specs.Logs.{state_of};
-ghost use Rattle.gn_builds.specs.Loaded.{lines, effects_of, lines_of_build, declared_by_build};
-ghost use Rattle.gn_load.specs.Answers.{meaning_of, unit_run, left_by};
-ghost use Rattle.gn_load.specs.Whole.{AreWithin, effects_by, IsWhole};
+ghost use Rattle.gn_projects.specs.Loaded.{lines, effects_of, lines_of_build, declared_by_build, items_of_build};
+ghost use Rattle.gn_builds.specs.Rest.{effects_at};
+ghost use Rattle.gn_load.specs.Answers.{meaning_of};
+ghost use Rattle.gn_load.specs.Whole.{AreWithin, effects_left};
 
-use crate::answer::{Answer, Executed, Filed, find, find_at, left_of, unit_of};
+use crate::answer::{Answer, Executed, Filed, find_at};
+use crate::judging::Parts;
 use gn_book::{Book, KeyId};
-use gn_items::{Declaration, Key, Outcome};
-use gn_paths::{Path, Text};
+use gn_items::{Declaration, Item, Outcome};
+use gn_labels::Label;
+use gn_paths::Text;
 use std::alloc::{AllocError, Global};
-use std::collections::BTreeMap;
 
-/// A build that was loaded: what its build configuration, its build file and their imports have left.
+/// A build that was loaded: what its executions have left, and the targets that it generates.
 #[derive(Drop)]
 pub struct Built {
     pub(crate) book: Book<Answer>,
-    // The numbers of the imports of the build configuration, and of the others, by the paths of their files.
-    pub(crate) early: BTreeMap<Path, KeyId>,
-    pub(crate) imports: BTreeMap<Path, KeyId>,
-    // The keys of the build configuration and of the build file.
-    pub(crate) configuration: Key,
-    pub(crate) file: Key,
+    // The text of the default toolchain.
+    pub(crate) default: Text,
+    // The numbers of the executions, in their order.
+    pub(crate) executions: Vec<KeyId>,
+    // The labels of the targets, in label order.
+    pub(crate) generated: Vec<Label>,
 
-    ghost whole: { ∥ IsWhole book early.entries imports.entries (key_of configuration) (key_of file) ∥₁ },
-}
-
-// Puts the lines at the end that an answer has printed.
-fn append_answer(text: &mut Vec<u8>, answer: &Filed) -> Result<(), AllocError>
-    ensures { OnOk result (text.new.items ≡ text.old.items ++ lines (effects_of (Some (meaning_of answer.now)))) }
-{
-    match answer {
-        Filed::Import(Executed::Left(_, outcome)) => append_lines(text, outcome.prints()),
-        Filed::Unit(Executed::Left(_, outcome)) => append_lines(text, outcome.prints()),
-        Filed::Import(Executed::Wrong(..) | Executed::Spoiled(..)) => Ok(()),
-        Filed::Unit(Executed::Wrong(..) | Executed::Spoiled(..)) => Ok(()),
-        Filed::Content(_) => Ok(()),
-        Filed::NoValue(..) => Ok(()),
-    }
-}
-
-// Puts the lines at the end that an answer has printed, if there is one.
-fn append_found(text: &mut Vec<u8>, answer: Option<&Filed>) -> Result<(), AllocError>
-    ensures { OnOk result (text.new.items ≡ text.old.items ++ lines (effects_of (option_map (λ filed. meaning_of filed.now) answer.entry))) }
-{
-    match answer {
-        None => Ok(()),
-        Some(answer) => append_answer(text, answer),
-    }
+    ghost within: { ∥ AreWithin book executions.items ∥₁ },
 }
 
 // Puts lines at the end.
@@ -63,23 +39,54 @@ fn append_lines(text: &mut Vec<u8>, lines: &[Text]) -> Result<(), AllocError>
     Ok(())
 }
 
-// Puts the lines at the end that imports have printed, in the order of the paths of their files.
-fn append_imports(
-    text: &mut Vec<u8>,
-    book: &Book<Answer>,
-    imports: &BTreeMap<Path, KeyId>,
-) -> Result<(), AllocError>
-    requires { AreWithin book.now imports.now.entries }
-    ensures { OnOk result (text.new.items ≡ text.old.items ++ flat_map lines (effects_by book.now imports.now.entries)) }
+// What an answer says that an execution has left. Nothing comes where it has left nothing.
+fn left_by(answer: &Filed) -> Option<&Outcome>
+    ensures { effects_left (option_map (λ outcome. outcome.now) result) ≡ effects_of (Some (meaning_of answer.now)) }
 {
-    for (_, number) in imports {
-        append_found(text, find_at(book, *number))?;
+    match answer {
+        Filed::Import(Executed::Left(_, outcome)) => Some(outcome),
+        Filed::Unit(Executed::Left(_, outcome)) => Some(outcome),
+        Filed::Import(Executed::Wrong(..) | Executed::Spoiled(..)) => None,
+        Filed::Unit(Executed::Wrong(..) | Executed::Spoiled(..)) => None,
+        Filed::Content(_) => None,
+        Filed::NoValue(..) => None,
+    }
+}
+
+// The same of the answer of the execution of a number.
+fn left_at<'a>(book: &'a Book<Answer>, number: KeyId) -> Option<&'a Outcome>
+    requires { number < length book.now.keys }
+    ensures { effects_left (option_map (λ outcome. outcome.now) result) ≡ effects_at book.now number }
+{
+    match find_at(book, number) {
+        None => None,
+        Some(answer) => left_by(answer),
+    }
+}
+
+// Puts the lines at the end that an execution has printed.
+fn append_left(text: &mut Vec<u8>, left: Option<&Outcome>) -> Result<(), AllocError>
+    ensures { OnOk result (text.new.items ≡ text.old.items ++ lines (effects_left (option_map (λ outcome. outcome.now) left.entry))) }
+{
+    match left {
+        None => Ok(()),
+        Some(outcome) => append_lines(text, outcome.prints()),
+    }
+}
+
+// Puts the lines at the end that the executions of these numbers have printed.
+fn append_all(text: &mut Vec<u8>, book: &Book<Answer>, numbers: &[KeyId]) -> Result<(), AllocError>
+    requires { AreWithin book.now numbers.now }
+    ensures { OnOk result (text.new.items ≡ text.old.items ++ flat_map lines (map (effects_at book.now) numbers.now)) }
+{
+    for number in numbers {
+        append_left(text, left_at(book, *number))?;
     }
     Ok(())
 }
 
 // Puts declarations behind others.
-fn push_all<'a>(
+fn push_declarations<'a>(
     declarations: &'a [Declaration],
     declared: &mut Vec<&'a Declaration>,
 ) -> Result<(), AllocError>
@@ -91,105 +98,132 @@ fn push_all<'a>(
     Ok(())
 }
 
-// Puts what an answer has declared behind others.
-fn push_answer<'a>(answer: &'a Filed, declared: &mut Vec<&'a Declaration>) -> Result<(), AllocError>
-    ensures { OnOk result (map (λ d. d.now) declared.new.items ≡ map (λ d. d.now) declared.old.items ++ (effects_of (Some (meaning_of answer.now))).declared) }
-{
-    match answer {
-        Filed::Import(Executed::Left(_, outcome)) => push_all(outcome.declared(), declared),
-        Filed::Unit(Executed::Left(_, outcome)) => push_all(outcome.declared(), declared),
-        Filed::Import(Executed::Wrong(..) | Executed::Spoiled(..)) => Ok(()),
-        Filed::Unit(Executed::Wrong(..) | Executed::Spoiled(..)) => Ok(()),
-        Filed::Content(_) => Ok(()),
-        Filed::NoValue(..) => Ok(()),
-    }
-}
-
-// Puts what an answer has declared behind others, if there is one.
-fn push_found<'a>(
-    answer: Option<&'a Filed>,
+// Puts what an execution has declared behind others.
+fn push_declared<'a>(
+    left: Option<&'a Outcome>,
     declared: &mut Vec<&'a Declaration>,
 ) -> Result<(), AllocError>
-    ensures { OnOk result (map (λ d. d.now) declared.new.items ≡ map (λ d. d.now) declared.old.items ++ (effects_of (option_map (λ filed. meaning_of filed.now) answer.entry)).declared) }
+    ensures { OnOk result (map (λ d. d.now) declared.new.items ≡ map (λ d. d.now) declared.old.items ++ (effects_left (option_map (λ outcome. outcome.now) left.entry)).declared) }
 {
-    match answer {
+    match left {
         None => Ok(()),
-        Some(answer) => push_answer(answer, declared),
+        Some(outcome) => push_declarations(outcome.declared(), declared),
     }
 }
 
-// Puts what imports have declared behind others, in the order of the paths of their files.
-fn push_imports<'a>(
+// Puts what the executions of these numbers have declared behind others.
+fn push_all_declared<'a>(
     book: &'a Book<Answer>,
-    imports: &BTreeMap<Path, KeyId>,
+    numbers: &[KeyId],
     declared: &mut Vec<&'a Declaration>,
 ) -> Result<(), AllocError>
-    requires { AreWithin book.now imports.now.entries }
-    ensures { OnOk result (map (λ d. d.now) declared.new.items ≡ map (λ d. d.now) declared.old.items ++ flat_map (λ e. e.declared) (effects_by book.now imports.now.entries)) }
+    requires { AreWithin book.now numbers.now }
+    ensures { OnOk result (map (λ d. d.now) declared.new.items ≡ map (λ d. d.now) declared.old.items ++ flat_map (λ e. e.declared) (map (effects_at book.now) numbers.now)) }
 {
-    for (_, number) in imports {
-        push_found(find_at(book, *number), declared)?;
+    for number in numbers {
+        push_declared(left_at(book, *number), declared)?;
     }
     Ok(())
 }
 
-// What the execution of the unit of a key has left.
-fn find_left<'a>(book: &'a Book<Answer>, unit: &Key) -> Option<&'a Outcome>
-    ensures { option_map (λ outcome. outcome.now) result ≡ left_by (unit_run ((state_of book.now).filed (key_of unit.now))) }
+// Puts items behind others.
+fn push_items<'a>(items: &'a [Item], defined: &mut Vec<&'a Item>) -> Result<(), AllocError>
+    ensures { OnOk result (map (λ item. item.now) defined.new.items ≡ map (λ item. item.now) defined.old.items ++ items.now) }
 {
-    match find(book, unit) {
-        None => None,
-        Some(filed) => match unit_of(filed) {
-            None => None,
-            Some(executed) => left_of(executed),
-        },
+    for item in items {
+        defined.push(item)?;
     }
+    Ok(())
+}
+
+// Puts what an execution has defined behind others.
+fn push_defined<'a>(
+    left: Option<&'a Outcome>,
+    defined: &mut Vec<&'a Item>,
+) -> Result<(), AllocError>
+    ensures { OnOk result (map (λ item. item.now) defined.new.items ≡ map (λ item. item.now) defined.old.items ++ (effects_left (option_map (λ outcome. outcome.now) left.entry)).items) }
+{
+    match left {
+        None => Ok(()),
+        Some(outcome) => push_items(outcome.items(), defined),
+    }
+}
+
+// Puts what the executions of these numbers have defined behind others.
+fn push_all_defined<'a>(
+    book: &'a Book<Answer>,
+    numbers: &[KeyId],
+    defined: &mut Vec<&'a Item>,
+) -> Result<(), AllocError>
+    requires { AreWithin book.now numbers.now }
+    ensures { OnOk result (map (λ item. item.now) defined.new.items ≡ map (λ item. item.now) defined.old.items ++ flat_map (λ e. e.items) (map (effects_at book.now) numbers.now)) }
+{
+    for number in numbers {
+        push_defined(left_at(book, *number), defined)?;
+    }
+    Ok(())
 }
 
 impl Built {
     ghost use Rattle.gn_load.specs.Ends.{build_of};
+    ghost use Rattle.gn_load.specs.Judging.{AreParts, build_by};
 
-    /// What the build configuration has left. It takes no memory.
-    pub fn configuration(&self) -> &Outcome
-        ensures { result.now ≡ (build_of self.now).configuration }
+    /// The build that was loaded and has these parts.
+    pub(crate) fn new(book: Book<Answer>, parts: Parts) -> Built
+        requires { AreParts book parts }
+        ensures build { build_of result ≡ build_by book parts }
+        ensures book { result.book ≡ book }
     {
-        match find_left(&self.book, &self.configuration) {
-            Some(outcome) => outcome,
-            None => unreachable!(),
+        let Parts {
+            default,
+            numbers,
+            labels,
+        } = parts;
+        Built {
+            book,
+            default,
+            executions: numbers,
+            generated: labels,
         }
     }
 
-    /// What the build file has left. It takes no memory.
-    pub fn file(&self) -> &Outcome
-        ensures { result.now ≡ (build_of self.now).file }
+    /// The text of the default toolchain. It takes no memory.
+    pub fn default(&self) -> &Text
+        ensures { result.now ≡ (build_of self.now).default }
     {
-        match find_left(&self.book, &self.file) {
-            Some(outcome) => outcome,
-            None => unreachable!(),
-        }
+        &self.default
     }
 
-    /// Puts the lines at the end that the build configuration has printed, those of the imports that it needs, in the order of the paths
-    /// of their files, those of the other imports, in that order, and those of the build file.
+    /// The labels of the targets that the build generates, in label order. It takes no memory.
+    pub fn generated(&self) -> &[Label]
+        ensures { result.now ≡ (build_of self.now).generated }
+    {
+        &self.generated
+    }
+
+    /// Puts the lines at the end that the executions have printed, in their order: by toolchain, with the default one first; of each
+    /// toolchain the build configuration, what it imports, by path, the other imports, by path, and the build files, by directory.
     pub fn append_prints(&self, text: &mut Vec<u8>) -> Result<(), AllocError>
         ensures { OnOk result (text.new.items ≡ text.old.items ++ lines_of_build (build_of self.now)) }
     {
-        append_lines(text, self.configuration().prints())?;
-        append_imports(text, &self.book, &self.early)?;
-        append_imports(text, &self.book, &self.imports)?;
-        append_lines(text, self.file().prints())
+        append_all(text, &self.book, &self.executions)
     }
 
-    /// The arguments that were declared: by the imports of the build configuration, in the order of the paths of their files, by the build
-    /// configuration, by the other imports, in that order, and by the build file.
+    /// The arguments that the executions have declared, in the same order.
     pub fn declarations(&self, alloc: Global) -> Result<Vec<&Declaration>, AllocError>
         ensures { IfOk result (λ ds. map (λ d. d.now) ds.items ≡ declared_by_build (build_of self.now)) }
     {
         let mut declared = Vec::new(alloc);
-        push_imports(&self.book, &self.early, &mut declared)?;
-        push_all(self.configuration().declared(), &mut declared)?;
-        push_imports(&self.book, &self.imports, &mut declared)?;
-        push_all(self.file().declared(), &mut declared)?;
+        push_all_declared(&self.book, &self.executions, &mut declared)?;
         Ok(declared)
+    }
+
+    /// The items that the executions have defined, in the same order.
+    pub fn items(&self, alloc: Global) -> Result<Vec<&Item>, AllocError>
+        ensures { IfOk result (λ items. map (λ item. item.now) items.items ≡ items_of_build (build_of self.now)) }
+    {
+        let mut defined = Vec::new(alloc);
+        push_all_defined(&self.book, &self.executions, &mut defined)?;
+        Ok(defined)
     }
 }

@@ -1,27 +1,28 @@
 // The fault to which an import leads that can't be used.
 
-ghost use Rattle.std.specs.Prelude.{◌≡◌, [], IfOk, Some};
-ghost use Rattle.gn_imports.specs.Causes.{earlier, least_among, cycle_fault, cause};
+ghost use Rattle.std.specs.Prelude.{◌≡◌, IfOk, Some};
+ghost use Rattle.gn_imports.specs.Causes.{earlier, least_among};
 ghost use Rattle.gn_executions.specs.Base.{BaseState};
 ghost use Rattle.gn_core.specs.Keys.{Import, import_is};
+ghost use Rattle.gn_core.specs.Machine.{import_limit};
 ghost use Rattle.gn_book.specs.Keys.{layer_at};
-ghost use Rattle.gn_core.specs.Machine.{IsOver};
 ghost use Rattle.gn_book.specs.Logs.{state_of};
-ghost use Rattle.gn_builds.specs.Worlds.{Files, world_of};
-ghost use Rattle.gn_builds.specs.Rest.{Rests};
-ghost use Rattle.gn_builds.specs.Causes.{link_at, links_by, IsUnusable, read_count, IsLayer, layer_project};
+ghost use Rattle.gn_projects.specs.Files.{Files};
+ghost use Rattle.gn_projects.specs.Errors.{cycle_under};
+ghost use Rattle.gn_projects.specs.Computed.{cause_under};
+ghost use Rattle.gn_builds.specs.Rest.{IsAtRest, Rests, HasLargeImport};
+ghost use Rattle.gn_builds.specs.Causes.{link_at, links_by, IsUnusable, layer_project};
 ghost use Rattle.gn_load.specs.Answers.{run_of, meaning_of};
 ghost use Rattle.gn_load.specs.Links.{IsLedBy, IsFollowed};
-ghost use Rattle.gn_load.specs.Plain.{IsReachedUnit};
 
 use crate::answer::{Answer, Executed, Filed, find};
+use crate::keys::import_key;
+use crate::limits::IMPORT_LIMIT;
 use gn_book::Book;
-use gn_builds::{
-    links_lead_to_the_error, loading_by_one_seat_is_the_build, loading_ends_with_the_build,
-};
+use gn_builds::{files_were_read, links_lead_to_the_fault};
 use gn_definitions::ImportValue;
 use gn_faults::{Code, Fault, Stage};
-use gn_items::{Key, When};
+use gn_items::When;
 use gn_paths::{Path, Place, Text, Texts};
 use std::alloc::{AllocError, Global};
 
@@ -37,7 +38,7 @@ pub(crate) enum Led<'a> {
 }
 
 fn led_by_import(executed: &Executed<ImportValue>) -> Led<'_>
-    ensures { IsLedBy (Some (import_is (run_of (λ value. value) executed.now))) result }
+    ensures { IsLedBy (Some (import_is (run_of (λ value effects. value) executed.now))) result }
 {
     match executed {
         Executed::Left(..) => Led::Nothing,
@@ -57,42 +58,40 @@ fn led_by(filed: &Filed) -> Led<'_>
     }
 }
 
-// What the import of a path leads to, among those of a layer under the default toolchain.
+// What the import of a path leads to, among those of a layer.
 fn led_at<'a>(
     alloc: Global,
     book: &'a Book<Answer>,
     when: When,
+    toolchain: &Text,
     path: &Path,
 ) -> Result<Led<'a>, AllocError>
-    ensures { IfOk result (IsLedBy ((state_of book.now).filed (Import (layer_at when []) path.now))) }
+    ensures { IfOk result (IsLedBy ((state_of book.now).filed (Import (layer_at when toolchain.now) path.now))) }
 {
-    let key = Key::Import(when, Text::new(alloc), path.copy(alloc)?);
+    let key = import_key(alloc, when, toolchain, path)?;
     match find(book, &key) {
         Some(filed) => Ok(led_by(filed)),
         None => Ok(Led::Nothing),
     }
 }
 
-// The fault to which links lead from the import of a path, or the link that comes after as many as files were read.
+// The fault to which links lead from the import of a path, or the link that comes after as many as an import may need imports.
 fn follow<'a>(
     alloc: Global,
     book: &'a Book<Answer>,
     when: When,
-    reads: usize,
+    toolchain: &Text,
     path: &'a Path,
 ) -> Result<Led<'a>, AllocError>
     requires rest { (start : BaseState) × Rests start book.now }
-    requires unusable { IsUnusable (layer_at when []) book.now path.now }
-    requires reached { IsReachedUnit book.now when }
-    requires reads { reads ≡ read_count book.now }
-    ensures { IfOk result (IsFollowed (layer_at when []) book.now path.now) }
+    requires unusable { IsUnusable (layer_at when toolchain.now) book.now path.now }
+    ensures { IfOk result (IsFollowed (layer_at when toolchain.now) book.now path.now) }
 {
-    links_lead_to_the_error();
-    loading_ends_with_the_build();
-    loading_by_one_seat_is_the_build();
+    links_lead_to_the_fault();
+    files_were_read();
     let mut at = path;
-    for _step in 0..reads {
-        match led_at(alloc, book, when, at)? {
+    for _step in 0..IMPORT_LIMIT {
+        match led_at(alloc, book, when, toolchain, at)? {
             Led::Import(next, _) => {
                 at = next;
             }
@@ -100,17 +99,17 @@ fn follow<'a>(
             Led::Nothing => unreachable!(),
         }
     }
-    led_at(alloc, book, when, at)
+    led_at(alloc, book, when, toolchain, at)
 }
 
-// The error of an import cycle.
-fn cycle(alloc: Global, place: Place) -> Fault
-    ensures { result ≡ cycle_fault (Some place) }
+// An import cycle under a toolchain.
+fn cycle(alloc: Global, toolchain: Text, place: Place) -> Fault
+    ensures { result ≡ cycle_under toolchain place }
 {
     Fault {
         stage: Stage::Loading,
         place: Some(place),
-        toolchain: Text::new(alloc),
+        toolchain,
         code: Code::ImportCycle,
         detail: Texts::new(alloc),
     }
@@ -127,21 +126,22 @@ fn earlier(alloc: Global, least: Place, place: &Place) -> Result<Place, AllocErr
     }
 }
 
-// The least of a place and those of so many calls, to which links lead from the import of a path.
+// The least of a place and those of the calls to which links lead from the import of a path, as many as an import may need imports.
 fn least_place(
     alloc: Global,
     book: &Book<Answer>,
     when: When,
-    calls: usize,
+    toolchain: &Text,
     path: &Path,
     place: &Place,
 ) -> Result<Place, AllocError>
-    ensures { IfOk result (λ least. least ≡ least_among place.now (links_by (link_at (layer_at when []) book.now) calls path.now)) }
+    ensures { IfOk result (λ least. least
+        ≡ least_among place.now (links_by (link_at (layer_at when toolchain.now) book.now) import_limit path.now)) }
 {
     let mut least = place.copy(alloc)?;
     let mut at = path;
-    for _step in 0..calls {
-        match led_at(alloc, book, when, at)? {
+    for _step in 0..IMPORT_LIMIT {
+        match led_at(alloc, book, when, toolchain, at)? {
             Led::Import(next, call) => {
                 least = earlier(alloc, least, call)?;
                 at = next;
@@ -153,30 +153,44 @@ fn least_place(
     Ok(least)
 }
 
-/// The fault to which the import of a path leads, which can't be used, among those of a layer under the default toolchain: that of the
-/// first wrong import behind it, or that of the cycle round which its links go, at the least place of the calls on it.
+// The import cycle round which links go from the import of a path, of which one comes from a call at a place.
+fn round(
+    alloc: Global,
+    book: &Book<Answer>,
+    when: When,
+    toolchain: &Text,
+    shown: &Text,
+    path: &Path,
+    place: &Place,
+) -> Result<Fault, AllocError>
+    ensures { IfOk result (λ fault. fault
+        ≡ cycle_under shown.now (least_among place.now (links_by (link_at (layer_at when toolchain.now) book.now) import_limit path.now))) }
+{
+    let least = least_place(alloc, book, when, toolchain, path, place)?;
+    Ok(cycle(alloc, shown.copy(alloc)?, least))
+}
+
+/// The fault to which the import of a path leads, which can't be used, among those of a layer in a build that was loaded: that of the
+/// first wrong import behind it, or that of the cycle round which its links go, at the least place of the calls on it, under the
+/// toolchain that is shown.
 pub(crate) fn cause(
     alloc: Global,
     book: &Book<Answer>,
     when: When,
-    reads: usize,
+    toolchain: &Text,
+    shown: &Text,
     path: &Path,
 ) -> Result<Fault, AllocError>
     requires rest { (start : BaseState) × Rests start book.now }
-    requires unusable { IsUnusable (layer_at when []) book.now path.now }
-    requires reached { IsReachedUnit book.now when }
-    requires reads { reads ≡ read_count book.now }
-    ensures { IfOk result (λ fault. (files : Files) → Rests files.start book.now → IsOver (world_of files) book.now.events → IsLayer files (layer_at when [])
-        → fault ≡ cause (layer_project files (layer_at when [])) path.now) }
+    requires small { HasLargeImport book.now → ⊥ }
+    requires unusable { IsUnusable (layer_at when toolchain.now) book.now path.now }
+    ensures { IfOk result (λ fault. (files : Files) → IsAtRest files book.now
+        → fault ≡ cause_under shown.now (layer_project files (layer_at when toolchain.now)) path.now) }
 {
-    links_lead_to_the_error();
-    loading_by_one_seat_is_the_build();
-    match follow(alloc, book, when, reads, path)? {
+    links_lead_to_the_fault();
+    match follow(alloc, book, when, toolchain, path)? {
         Led::Fault(fault) => fault.copy(alloc),
-        Led::Import(next, place) => {
-            let least = least_place(alloc, book, when, reads, next, place)?;
-            Ok(cycle(alloc, least))
-        }
+        Led::Import(next, place) => round(alloc, book, when, toolchain, shown, next, place),
         Led::Nothing => unreachable!(),
     }
 }

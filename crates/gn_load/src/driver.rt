@@ -1,31 +1,32 @@
 // Loading by one seat: what it has claimed waits for one another, the last claim first.
 
-ghost use Rattle.std.specs.Prelude.{◌≡◌, ◌<◌, ◌≤◌, ◌+◌, ◌∷◌, ℕ, List, Ok, Some, IfOk, IfErr, OnOk, OnErr, map, false};
+ghost use Rattle.std.specs.Prelude.{◌≡◌, ◌<◌, ◌≤◌, ◌+◌, ◌∷◌, ℕ, List, Ok, Some, IfOk, IfErr, OnOk, OnErr, false};
 ghost use Rattle.gn_outside.specs.States.{SourceState};
-ghost use Rattle.gn_items.specs.Questions.{question_of};
 ghost use Rattle.gn_runs.specs.Runs.{Question as Asked};
 ghost use Rattle.gn_core.specs.Keys.{Read, Import, Layer};
 ghost use Rattle.gn_core.specs.Machine.{File as filed, read_limit};
-ghost use Rattle.gn_book.specs.Keys.{key_of, layer_at};
+ghost use Rattle.gn_book.specs.Keys.{key_of};
 ghost use Rattle.gn_book.specs.Graphs.{is_unit};
 ghost use Rattle.gn_book.specs.Logs.{state_of, with_event};
-ghost use Rattle.gn_builds.specs.Driving.{IsClaim, IsLacked, with_claim};
+ghost use Rattle.gn_builds.specs.Driving.{IsClaim, IsLacked};
 ghost use Rattle.gn_builds.specs.Stacks.{MayWait};
-ghost use Rattle.gn_load.specs.Answers.{meaning_of, unit_left};
-ghost use Rattle.gn_load.specs.Bases.{AreBases, ConfiguresBy, AreSetUp};
-ghost use Rattle.gn_load.specs.Turns.{TakesAs, IsNeeded, Goes, IsStill, IsNextOf, ReadsAs, IsRead, IsKnownAt, IsFiledFrom, IsReadOnce, IsNumbered, IsNoted, IsTurn, IsReadFor, IsFinish};
+ghost use Rattle.gn_load.specs.Answers.{meaning_of};
+ghost use Rattle.gn_load.specs.Current.{base_now};
+ghost use Rattle.gn_load.specs.Kept.{asked_so_far, asked_for, AreKept, Stores};
+ghost use Rattle.gn_load.specs.Performing.{IsPerformedOver, KeepsFor, IsWorkOf};
+ghost use Rattle.gn_load.specs.Turns.{TakesAs, IsNeeded, Goes, Settles, ReadsAs, IsRead, IsKnownAt, IsFiledFrom, IsReadOnce, Waits, IsLifted, IsTurn, IsReadFor, IsFinish};
 
-use crate::answer::{Answer, Executed, FileContent, Filed};
-use crate::bases::Bases;
+use crate::answer::{Answer, FileContent, Filed};
+use crate::current::CurrentBase;
+use crate::kept::{Kept, KeyRest, asked_until, store, take_rest};
 use crate::setup::Known;
 use crate::work::{PerformStop, Performed, perform};
-use gn_book::{Blocked, Book, Claim, KeyId};
-use gn_definitions::ImportValue;
-use gn_items::{Key, Outcome, Question, When};
+use gn_book::{Blocked, Book, Claim};
+use gn_items::Key;
 use gn_outside::Source;
 use gn_paths::{Path, Place};
 use std::alloc::{AllocError, Global};
-use std::collections::{BTreeMap, VecDeque};
+use std::collections::VecDeque;
 
 // No build asks for more paths.
 const MAX_PATHS: usize = 2_097_152;
@@ -35,7 +36,7 @@ const MAX_PATHS: usize = 2_097_152;
 pub(crate) enum Stop {
     /// The read of the file at this path has failed.
     Failed(Path),
-    /// More files are asked for than a build may ask for.
+    /// More files are asked for than a build may ask for, or more units are reached than in a build may be.
     TooLarge,
     /// Want of memory.
     Memory,
@@ -52,18 +53,15 @@ impl From<AllocError> for Stop {
     }
 }
 
-/// The bases of the build, the book, the claims that wait for one another, the last one first, what was read before and isn't filed
-/// yet, how many files were read since, and the numbers of the imports that were claimed, by the paths of their files: of those that
-/// the build configuration needs, and of the others.
+/// The base of the units that the seat works on, the book, the claims that wait for one another, the last one first, what was read
+/// before and isn't filed, and how many files were read since.
 #[derive(Drop)]
 pub(crate) struct Driver {
-    pub(crate) bases: Bases,
+    pub(crate) base: CurrentBase,
     pub(crate) book: Book<Answer>,
     pub(crate) waiting: VecDeque<Claim>,
     pub(crate) known: Known,
     pub(crate) reads: usize,
-    pub(crate) early: BTreeMap<Path, KeyId>,
-    pub(crate) imports: BTreeMap<Path, KeyId>,
 }
 
 // Files the answer of a claim. After want of memory nothing is changed.
@@ -105,32 +103,30 @@ fn take(
     }
 }
 
-// What a build configuration has left stands beneath the files behind it. A build file leaves nothing for others.
-fn set_up_by(
+// The same for a call whose place is kept.
+fn take_at(
     alloc: Global,
-    bases: &mut Bases,
-    left: &Option<ImportValue>,
-    outcome: &Outcome,
-) -> Result<(), AllocError>
-    ensures { OnOk result (ConfiguresBy left.now (record { value = unit_left left.now; effects = outcome.now }) bases.old bases.new) }
+    book: &mut Book<Answer>,
+    claim: &Claim,
+    on: Key,
+    place: &Place,
+) -> Result<Option<Claim>, AllocError>
+    requires claim { IsClaim book.old claim.now }
+    requires unit { is_unit (key_of on) ≡ false }
+    requires lacked { IsLacked book.old claim.now (key_of on) }
+    ensures { IfOk result (TakesAs book.old book.new claim.now (key_of on) place.now) }
 {
-    match left {
-        Some(value) => bases.finish(alloc, value, outcome),
-        None => Ok(()),
-    }
+    let call = place.copy(alloc)?;
+    take(book, claim, on, call)
 }
 
-// An answer is to be filed: where it is that of a build configuration the base of the files behind it is made.
-fn set_up(alloc: Global, bases: &mut Bases, answer: &Filed) -> Result<(), AllocError>
-    ensures { OnOk result (AreSetUp bases.old bases.new (meaning_of answer.now)) }
+// Want of memory ends loading.
+fn lifted(next: Result<Option<Claim>, AllocError>) -> Result<Option<Claim>, Stop>
+    ensures { IsLifted next result }
 {
-    match answer {
-        Filed::Unit(Executed::Left(left, outcome)) => set_up_by(alloc, bases, left, outcome),
-        Filed::Unit(Executed::Wrong(..)) => Ok(()),
-        Filed::Unit(Executed::Spoiled(..)) => Ok(()),
-        Filed::Content(_) => Ok(()),
-        Filed::Import(_) => Ok(()),
-        Filed::NoValue(..) => Ok(()),
+    match next {
+        Ok(next) => Ok(next),
+        Err(_) => Err(Stop::Memory),
     }
 }
 
@@ -142,13 +138,8 @@ fn settle(
     answer: Filed,
 ) -> Result<Option<Claim>, AllocError>
     requires { IsClaim driver.old.book claim }
-    ensures book { IfOk result (λ next. driver.new.book ≡ with_event driver.old.book (filed 0 (key_of claim.key) (meaning_of answer))) }
-    ensures waiting { IfOk result (λ next. driver.old.waiting.items ≡ with_claim next driver.new.waiting.items) }
-    ensures next { IfOk result (λ next. IsNextOf next driver.new.waiting.items) }
-    ensures bases { OnOk result (AreSetUp driver.old.bases driver.new.bases (meaning_of answer)) }
-    ensures rest { OnOk result (IsStill driver.old driver.new) }
+    ensures { IfOk result (Settles driver.old driver.new claim (meaning_of answer)) }
 {
-    set_up(alloc, &mut driver.bases, &answer)?;
     file(alloc, &mut driver.book, claim, answer)?;
     Ok(driver.waiting.pop_front())
 }
@@ -173,8 +164,7 @@ fn count(driver: &mut Driver) -> Result<(), Stop>
     requires { driver.old.reads ≤ read_limit }
     ensures book { driver.new.book ≡ driver.old.book }
     ensures waiting { driver.new.waiting ≡ driver.old.waiting }
-    ensures imports { (driver.new.early ≡ driver.old.early) × (driver.new.imports ≡ driver.old.imports) }
-    ensures begins { (driver.new.bases ≡ driver.old.bases) × (driver.new.known ≡ driver.old.known) }
+    ensures begins { (driver.new.base ≡ driver.old.base) × (driver.new.known ≡ driver.old.known) }
     ensures reads { driver.new.reads ≡ driver.old.reads + 1 }
     ensures few { OnOk result (driver.new.reads ≤ read_limit) }
     ensures many { IfErr result (λ stop. (stop ≡ Stop.TooLarge) × (read_limit < driver.new.reads)) }
@@ -206,11 +196,17 @@ fn read_new<S: Source>(
 ) -> Result<(), Stop>
     requires claim { IsClaim driver.old.book claim }
     requires read { (path : List ℕ) × (key_of claim.key ≡ Read path) }
-    requires bases { AreBases driver.old.bases (state_of driver.old.book).filed }
     requires few { driver.old.reads ≤ read_limit }
     ensures { IsRead (S.state source.old) (S.state source.new) driver.old driver.new claim result }
 {
-    match perform(alloc, &claim.key, &driver.bases, &driver.book, source) {
+    match perform(
+        alloc,
+        &claim.key,
+        driver.base.base(),
+        &driver.book,
+        source,
+        None,
+    ) {
         Ok(Performed::Answered(answer)) => read_done(alloc, driver, claim, answer),
         Ok(Performed::Needs(..)) => unreachable!(),
         Err(PerformStop::Failed) => Err(Stop::Failed(path_of(claim.key))),
@@ -253,7 +249,6 @@ fn read<S: Source>(
 ) -> Result<(), Stop>
     requires claim { IsClaim driver.old.book claim }
     requires read { (path : List ℕ) × (key_of claim.key ≡ Read path) }
-    requires bases { AreBases driver.old.bases (state_of driver.old.book).filed }
     requires few { driver.old.reads ≤ read_limit }
     ensures { IsReadOnce (S.state source.old) (S.state source.new) driver.old driver.new claim result }
 {
@@ -263,80 +258,127 @@ fn read<S: Source>(
     }
 }
 
-// Puts down the number of an import.
-fn put_number(
-    imports: &mut BTreeMap<Path, KeyId>,
-    path: Path,
-    number: KeyId,
-) -> Result<(), AllocError>
-    ensures { OnOk result (IsNumbered imports.old.entries imports.new.entries path number) }
-{
-    let _former = imports.insert(path, number)?;
-    Ok(())
-}
-
-// The same among those of its layer.
-fn note_import(driver: &mut Driver, when: When, path: Path, number: KeyId) -> Result<(), AllocError>
-    ensures { OnOk result (IsNoted driver.old driver.new when path number) }
-{
-    match when {
-        When::Early => put_number(&mut driver.early, path, number),
-        When::Usual => put_number(&mut driver.imports, path, number),
-    }
-}
-
 // The first claim needs what there is at a path.
 fn need_content<S: Source>(
     alloc: Global,
     driver: &mut Driver,
     claim: &Claim,
     source: &mut S,
-    on: Key,
+    path: Path,
     place: Place,
 ) -> Result<(), Stop>
-    requires read { (path : List ℕ) × (key_of on ≡ Read path) }
     requires goes { (known : List (List ℕ)) × (before : SourceState) × Goes known before (S.state source.old) driver.old (claim.now ∷ driver.old.waiting.items) }
     requires work { MayWait (key_of claim.now.key) }
-    requires lacked { IsLacked driver.old.book claim.now (key_of on) }
+    requires lacked { IsLacked driver.old.book claim.now (Read path) }
     ensures { (known : List (List ℕ)) (before : SourceState) (asked : List Asked) → Goes known before (S.state source.old) driver.old (claim.now ∷ driver.old.waiting.items) →
-        IsNeeded driver.old.bases.early driver.old.book claim.now (key_of on) place asked →
+        IsNeeded driver.old.base.start driver.old.book claim.now (Read path) place asked →
         IsReadFor known before (S.state source.new) driver.old driver.new claim.now result }
 {
-    match take(&mut driver.book, claim, on, place)? {
+    match take(&mut driver.book, claim, Key::Read(path), place)? {
         Some(other) => read(alloc, driver, other, source),
         None => unreachable!(),
     }
 }
 
-// The first claim needs an import: the seat claims that too, or the wait closes a cycle, and the first claim has no value.
+// The same, and then the claim goes on.
+fn need_file<S: Source>(
+    alloc: Global,
+    driver: &mut Driver,
+    claim: Claim,
+    source: &mut S,
+    path: Path,
+    place: Place,
+) -> Result<Option<Claim>, Stop>
+    requires goes { (known : List (List ℕ)) × (before : SourceState) × Goes known before (S.state source.old) driver.old (claim ∷ driver.old.waiting.items) }
+    requires work { MayWait (key_of claim.key) }
+    requires lacked { IsLacked driver.old.book claim (Read path) }
+    ensures { (known : List (List ℕ)) (before : SourceState) (asked : List Asked) → Goes known before (S.state source.old) driver.old (claim ∷ driver.old.waiting.items) →
+        IsNeeded driver.old.base.start driver.old.book claim (Read path) place asked →
+        IsTurn known before (S.state source.new) driver.old driver.new result }
+{
+    need_content(alloc, driver, &claim, source, path, place)?;
+    Ok(Some(claim))
+}
+
+// The first claim waits for another one of the seat, with which it goes on.
+fn wait_for(driver: &mut Driver, claim: Claim, other: Claim) -> Result<Option<Claim>, AllocError>
+    ensures { IfOk result (Waits driver.old driver.new claim other) }
+{
+    driver.waiting.push_front(claim)?;
+    Ok(Some(other))
+}
+
+// The path of the file that is imported.
+fn copy_imported(alloc: Global, on: &Key) -> Result<Path, AllocError>
+    requires { (layer : Layer) × (path : List ℕ) × (key_of on.now ≡ Import layer path) }
+    ensures { IfOk result (λ path. (layer : Layer) × (key_of on.now ≡ Import layer path)) }
+{
+    match on {
+        Key::Import(_, _, path) => path.copy(alloc),
+        Key::Read(_) => unreachable!(),
+        Key::Setup(_) => unreachable!(),
+        Key::Load(..) => unreachable!(),
+        Key::Resolve(_) => unreachable!(),
+    }
+}
+
+// The first claim needs an import: the seat claims that too, or the wait closes a cycle, and the first claim has no value. What is kept of its
+// execution is stored.
 fn need_import(
     alloc: Global,
     driver: &mut Driver,
     claim: Claim,
-    on: (Key, When, Path),
+    on: Key,
     place: Place,
-    asked: Vec<Question>,
+    kept: Kept,
+    rests: &mut VecDeque<KeyRest>,
 ) -> Result<Option<Claim>, AllocError>
-    requires named { (toolchain : List ℕ) × (key_of on.0 ≡ Import (layer_at on.1 toolchain) on.2) }
+    requires named { (layer : Layer) × (path : List ℕ) × (key_of on ≡ Import layer path) }
     requires claim { IsClaim driver.old.book claim }
-    requires lacked { IsLacked driver.old.book claim (key_of on.0) }
-    ensures { IfOk result (λ next. (known : List (List ℕ)) (before now : SourceState) → Goes known before now driver.old (claim ∷ driver.old.waiting.items) →
-        IsNeeded driver.old.bases.early driver.old.book claim (key_of on.0) place (map question_of asked.items) →
-        IsTurn known before now driver.old driver.new (Ok next)) }
+    requires lacked { IsLacked driver.old.book claim (key_of on) }
+    ensures turn { IfOk result (λ next. (known : List (List ℕ)) (before now : SourceState) → Goes known before now driver.old (claim ∷ driver.old.waiting.items) →
+        IsNeeded driver.old.base.start driver.old.book claim (key_of on) place (asked_for (key_of on) (asked_so_far kept)) → IsTurn known before now driver.old driver.new (Ok next)) }
+    ensures rests { OnOk result (Stores claim.key kept rests.old.items rests.new.items) }
 {
-    let (on, when, path) = on;
-    let call = place.copy(alloc)?;
-    match take(&mut driver.book, &claim, on, call)? {
+    let path = copy_imported(alloc, &on)?;
+    match take_at(alloc, &mut driver.book, &claim, on, &place)? {
         Some(other) => {
-            note_import(driver, when, path, other.number)?;
-            driver.waiting.push_front(claim)?;
-            Ok(Some(other))
+            store(alloc, rests, &claim.key, kept)?;
+            wait_for(driver, claim, other)
         }
-        None => Ok(settle(alloc, driver, claim, Filed::NoValue(path, place, asked))?),
+        None => {
+            let asked = asked_until(alloc, kept, &path)?;
+            settle(alloc, driver, claim, Filed::NoValue(path, place, asked))
+        }
     }
 }
 
-// The first claim needs another key.
+// The first claim needs what there is at a path, which is read, and then it goes on. What is kept of its execution is stored.
+fn need_read<S: Source>(
+    alloc: Global,
+    driver: &mut Driver,
+    claim: Claim,
+    source: &mut S,
+    path: Path,
+    place: Place,
+    kept: Kept,
+    rests: &mut VecDeque<KeyRest>,
+) -> Result<Option<Claim>, Stop>
+    requires goes { (known : List (List ℕ)) × (before : SourceState) × Goes known before (S.state source.old) driver.old (claim ∷ driver.old.waiting.items) }
+    requires work { MayWait (key_of claim.key) }
+    requires lacked { IsLacked driver.old.book claim (Read path) }
+    ensures turn { (known : List (List ℕ)) (before : SourceState) (asked : List Asked) → Goes known before (S.state source.old) driver.old (claim ∷ driver.old.waiting.items) →
+        IsNeeded driver.old.base.start driver.old.book claim (Read path) place asked →
+        IsTurn known before (S.state source.new) driver.old driver.new result }
+    ensures rests { OnOk result (Stores claim.key kept rests.old.items rests.new.items) }
+{
+    match store(alloc, rests, &claim.key, kept) {
+        Ok(()) => need_file(alloc, driver, claim, source, path, place),
+        Err(_) => Err(Stop::Memory),
+    }
+}
+
+// The first claim needs another key. What is kept of its execution is stored.
 fn need<S: Source>(
     alloc: Global,
     driver: &mut Driver,
@@ -344,28 +386,54 @@ fn need<S: Source>(
     source: &mut S,
     on: Key,
     place: Place,
-    asked: Vec<Question>,
+    kept: Kept,
+    rests: &mut VecDeque<KeyRest>,
 ) -> Result<Option<Claim>, Stop>
     requires goes { (known : List (List ℕ)) × (before : SourceState) × Goes known before (S.state source.old) driver.old (claim ∷ driver.old.waiting.items) }
     requires work { MayWait (key_of claim.key) }
-    requires needed { IsNeeded driver.old.bases.early driver.old.book claim (key_of on) place (map question_of asked.items) }
+    requires needed { IsNeeded driver.old.base.start driver.old.book claim (key_of on) place (asked_for (key_of on) (asked_so_far kept)) }
     requires lacked { IsLacked driver.old.book claim (key_of on) }
-    ensures { (known : List (List ℕ)) (before : SourceState) → Goes known before (S.state source.old) driver.old (claim ∷ driver.old.waiting.items) →
+    ensures turn { (known : List (List ℕ)) (before : SourceState) → Goes known before (S.state source.old) driver.old (claim ∷ driver.old.waiting.items) →
         IsTurn known before (S.state source.new) driver.old driver.new result }
+    ensures rests { OnOk result (Stores claim.key kept rests.old.items rests.new.items) }
 {
     match on {
-        Key::Read(path) => {
-            need_content(alloc, driver, &claim, source, Key::Read(path), place)?;
-            Ok(Some(claim))
-        }
+        Key::Read(path) => need_read(alloc, driver, claim, source, path, place, kept, rests),
         Key::Import(when, toolchain, path) => {
-            let copy = path.copy(alloc)?;
-            let on = (Key::Import(when, toolchain, path), when, copy);
-            Ok(need_import(alloc, driver, claim, on, place, asked)?)
+            let on = Key::Import(when, toolchain, path);
+            lifted(need_import(alloc, driver, claim, on, place, kept, rests))
         }
         Key::Setup(_) => unreachable!(),
         Key::Load(..) => unreachable!(),
         Key::Resolve(_) => unreachable!(),
+    }
+}
+
+// The work on the first claim, from where its execution has stopped, if that is stored.
+fn work<S: Source>(
+    alloc: Global,
+    driver: &Driver,
+    claim: &Claim,
+    source: &mut S,
+    rests: &mut VecDeque<KeyRest>,
+) -> Result<Performed, PerformStop>
+    requires work { MayWait (key_of claim.now.key) }
+    requires rests { AreKept (base_now driver.now.base) (state_of driver.now.book).filed rests.old.items }
+    ensures done { IfOk result (IsPerformedOver (base_now driver.now.base) (state_of driver.now.book).filed (key_of claim.now.key)) }
+    ensures kept { IfOk result (KeepsFor (base_now driver.now.base) (state_of driver.now.book).filed claim.now.key) }
+    ensures reads { IsWorkOf (key_of claim.now.key) (S.state source.old) (S.state source.new) result }
+    ensures rests { OnOk result (AreKept (base_now driver.now.base) (state_of driver.now.book).filed rests.new.items) }
+{
+    match take_rest(rests, &claim.key) {
+        Ok(rest) => perform(
+            alloc,
+            &claim.key,
+            driver.base.base(),
+            &driver.book,
+            source,
+            rest,
+        ),
+        Err(_) => Err(PerformStop::Memory),
     }
 }
 
@@ -375,23 +443,26 @@ pub(crate) fn turn<S: Source>(
     driver: &mut Driver,
     claim: Claim,
     source: &mut S,
+    rests: &mut VecDeque<KeyRest>,
 ) -> Result<Option<Claim>, Stop>
     requires goes { (known : List (List ℕ)) × (before : SourceState) × Goes known before (S.state source.old) driver.old (claim ∷ driver.old.waiting.items) }
     requires work { MayWait (key_of claim.key) }
-    ensures { (known : List (List ℕ)) (before : SourceState) → Goes known before (S.state source.old) driver.old (claim ∷ driver.old.waiting.items) →
+    requires rests { AreKept (base_now driver.old.base) (state_of driver.old.book).filed rests.old.items }
+    ensures turn { (known : List (List ℕ)) (before : SourceState) → Goes known before (S.state source.old) driver.old (claim ∷ driver.old.waiting.items) →
         IsTurn known before (S.state source.new) driver.old driver.new result }
+    ensures rests { OnOk result (AreKept (base_now driver.old.base) (state_of driver.old.book).filed rests.new.items) }
 {
-    match perform(alloc, &claim.key, &driver.bases, &driver.book, source) {
-        Ok(Performed::Answered(answer)) => Ok(settle(alloc, driver, claim, answer)?),
-        Ok(Performed::Needs(on, place, asked)) => {
-            need(alloc, driver, claim, source, on, place, asked)
+    match work(alloc, driver, &claim, source, rests) {
+        Ok(Performed::Answered(answer)) => lifted(settle(alloc, driver, claim, answer)),
+        Ok(Performed::Needs(on, place, kept)) => {
+            need(alloc, driver, claim, source, on, place, kept, rests)
         }
         Err(PerformStop::Failed) => unreachable!(),
         Err(PerformStop::Memory) => Err(Stop::Memory),
     }
 }
 
-/// The work on a unit, and on all that it needs.
+/// The work on a unit, and on all that it needs. What has stopped in front of an import goes on there.
 pub(crate) fn finish<S: Source>(
     alloc: Global,
     driver: &mut Driver,
@@ -403,9 +474,10 @@ pub(crate) fn finish<S: Source>(
     ensures { (known : List (List ℕ)) (before : SourceState) → Goes known before (S.state source.old) driver.old (claim ∷ driver.old.waiting.items) →
         IsFinish known before (S.state source.new) driver.old driver.new result }
 {
-    let mut next = turn(alloc, driver, claim, source)?;
+    let mut rests = VecDeque::new(alloc);
+    let mut next = turn(alloc, driver, claim, source, &mut rests)?;
     'turns: while let Some(claim) = next {
-        next = turn(alloc, driver, claim, source)?;
+        next = turn(alloc, driver, claim, source, &mut rests)?;
     }
     Ok(())
 }

@@ -1,26 +1,26 @@
 // The work on the claim of a build configuration, of a build file or of an import: its execution over some part of what is filed.
 
-ghost use Rattle.std.specs.Prelude.{◌≡◌, IfOk, map, if◌then◌else◌};
+ghost use Rattle.std.specs.Prelude.{◌≡◌, IfOk, IfSome, Some, if◌then◌else◌};
 ghost use Rattle.gn_definitions.specs.Imported.{ImportState};
-ghost use Rattle.gn_items.specs.Questions.{question_of};
-ghost use Rattle.gn_runs.specs.Runs.{Run, Answers, content_of, import_of};
+ghost use Rattle.gn_tree.specs.Depth.{IsShallow};
+ghost use Rattle.gn_runs.specs.Runs.{Run, Answers, import_of};
 ghost use Rattle.gn_meaning.specs.Steps.{Left};
 ghost use Rattle.gn_core.specs.Keys.{Layer, Import, Unit_of, shown};
 ghost use Rattle.gn_closure.specs.Reach.{Load as load, Setup as setup};
 ghost use Rattle.gn_executions.specs.Base.{BaseState};
 ghost use Rattle.gn_items.specs.declared.key.Key.{Key as Named};
-ghost use Rattle.gn_unit.specs.Ends.{IsExecuted, IsImportOf, IsNeedOf, WhereStopped, asked_of};
+ghost use Rattle.gn_items.specs.declared.key.Key.TheVariants as variant;
+ghost use Rattle.gn_unit.specs.Ends.{IsExecuted, IsImportOf, IsNeedOf, WhereStopped, WherePaused, IsKept, asked_of};
 ghost use Rattle.gn_book.specs.Keys.{layer_at};
-ghost use Rattle.gn_builds.specs.Worlds.{left_run};
-ghost use Rattle.gn_builds.specs.Working.{IsSeen};
+ghost use Rattle.gn_projects.specs.Files.{left_run};
 ghost use Rattle.gn_load.specs.Answers.{run_of, meaning_of};
-ghost use Rattle.gn_load.specs.Bases.{base_among, AreBases};
-ghost use Rattle.gn_load.specs.Performing.{IsPerformed};
+ghost use Rattle.gn_load.specs.Kept.{IsKeptOf};
+ghost use Rattle.gn_load.specs.Performing.{IsPerformedOver, KeepsFor};
 ghost use Rattle.gn_load.specs.Told.{told_state, need_view};
 ghost use Rattle.gn_load.specs.Evaluating.{IsRan, IsBuildFile, IsConfiguration, IsImported, IsLoadExecuted, IsSetupExecuted, IsImportFiled, IsLacking};
 
 use crate::answer::{Executed, Filed};
-use crate::bases::Bases;
+use crate::kept::Kept;
 use crate::keys::{import_key, load_key, setup_key};
 use crate::part::Part;
 use crate::told::{Needed, Told, has_no_value};
@@ -28,7 +28,7 @@ use crate::work::Performed;
 use gn_definitions::ImportValue;
 use gn_items::{Claim, Key, Question, When};
 use gn_paths::{Path, Place, Text};
-use gn_unit::{Base, EvalStop, Unit, evaluate};
+use gn_unit::{Base, EvalStop, Paused, Unit, evaluate, go_on};
 use std::alloc::{AllocError, Global};
 
 /// What comes of an execution.
@@ -36,22 +36,24 @@ use std::alloc::{AllocError, Global};
 pub(crate) enum Ran {
     /// It has ended.
     Ended(Unit),
-    /// It needs this answer, and has asked these questions before.
-    Lacks(Needed, Vec<Question>),
+    /// It needs this answer, and this is kept of it.
+    Lacks(Needed, Kept),
 }
 
 // What comes of an execution that has no end yet.
 fn lacks(need: Needed, stop: EvalStop) -> Result<Ran, AllocError>
-    ensures { IfOk result (λ ran. (base : BaseState) (key : Named) (a : Answers) → WhereStopped stop (λ asked. IsNeedOf base key (need_view need) asked a) → IsRan base key a ran) }
+    ensures { IfOk result (λ ran. (base : BaseState) (key : Named) (a : Answers) → WhereStopped stop (λ asked. IsNeedOf base key (need_view need) asked a) →
+        WherePaused stop (IsKept base key (Some a)) → IsRan base key a ran) }
 {
     match stop {
-        EvalStop::Stopped(asked) => Ok(Ran::Lacks(need, asked)),
+        EvalStop::Stopped(asked) => Ok(Ran::Lacks(need, Kept::Asked(asked))),
+        EvalStop::Paused(rest) => Ok(Ran::Lacks(need, Kept::Rest(rest))),
         EvalStop::Memory => Err(AllocError),
     }
 }
 
-// The execution that a key names, over a base and what a library tells.
-fn run_over<P: Part>(
+// The execution that a key names, from its start, over a base and what a library tells.
+fn begin_over<P: Part>(
     alloc: Global,
     base: &Base,
     told: Told<'_, P>,
@@ -67,20 +69,59 @@ fn run_over<P: Part>(
     }
 }
 
-// The execution that a key names of the layer, over some part of what is filed and the base of the layer.
+// The same from where it has stopped.
+fn go_over<P: Part>(
+    alloc: Global,
+    told: Told<'_, P>,
+    key: &Key,
+    rest: Paused,
+) -> Result<Ran, AllocError>
+    requires executed { IsExecuted key.now }
+    requires shallow { IsShallow rest.tree }
+    ensures { IfOk result (λ ran. (base : BaseState) → IsKept base key.now (Some (shown (P.answers told.entry.part.now) (layer_at told.entry.when told.entry.toolchain.now))) rest →
+        IsRan base key.now (shown (P.answers told.entry.part.now) (layer_at told.entry.when told.entry.toolchain.now)) ran) }
+{
+    let mut told = told;
+    match go_on(alloc, key, rest, &mut told) {
+        Ok(unit) => Ok(Ran::Ended(unit)),
+        Err(stop) => lacks(told.need, stop),
+    }
+}
+
+// The execution that a key names, from where it has stopped, if it has begun, over a base and what a library tells.
+fn run_over<P: Part>(
+    alloc: Global,
+    base: &Base,
+    told: Told<'_, P>,
+    key: Key,
+    rest: Option<Paused>,
+) -> Result<Ran, AllocError>
+    requires executed { IsExecuted key }
+    requires rest { IfSome rest (IsKept base.now key (Some (shown (P.answers told.part.now) (layer_at told.when told.toolchain.now)))) }
+    ensures { IfOk result (IsRan base.now key (shown (P.answers told.entry.part.now) (layer_at told.entry.when told.entry.toolchain.now))) }
+{
+    match rest {
+        Some(rest) => go_over(alloc, told, &key, rest),
+        None => begin_over(alloc, base, told, key),
+    }
+}
+
+// The execution that a key names of the layer, over a base and some part of what is filed.
 fn run_key<P: Part>(
     alloc: Global,
-    bases: &Bases,
+    base: &Base,
     part: &P,
     when: When,
     toolchain: &Text,
     key: Key,
+    rest: Option<Paused>,
 ) -> Result<Ran, AllocError>
-    requires { IsExecuted key }
-    ensures { IfOk result (IsRan (base_among bases.now when) key (shown (P.answers part.now) (layer_at when toolchain.now))) }
+    requires executed { IsExecuted key }
+    requires rest { IfSome rest (IsKept base.now key (Some (shown (P.answers part.now) (layer_at when toolchain.now)))) }
+    ensures { IfOk result (IsRan base.now key (shown (P.answers part.now) (layer_at when toolchain.now))) }
 {
     let told = Told::new(alloc, part, when, toolchain)?;
-    run_over(alloc, bases.base(when), told, key)
+    run_over(alloc, base, told, key, rest)
 }
 
 // What is filed of the execution of a build file.
@@ -114,7 +155,7 @@ fn setup_executed(unit: Unit) -> Executed<Option<ImportValue>>
 // How the execution of an import has ended.
 fn import_executed(unit: Unit) -> Executed<ImportValue>
     requires { IsImported unit }
-    ensures { (run : Run (Left ImportState)) → IsImportOf unit run.end → run.asked ≡ asked_of unit → run_of (λ value. value) result ≡ left_run (λ value. value) run }
+    ensures { (run : Run (Left ImportState)) → IsImportOf unit run.end → run.asked ≡ asked_of unit → run_of (λ value effects. value) result ≡ left_run (λ value. value) run }
 {
     match unit {
         Unit::Setup(..) => unreachable!(),
@@ -144,7 +185,7 @@ fn import_filed<P: Part>(
     toolchain: &Text,
     executed: Executed<ImportValue>,
 ) -> Result<Filed, AllocError>
-    ensures { IfOk result (IsImportFiled (P.answers part.now) (layer_at when toolchain.now) (run_of (λ value. value) executed)) }
+    ensures { IfOk result (IsImportFiled (P.answers part.now) (layer_at when toolchain.now) (run_of (λ value effects. value) executed)) }
 {
     match executed {
         Executed::Spoiled(path, place, asked) => {
@@ -155,20 +196,6 @@ fn import_filed<P: Part>(
     }
 }
 
-// The content of a file is needed first.
-fn needs_content(
-    alloc: Global,
-    path: Path,
-    place: Place,
-    asked: Vec<Question>,
-) -> Result<Performed, AllocError>
-    ensures { IfOk result (λ done. (l : Layer) → IsLacking l (record { question = content_of path; place = place }) (map question_of asked.items) done) }
-{
-    let mut asked = asked;
-    asked.push(Question::Content(path.copy(alloc)?))?;
-    Ok(Performed::Needs(Key::Read(path), place, asked))
-}
-
 // What an import of a layer leaves is needed first.
 fn needs_import(
     alloc: Global,
@@ -176,15 +203,12 @@ fn needs_import(
     toolchain: &Text,
     path: Path,
     place: Place,
-    asked: Vec<Question>,
+    kept: Kept,
 ) -> Result<Performed, AllocError>
-    ensures { IfOk result (IsLacking (layer_at when toolchain.now) (record { question = import_of path; place = place }) (map question_of asked.items)) }
+    ensures { IfOk result (IsLacking (layer_at when toolchain.now) (record { question = import_of path; place = place }) kept) }
 {
-    let mut asked = asked;
-    asked.push(Question::Content(path.copy(alloc)?))?;
-    asked.push(Question::Import(path.copy(alloc)?))?;
     let toolchain = toolchain.copy(alloc)?;
-    Ok(Performed::Needs(Key::Import(when, toolchain, path), place, asked))
+    Ok(Performed::Needs(Key::Import(when, toolchain, path), place, kept))
 }
 
 // What an evaluation of a layer needs, as a key.
@@ -193,67 +217,72 @@ fn needs(
     when: When,
     toolchain: &Text,
     need: Needed,
-    asked: Vec<Question>,
+    kept: Kept,
 ) -> Result<Performed, AllocError>
-    ensures { IfOk result (IsLacking (layer_at when toolchain.now) (need_view need) (map question_of asked.items)) }
+    ensures { IfOk result (IsLacking (layer_at when toolchain.now) (need_view need) kept) }
 {
     let Needed { question, place } = need;
     match question {
-        Question::Content(path) => needs_content(alloc, path, place, asked),
-        Question::Import(path) => needs_import(alloc, when, toolchain, path, place, asked),
+        Question::Content(path) => Ok(Performed::Needs(Key::Read(path), place, kept)),
+        Question::Import(path) => needs_import(alloc, when, toolchain, path, place, kept),
     }
 }
 
-/// The work on the claim of a build configuration, over some part of what is filed.
+/// The work on the claim of a build configuration, over a base and some part of what is filed.
 pub(crate) fn perform_setup<P: Part>(
     alloc: Global,
-    bases: &Bases,
+    base: &Base,
     part: &P,
     toolchain: &Text,
+    rest: Option<Paused>,
 ) -> Result<Performed, AllocError>
-    ensures { IfOk result (IsPerformed bases.now.early (P.answers part.now) (Unit_of (setup toolchain.now))) }
+    requires { IfSome rest (IsKeptOf base.now (P.answers part.now) (variant.Setup toolchain.now)) }
+    ensures done { IfOk result (IsPerformedOver base.now (P.answers part.now) (Unit_of (setup toolchain.now))) }
+    ensures kept { IfOk result (KeepsFor base.now (P.answers part.now) (variant.Setup toolchain.now)) }
 {
     let key = setup_key(alloc, toolchain)?;
-    match run_key(alloc, bases, part, When::Early, toolchain, key)? {
+    match run_key(alloc, base, part, When::Early, toolchain, key, rest)? {
         Ran::Ended(unit) => Ok(Performed::Answered(Filed::Unit(setup_executed(unit)))),
-        Ran::Lacks(need, asked) => needs(alloc, When::Early, toolchain, need, asked),
+        Ran::Lacks(need, kept) => needs(alloc, When::Early, toolchain, need, kept),
     }
 }
 
-/// The work on the claim of a build file, over some part of what is filed.
+/// The work on the claim of a build file, over a base and some part of what is filed.
 pub(crate) fn perform_load<P: Part>(
     alloc: Global,
-    bases: &Bases,
+    base: &Base,
     part: &P,
     directory: &Path,
     toolchain: &Text,
+    rest: Option<Paused>,
 ) -> Result<Performed, AllocError>
-    requires { AreBases bases.now (P.answers part.now) }
-    ensures { IfOk result (λ done. IsSeen (P.answers part.now) (Unit_of (load directory.now toolchain.now))
-        → IsPerformed bases.now.early (P.answers part.now) (Unit_of (load directory.now toolchain.now)) done) }
+    requires { IfSome rest (IsKeptOf base.now (P.answers part.now) (variant.Load directory.now toolchain.now)) }
+    ensures done { IfOk result (IsPerformedOver base.now (P.answers part.now) (Unit_of (load directory.now toolchain.now))) }
+    ensures kept { IfOk result (KeepsFor base.now (P.answers part.now) (variant.Load directory.now toolchain.now)) }
 {
     let key = load_key(alloc, directory, toolchain)?;
-    match run_key(alloc, bases, part, When::Usual, toolchain, key)? {
+    match run_key(alloc, base, part, When::Usual, toolchain, key, rest)? {
         Ran::Ended(unit) => Ok(Performed::Answered(Filed::Unit(load_executed(unit)))),
-        Ran::Lacks(need, asked) => needs(alloc, When::Usual, toolchain, need, asked),
+        Ran::Lacks(need, kept) => needs(alloc, When::Usual, toolchain, need, kept),
     }
 }
 
-/// The work on the claim of an import of a layer, over some part of what is filed.
+/// The work on the claim of an import of a layer, over a base and some part of what is filed.
 pub(crate) fn perform_import<P: Part>(
     alloc: Global,
-    bases: &Bases,
+    base: &Base,
     part: &P,
     when: When,
     toolchain: &Text,
     path: &Path,
+    rest: Option<Paused>,
 ) -> Result<Performed, AllocError>
-    requires { AreBases bases.now (P.answers part.now) }
-    ensures { IfOk result (λ done. IsSeen (P.answers part.now) (Import (layer_at when toolchain.now) path.now)
-        → IsPerformed bases.now.early (P.answers part.now) (Import (layer_at when toolchain.now) path.now) done) }
+    requires { IfSome rest (IsKeptOf base.now (P.answers part.now) (variant.Import when toolchain.now path.now)) }
+    ensures done { IfOk result (IsPerformedOver base.now (P.answers part.now) (Import (layer_at when toolchain.now) path.now)) }
+    ensures kept { IfOk result (KeepsFor base.now (P.answers part.now) (variant.Import when toolchain.now path.now)) }
 {
     let key = import_key(alloc, when, toolchain, path)?;
-    match run_key(alloc, bases, part, when, toolchain, key)? {
+    match run_key(alloc, base, part, when, toolchain, key, rest)? {
         Ran::Ended(unit) => Ok(Performed::Answered(import_filed(
             alloc,
             part,
@@ -261,6 +290,6 @@ pub(crate) fn perform_import<P: Part>(
             toolchain,
             import_executed(unit),
         )?)),
-        Ran::Lacks(need, asked) => needs(alloc, when, toolchain, need, asked),
+        Ran::Lacks(need, kept) => needs(alloc, when, toolchain, need, kept),
     }
 }

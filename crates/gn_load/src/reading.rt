@@ -7,7 +7,7 @@ ghost use Rattle.gn_load.specs.declared.work.Performed.TheVariants.{Answered};
 ghost use Rattle.gn_load.specs.declared.answer.Filed.TheVariants.{Content as content_filed};
 ghost use Rattle.gn_core.specs.Keys.{Read, Filed as Answers};
 ghost use Rattle.gn_outside.specs.Tree.{Tree, read_of};
-ghost use Rattle.gn_builds.specs.Worlds.{content_in};
+ghost use Rattle.gn_projects.specs.Files.{content_in};
 ghost use Rattle.gn_load.specs.Answers.{content_view};
 ghost use Rattle.gn_load.specs.Performing.{IsContent, IsReadBy, IsPerformed, IsOfTree, IsWorkOf};
 
@@ -18,7 +18,7 @@ use gn_outside::{ReadStop, Source};
 use gn_paths::Path;
 use std::alloc::Global;
 
-// The bytes of a file, parsed.
+// The bytes of a file, which are shared.
 fn content_of(alloc: Global, bytes: Vec<u8>) -> Result<FileContent, PerformStop>
     requires { length bytes.items ≤ max_bytes }
     ensures { IsContent bytes.items result }
@@ -29,7 +29,7 @@ fn content_of(alloc: Global, bytes: Vec<u8>) -> Result<FileContent, PerformStop>
     }
 }
 
-/// What the source has at a path. A file is parsed, once.
+/// What the source has at a path.
 pub fn read_content<S: Source>(
     alloc: Global,
     path: &Path,

@@ -69,13 +69,24 @@ fn set_all(alloc: Global, overrides: &mut Overrides, entries: &[Entry]) -> Resul
     Ok(())
 }
 
+/// The values of build arguments, with others that win over them.
+pub(crate) fn overridden(
+    alloc: Global,
+    overrides: &Overrides,
+    entries: &[Entry],
+) -> Result<Overrides, AllocError>
+    ensures { IfOk result (λ o. o ≡ with_names (map entry_of entries.now) overrides.now) }
+{
+    let mut overrides = overrides.copy(alloc)?;
+    set_all(alloc, &mut overrides, entries)?;
+    Ok(overrides)
+}
+
 // The values of build arguments: those that are given win over those of the dotfile.
 fn overrides_of(alloc: Global, given: &Given) -> Result<Overrides, AllocError>
     ensures { IfOk result (λ o. o ≡ with_names given.now.arguments given.now.dotfile.arguments) }
 {
-    let mut overrides = given.dotfile.arguments.copy(alloc)?;
-    set_all(alloc, &mut overrides, given.arguments.as_slice())?;
-    Ok(overrides)
+    overridden(alloc, &given.dotfile.arguments, given.arguments.as_slice())
 }
 
 // What the build configuration of the default toolchain and what it imports have in common.
@@ -113,7 +124,7 @@ fn base_of(alloc: Global, given: &Given) -> Result<Base, AllocError>
     let configuration = given.dotfile.configuration.copy(alloc)?;
     let secondary = copy_path(alloc, &given.dotfile.secondary)?;
     let host = HostNames { os, cpu };
-    Ok(Base::of_configuration(alloc, context, host, configuration, secondary))
+    Base::of_configuration(alloc, context, host, configuration, secondary)
 }
 
 // Puts a path with what there is into a map; what was there at the path before is dropped.

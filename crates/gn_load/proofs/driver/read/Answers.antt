@@ -1,4 +1,4 @@
-use Rattle.gn_load.proofs.ReadLemmas.{same_claim, same_bases, same_reads, filed_once, lost_once, new_once}
+use Rattle.gn_load.proofs.ReadLemmas.{same_claim, same_reads, filed_once, lost_once, new_once}
 use Rattle.gn_load.proofs.driver.read.Goals as goal
 
 pub file_known-requires : goal.file_known-requires
@@ -14,9 +14,6 @@ returns-in_err-file_known-in-Some g c =
 
 pub read_new-requires-clause-claim : goal.read_new-requires-clause-claim
 read_new-requires-clause-claim g c = same_claim c.args.driver.now c.known_at.new.driver c.args.claim _ c.known_at.ensures c.requires.read c.requires.claim
-
-pub read_new-requires-clause-bases : goal.read_new-requires-clause-bases
-read_new-requires-clause-bases g c = same_bases c.args.driver.now c.known_at.new.driver c.args.claim _ c.known_at.ensures c.requires.read c.requires.bases
 
 pub read_new-requires-clause-few : goal.read_new-requires-clause-few
 read_new-requires-clause-few g c = same_reads c.args.driver.now c.known_at.new.driver c.args.claim _ c.known_at.ensures c.requires.read c.requires.few

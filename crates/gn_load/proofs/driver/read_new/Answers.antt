@@ -2,7 +2,7 @@ use Rattle.std.proofs.Common.{subst, sym}
 use Rattle.gn_book.specs.Logs.{state_of}
 use Rattle.gn_load.specs.Performing.{HasWork}
 use Rattle.gn_load.specs.declared.work.Performed.TheVariants.{Needs}
-use Rattle.gn_load.proofs.WorkLemmas.{read_answered, read_failed, read_lost, reads_need_none}
+use Rattle.gn_load.proofs.DoneLemmas.{read_answered, read_failed, read_lost, reads_need_none}
 use Rattle.gn_load.proofs.driver.read_new.Goals as goal
 
 pub perform-requires-clause-work : goal.perform-requires-clause-work
@@ -10,11 +10,12 @@ perform-requires-clause-work g c = subst HasWork (sym c.requires.read.1) tt
 
 pub returns-in-Ok-Answered : goal.returns-in-Ok-Answered
 returns-in-Ok-Answered g c =
-    read_answered (g.S.Source.state c.args.source.now) (g.S.Source.state c.perform.new.source) c.args.driver.now c.read_done.new.driver c.args.claim c.args.driver.now.bases.early (state_of c.args.driver.now.book).filed c.in-Ok-Answered.answer c.read_done.result
+    read_answered (g.S.Source.state c.args.source.now) (g.S.Source.state c.perform.new.source) c.args.driver.now c.read_done.new.driver c.args.claim (state_of c.args.driver.now.book).filed c.base.result.now c.in-Ok-Answered.answer c.read_done.result
     (rw c.in-Ok-Answered.field-0-is at c.in-Ok-Answered.ensures.done) (rw c.in-Ok-Answered.field-0-is at c.in-Ok-Answered.ensures.tree) (rw c.in-Ok-Answered.field-0-is at c.in-Ok-Answered.ensures.reads) c.read_done.ensures
 
 pub unreachable-requires : goal.unreachable-requires
-unreachable-requires g c = reads_need_none c.args.driver.now.bases.early (state_of c.args.driver.now.book).filed _ c.requires.read.0 (Needs c.in-Ok-Needs.field-0-0 c.in-Ok-Needs.field-0-1 c.in-Ok-Needs.field-0-2) c.requires.read.1 (rw c.in-Ok-Needs.field-0-is at c.in-Ok-Needs.ensures.done)
+unreachable-requires g c =
+    reads_need_none (state_of c.args.driver.now.book).filed c.base.result.now _ c.requires.read.0 (Needs c.in-Ok-Needs.field-0-0 c.in-Ok-Needs.field-0-1 c.in-Ok-Needs.field-0-2) c.requires.read.1 (rw c.in-Ok-Needs.field-0-is at c.in-Ok-Needs.ensures.done)
 
 pub returns-in-Err-Failed : goal.returns-in-Err-Failed
 returns-in-Err-Failed g c =

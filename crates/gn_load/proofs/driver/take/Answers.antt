@@ -1,16 +1,17 @@
 use Rattle.std.proofs.Common.{subst, sym, ◌≡◌, Some, slice_get}
+use Rattle.std.proofs.lemmas.Option.{slice_get_within}
 use Rattle.gn_book.specs.Keys.{key_of}
 use Rattle.gn_book.specs.Logs.{Log}
 use Rattle.gn_book.specs.Blocks.{BlocksAs}
 use Rattle.gn_builds.specs.Driving.{IsClaim}
 use Rattle.gn_builds.proofs.Going.{named_claim}
-use Rattle.gn_load.proofs.TakeLemmas.{got_within, claimed_by, takes_work, takes_none, not_ready, no_wait}
+use Rattle.gn_load.proofs.TakeLemmas.{claimed_by, takes_work, takes_none, not_ready, no_wait}
 use Rattle.gn_load.proofs.driver.take.Goals as goal
 
 pub block-requires-clause-numbers : goal.block-requires-clause-numbers
 block-requires-clause-numbers c = (
   (subst (λ (l : Log). IsClaim l c.args.claim.now) (sym c.in_ok-number.ensures.ok) (named_claim c.args.book.now (key_of c.args.on) c.args.claim.now c.requires.claim)).held.number,
-  got_within c.number.new.self.keys c.in_ok-number.number (key_of c.args.on) c.in_ok-number.ensures.number,
+  slice_get_within c.number.new.self.keys c.in_ok-number.number (key_of c.args.on) c.in_ok-number.ensures.number,
 )
 
 pub block-requires-clause-claimed : goal.block-requires-clause-claimed

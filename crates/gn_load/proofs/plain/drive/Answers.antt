@@ -1,17 +1,15 @@
-use Rattle.std.proofs.Common.{[], ◌∷◌, List, refl, sym, ◌∙◌, ap, subst}
+use Rattle.std.proofs.Common.{[], ◌∷◌, List, refl, sym, ◌∙◌, ap, subst, arith}
 use Rattle.gn_book.specs.Keys.{key_of}
 use Rattle.gn_book.specs.declared.book.Claim.{Claim}
 use Rattle.gn_load.specs.Turns.{Goes}
-use Rattle.gn_load.specs.declared.bases.Bases.{Bases}
-use Rattle.gn_load.specs.declared.driver.Stop.TheVariants.{Memory}
-use Rattle.gn_load.proofs.TurnLemmas.{goes_memory}
-use Rattle.gn_load.proofs.PlainLemmas.{taken_drives, finished_counted, finished_less, unit_waits, drive_ends, drive_stops, counted_few}
+use Rattle.gn_load.specs.declared.current.CurrentBase.{CurrentBase}
+use Rattle.gn_load.proofs.PlainLemmas.{has_begun, taken_drives, finished_counted, finished_less, unit_waits, drive_ends, drive_stops}
 use Rattle.gn_load.proofs.plain.drive.Goals as goal
 
 pub returns-in_err-next : goal.returns-in_err-next
 returns-in_err-next g c = λ known before goes.
-    drive_stops known before (g.S.Source.state c.args.source.now) c.args.driver.now c.args.driver.now c.take_up.new.driver c.take_up.new.units c.from_residual.result Memory refl c.from_residual.ensures.1
-    (goes_memory known before (g.S.Source.state c.args.source.now) c.args.driver.now [] goes) (c.in_err-next.ensures known before (g.S.Source.state c.args.source.now) goes)
+    let stops = c.in_err-next.ensures known before (g.S.Source.state c.args.source.now) goes in
+    drive_stops known before (g.S.Source.state c.args.source.now) c.args.driver.now c.args.driver.now c.take_up.new.driver c.take_up.new.units c.from_residual.result _ refl c.from_residual.ensures.1 stops.0 stops.1
 
 pub take_up-requires-clause-goes : goal.take_up-requires-clause-goes
 take_up-requires-clause-goes g c = (c.requires.goes.0, c.requires.goes.1, g.S.Source.state c.args.source.now, c.requires.goes.2)
@@ -19,7 +17,7 @@ take_up-requires-clause-goes g c = (c.requires.goes.0, c.requires.goes.1, g.S.So
 pub rounds-init : goal.rounds-init
 rounds-init g c = λ known before goes.
     let taken = c.in_ok-next.ensures known before (g.S.Source.state c.args.source.now) goes in
-    (taken_drives known before (g.S.Source.state c.args.source.now) c.args.driver.now c.take_up.new.driver c.take_up.new.units c.in_ok-next.next c.requires.waiting taken, ap (λ (b : Bases). b.early) taken.bases)
+    (taken_drives known before (g.S.Source.state c.args.source.now) c.args.driver.now c.take_up.new.driver c.take_up.new.units c.in_ok-next.next c.requires.waiting taken, taken.start)
 
 pub finish-requires-clause-goes : goal.finish-requires-clause-goes
 finish-requires-clause-goes g c =
@@ -36,7 +34,7 @@ returns-in_err-finish g c = λ known before goes.
     let stands = rw c.in-Some.is at (c.rounds.invariant known before goes) in
     drive_stops known before (g.S.Source.state c.finish.new.source) c.args.driver.now c.rounds.driver c.finish.new.driver c.rounds.units c.from_residual-in_err-finish.result _ stands.1 c.from_residual-in_err-finish.ensures.1
     (c.in_err-finish.ensures known before (subst (λ (ws : List Claim). Goes known before (g.S.Source.state c.rounds.source) c.rounds.driver (c.in-Some.claim ∷ ws)) (sym stands.0.waiting) stands.0.goes))
-    (counted_few c.rounds.driver.book c.rounds.units stands.0.counted)
+    (has_begun known before (g.S.Source.state c.rounds.source) c.rounds.driver (c.in-Some.claim ∷ []) c.rounds.units stands.0.goes stands.0.counted)
 
 pub take_up-requires-in-Some-clause-goes : goal.take_up-requires-in-Some-clause-goes
 take_up-requires-in-Some-clause-goes g c =
@@ -46,17 +44,20 @@ take_up-requires-in-Some-clause-goes g c =
 
 pub take_up-requires-in-Some-clause-counted : goal.take_up-requires-in-Some-clause-counted
 take_up-requires-in-Some-clause-counted g c =
-    let stands = rw c.in-Some.is at (c.rounds.invariant c.requires.goes.0 c.requires.goes.1 c.requires.goes.2) in
-    let done = c.in_ok-finish.ensures c.requires.goes.0 c.requires.goes.1 (subst (λ (ws : List Claim). Goes c.requires.goes.0 c.requires.goes.1 (g.S.Source.state c.rounds.source) c.rounds.driver (c.in-Some.claim ∷ ws)) (sym stands.0.waiting) stands.0.goes) in
-    finished_counted c.requires.goes.0 c.requires.goes.1 (g.S.Source.state c.finish.new.source) c.rounds.driver c.finish.new.driver c.rounds.units done.0 stands.0.counted
+    let known = c.requires.goes.0 in
+    let before = c.requires.goes.1 in
+    let stands = rw c.in-Some.is at (c.rounds.invariant known before c.requires.goes.2) in
+    let done = c.in_ok-finish.ensures known before (subst (λ (ws : List Claim). Goes known before (g.S.Source.state c.rounds.source) c.rounds.driver (c.in-Some.claim ∷ ws)) (sym stands.0.waiting) stands.0.goes) in
+    finished_counted known before (g.S.Source.state c.rounds.source) (g.S.Source.state c.finish.new.source) c.rounds.driver c.finish.new.driver c.in-Some.claim c.rounds.units stands.0.goes done.0 stands.0.counted
 
 pub returns-in_err-next-2 : goal.returns-in_err-next-2
 returns-in_err-next-2 g c = λ known before goes.
     let stands = rw c.in-Some.is at (c.rounds.invariant known before goes) in
     let now = g.S.Source.state c.finish.new.source in
     let done = c.in_ok-finish.ensures known before (subst (λ (ws : List Claim). Goes known before (g.S.Source.state c.rounds.source) c.rounds.driver (c.in-Some.claim ∷ ws)) (sym stands.0.waiting) stands.0.goes) in
-    drive_stops known before now c.args.driver.now c.finish.new.driver c.take_up-in-Some.new.driver c.take_up-in-Some.new.units c.from_residual-in_err-next-2.result Memory (done.0.start ∙ stands.1) c.from_residual-in_err-next-2.ensures.1
-    (goes_memory known before now c.finish.new.driver [] done.0.goes) (c.in_err-next-2.ensures known before now done.0.goes)
+    let stops = c.in_err-next-2.ensures known before now done.0.goes in
+    drive_stops known before now c.args.driver.now c.finish.new.driver c.take_up-in-Some.new.driver c.take_up-in-Some.new.units c.from_residual-in_err-next-2.result _ (ap (λ (b : CurrentBase). b.start) done.0.base ∙ stands.1) c.from_residual-in_err-next-2.ensures.1
+    stops.0 stops.1
 
 pub rounds-preserved : goal.rounds-preserved
 rounds-preserved g c = λ known before goes.
@@ -64,7 +65,7 @@ rounds-preserved g c = λ known before goes.
     let now = g.S.Source.state c.finish.new.source in
     let done = c.in_ok-finish.ensures known before (subst (λ (ws : List Claim). Goes known before (g.S.Source.state c.rounds.source) c.rounds.driver (c.in-Some.claim ∷ ws)) (sym stands.0.waiting) stands.0.goes) in
     let taken = c.in_ok-next-2.ensures known before now done.0.goes in
-    (taken_drives known before now c.finish.new.driver c.take_up-in-Some.new.driver c.take_up-in-Some.new.units _ done.1 taken, ap (λ (b : Bases). b.early) taken.bases ∙ done.0.start ∙ stands.1)
+    (taken_drives known before now c.finish.new.driver c.take_up-in-Some.new.driver c.take_up-in-Some.new.units _ done.1 taken, taken.start ∙ ap (λ (b : CurrentBase). b.start) done.0.base ∙ stands.1)
 
 pub rounds-smaller : goal.rounds-smaller
 rounds-smaller g c =
@@ -73,7 +74,9 @@ rounds-smaller g c =
     let stands = rw c.in-Some.is at (c.rounds.invariant known before c.requires.goes.2) in
     let now = g.S.Source.state c.finish.new.source in
     let done = c.in_ok-finish.ensures known before (subst (λ (ws : List Claim). Goes known before (g.S.Source.state c.rounds.source) c.rounds.driver (c.in-Some.claim ∷ ws)) (sym stands.0.waiting) stands.0.goes) in
-    rw (c.in_ok-next-2.ensures known before now done.0.goes).filed (finished_less known before (g.S.Source.state c.rounds.source) now c.rounds.driver c.finish.new.driver c.in-Some.claim stands.0.goes stands.0.comes done.0)
+    let less = finished_less known before (g.S.Source.state c.rounds.source) now c.rounds.driver c.finish.new.driver c.in-Some.claim stands.0.goes stands.0.comes stands.0.numbered done.0 in
+    let more = (c.in_ok-next-2.ensures known before now done.0.goes).left in
+    omega (arith, less, more)
 
 pub returns : goal.returns
 returns g c = λ known before goes.

@@ -12,4 +12,4 @@ returns g c =
     let known = known_paths c.args.setup.now.known.entries in
     let done = subst (λ (e : LoadEnd). IsLoadedAs base known (g.S.Source.state c.args.source.now) (g.S.Source.state c.load_setup-loaded.new.source) c.load_setup-loaded.new.units e) (sym c.end_or_memory-end.ensures)
     (load_ends base known (g.S.Source.state c.args.source.now) (g.S.Source.state c.load_setup-loaded.new.source) c.load_setup-loaded.new.units c.load_setup-loaded.result c.load_setup-loaded.ensures) in
-    record { end = done.end; reads = done.reads; faults = done.faults; units = done.counts }
+    record { end = done.end; reads = done.reads; faults = done.faults }

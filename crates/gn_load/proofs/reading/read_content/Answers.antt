@@ -1,5 +1,5 @@
 use Rattle.std.proofs.Common.{sym, ap}
-use Rattle.gn_builds.specs.Worlds.{content_in}
+use Rattle.gn_projects.specs.Files.{content_in}
 use Rattle.gn_load.proofs.Contents.{bytes_content, bytes_read, answered_read, big_read, failed_read, lost_read}
 use Rattle.gn_load.proofs.reading.read_content.Goals as goal
 

@@ -1,9 +1,7 @@
-use Rattle.gn_book.specs.Keys.{key_of}
-use Rattle.gn_load.proofs.BuiltLemmas.{early_within, are_within}
+use Rattle.std.proofs.Common.{sym, subst}
+use Rattle.gn_load.specs.Whole.{AreWithin}
+use Rattle.gn_load.proofs.BuiltLemmas.{are_within}
 use Rattle.gn_load.proofs.built.Built.append_prints.Goals as goal
 
-pub append_imports-requires : goal.append_imports-requires
-append_imports-requires c = early_within c.args.self.now.book c.args.self.now.early.entries c.args.self.now.imports.entries (key_of c.args.self.now.configuration) (key_of c.args.self.now.file) c.args.self.now.whole
-
-pub append_imports-requires-2 : goal.append_imports-requires-2
-append_imports-requires-2 c = are_within c.args.self.now.book c.args.self.now.early.entries c.args.self.now.imports.entries (key_of c.args.self.now.configuration) (key_of c.args.self.now.file) c.args.self.now.whole
+pub append_all-requires : goal.append_all-requires
+append_all-requires c = subst (AreWithin c.args.self.now.book) (sym c.deref.ensures.value) (are_within c.args.self.now.book c.args.self.now.executions.items c.args.self.now.within)

@@ -1,0 +1,119 @@
+// The base of the units that the seat works on.
+
+ghost use Rattle.std.specs.Prelude.{◌≡◌, [], None, OnOk, OnErr, true};
+ghost use Rattle.gn_core.specs.Keys.{early, same_layer};
+ghost use Rattle.gn_book.specs.Keys.{key_of, layer_at};
+ghost use Rattle.gn_book.specs.Graphs.{is_unit};
+ghost use Rattle.gn_book.specs.Logs.{state_of};
+ghost use Rattle.gn_load.specs.Current.{layer_now, base_now, TurnsTo, TurnsToUnit};
+
+use crate::answer::Answer;
+use crate::bases::base_for;
+use gn_book::Book;
+use gn_items::{Key, When};
+use gn_paths::Text;
+use gn_unit::Base;
+use std::alloc::{AllocError, Global};
+
+/// The base of a layer, of which the seat works on units: the one with which the build starts, or another one, and the layer.
+#[derive(Drop)]
+pub(crate) struct CurrentBase {
+    pub(crate) start: Base,
+    pub(crate) other: Option<Base>,
+    pub(crate) when: When,
+    pub(crate) toolchain: Text,
+}
+
+impl CurrentBase {
+    /// The base with which the build starts: that of the build configuration of the default toolchain.
+    pub(crate) fn new(alloc: Global, start: Base) -> CurrentBase
+        ensures start { result.start ≡ start }
+        ensures other { result.other ≡ None }
+        ensures layer { layer_now result ≡ early [] }
+    {
+        CurrentBase {
+            start,
+            other: None,
+            when: When::Early,
+            toolchain: Text::new(alloc),
+        }
+    }
+
+    /// The base.
+    pub(crate) fn base(&self) -> &Base
+        ensures { result.now ≡ base_now self.now }
+    {
+        match &self.other {
+            Some(base) => base,
+            None => &self.start,
+        }
+    }
+
+    // Whether it is that of a layer.
+    fn is_of(&self, when: When, toolchain: &Text) -> bool
+        ensures { result ≡ same_layer (layer_now self.now) (layer_at when toolchain.now) }
+    {
+        match (self.when, when) {
+            (When::Early, When::Early) => self.toolchain.as_bytes() == toolchain.as_bytes(),
+            (When::Usual, When::Usual) => self.toolchain.as_bytes() == toolchain.as_bytes(),
+            (When::Early, When::Usual) => false,
+            (When::Usual, When::Early) => false,
+        }
+    }
+
+    // Becomes that of another layer, over what is filed. After want of memory nothing is changed.
+    fn change(
+        &mut self,
+        alloc: Global,
+        book: &Book<Answer>,
+        when: When,
+        toolchain: &Text,
+    ) -> Result<(), AllocError>
+        ensures ok { OnOk result (TurnsTo self.old self.new (state_of book.now).filed (layer_at when toolchain.now)) }
+        ensures err { OnErr result (self.new ≡ self.old) }
+    {
+        let copy = toolchain.copy(alloc)?;
+        self.other = base_for(alloc, &self.start, book, when, toolchain)?;
+        self.when = when;
+        self.toolchain = copy;
+        Ok(())
+    }
+
+    // Becomes that of a layer, over what is filed, unless it is. After want of memory nothing is changed.
+    fn turn_to(
+        &mut self,
+        alloc: Global,
+        book: &Book<Answer>,
+        when: When,
+        toolchain: &Text,
+    ) -> Result<(), AllocError>
+        ensures ok { OnOk result (TurnsTo self.old self.new (state_of book.now).filed (layer_at when toolchain.now)) }
+        ensures err { OnErr result (self.new ≡ self.old) }
+    {
+        if self.is_of(when, toolchain) {
+            Ok(())
+        } else {
+            self.change(alloc, book, when, toolchain)
+        }
+    }
+
+    /// Becomes that of the layer of a unit, over what is filed, unless it is. After want of memory nothing is changed.
+    pub(crate) fn turn_to_unit(
+        &mut self,
+        alloc: Global,
+        book: &Book<Answer>,
+        unit: &Key,
+    ) -> Result<(), AllocError>
+        requires { is_unit (key_of unit.now) ≡ true }
+        ensures ok { OnOk result (TurnsToUnit self.old self.new (state_of book.now).filed (key_of unit.now)) }
+        ensures err { OnErr result (self.new ≡ self.old) }
+    {
+        match unit {
+            Key::Setup(toolchain) => self.turn_to(alloc, book, When::Early, toolchain),
+            Key::Load(_, toolchain) => self.turn_to(alloc, book, When::Usual, toolchain),
+            Key::Read(_) => unreachable!(),
+            Key::Import(..) => unreachable!(),
+            Key::Resolve(_) => unreachable!(),
+        }
+    }
+}
