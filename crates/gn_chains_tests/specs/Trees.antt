@@ -1,6 +1,7 @@
 -- What a graph in memory says of its items.
 use Rattle.std.specs.Prelude.{List, [], Option, Some, None, Bool, false, IfSome, option_map}
 use Rattle.indexmap.specs.IndexMap.{get}
+use Rattle.gn_paths.specs.declared.place.Place.{Place}
 use Rattle.gn_labels.specs.declared.label.Label.{Label}
 use Rattle.gn_labels.specs.declared.pattern.Pattern.{Pattern}
 use Rattle.gn_labels.specs.contracts.label.LabelPartialEq.TheImpl.{eq-value}
@@ -66,6 +67,12 @@ forbidden_of (Some item) = item.assert_no_deps.items
 
 abbrev pub forbidden_in : Tree → Label → List Pattern
 forbidden_in t label = forbidden_of (item_in t label)
+
+abbrev pub place_of : Option Item → Option Place
+place_of item = option_map (λ (item : Item). item.place) item
+
+abbrev pub places_in : Tree → Label → Option Place
+places_in t label = place_of (item_in t label)
 
 -- a record says what its target hands on
 abbrev pub IsRight : Shape → Label → Record → Type 0

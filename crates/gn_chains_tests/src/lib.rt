@@ -1,8 +1,15 @@
-//! Tests of what comes along dependencies, of cycles and of the rules of a graph, over small graphs that texts describe and over large ones.
+//! Tests of what comes along dependencies, of cycles, of the rules of a graph, of the faults of its targets and of items that are found by
+//! their labels, over small graphs that texts describe and over large ones.
 #![tactic(auto)]
 
 #[cfg(test)]
 mod chains;
+#[cfg(test)]
+mod defining;
+#[cfg(test)]
+mod faults;
+#[cfg(test)]
+mod labelled;
 mod makers;
 #[cfg(test)]
 mod outputs;

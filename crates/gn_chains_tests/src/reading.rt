@@ -1,5 +1,6 @@
 // Graphs that texts describe. `;` separates items, and ` ` the name of an item, its kind and its lists. A list stands as `deps=a,b`.
-// All items stand in the root directory, under the default toolchain `//t:t`, or under `//t:u` where `(u)` stands behind the name.
+// All items stand in the root directory, under the default toolchain `//t:t`, or under `//t:u` where `(u)` stands behind the name. The
+// line of an item's place is its number, from 1 on.
 
 ghost use Rattle.std.specs.Prelude.{IfOk};
 ghost use Rattle.gn_chains_tests.specs.Trees.{HoldsRecords};
@@ -41,14 +42,20 @@ fn push(alloc: Global, list: &mut Vec<Label>, name: &str) -> Result<(), AllocErr
     Ok(())
 }
 
-fn push_all(alloc: Global, list: &mut Vec<Label>, names: &str) -> Result<(), AllocError> {
+/// Puts the labels of names behind others.
+pub(crate) fn push_all(
+    alloc: Global,
+    list: &mut Vec<Label>,
+    names: &str,
+) -> Result<(), AllocError> {
     for name in names.split_terminator(',') {
         push(alloc, list, name)?;
     }
     Ok(())
 }
 
-fn kind_named(name: &str) -> ItemKind {
+/// The kind that a text names.
+pub(crate) fn kind_named(name: &str) -> ItemKind {
     match name {
         "config" => ItemKind::Config,
         "executable" => ItemKind::Executable,
@@ -106,16 +113,22 @@ fn set(alloc: Global, item: &mut Item, variable: &str, names: &str) -> Result<()
     Ok(())
 }
 
-fn item(alloc: Global, text: &str) -> Result<Item, Fail> {
+fn item(alloc: Global, text: &str, line: u32) -> Result<Item, Fail> {
     let mut item = Item::new(alloc, kind_named(part(text, ' ', 1)));
+    item.place.line = line;
     for list in text.split(' ').skip(2) {
         set(alloc, &mut item, part(list, '=', 0), part(list, '=', 1))?;
     }
     Ok(item)
 }
 
-fn put(alloc: Global, items: &mut IndexMap<Label, Item>, text: &str) -> Result<(), Fail> {
-    let item = item(alloc, text)?;
+fn put(
+    alloc: Global,
+    items: &mut IndexMap<Label, Item>,
+    text: &str,
+    line: u32,
+) -> Result<(), Fail> {
+    let item = item(alloc, text, line)?;
     let label = label(alloc, part(text, ' ', 0))?;
     match items.insert(label, item) {
         Ok(_) => Ok(()),
@@ -125,13 +138,16 @@ fn put(alloc: Global, items: &mut IndexMap<Label, Item>, text: &str) -> Result<(
 
 fn items(alloc: Global, graph: &str) -> Result<IndexMap<Label, Item>, Fail> {
     let mut items = IndexMap::new(alloc);
+    let mut line = 0u32;
     for text in graph.split(';') {
-        put(alloc, &mut items, text)?;
+        line = line.saturating_add(1);
+        put(alloc, &mut items, text, line)?;
     }
     Ok(items)
 }
 
-fn labels(alloc: Global, graph: &str) -> Result<Vec<Label>, AllocError> {
+/// The labels of the items that a text describes.
+pub(crate) fn labels(alloc: Global, graph: &str) -> Result<Vec<Label>, AllocError> {
     let mut labels = Vec::new(alloc);
     for text in graph.split(';') {
         push(alloc, &mut labels, part(text, ' ', 0))?;

@@ -1,17 +1,17 @@
 // What the rules forbid targets.
 
 use crate::reading::{are_named, label, part, unresolved};
-use crate::tree::Tree;
 use gn_cycles::shortest_cycle;
 use gn_labels::Label;
 use gn_rules::{
-    forbidden_target, foreign_labels, hidden_configs, hidden_targets, missing_labels, testonly_deps,
+    Marks, forbidden_target, foreign_labels, hidden_configs, hidden_targets, missing_labels,
+    testonly_deps,
 };
 use std::alloc::{AllocError, Global};
 use std::test::Fail;
 
-// A call on each line, with a graph, a target and the labels that are forbidden it.
-const FORBIDDEN: &str = "\
+/// A call on each line, with a graph, a target and the labels that are forbidden it.
+pub(crate) const FORBIDDEN: &str = "\
 targets|a group;b group deps=a|b|
 targets|a group visibility=;b group deps=a|b|a
 targets|a group visibility=:*;b group deps=a|b|
@@ -82,28 +82,37 @@ fn or_none(alloc: Global, labels: Option<Vec<Label>>) -> Result<Vec<Label>, Allo
     }
 }
 
-fn forbidden(
+fn forbidden<G: Marks>(
     alloc: Global,
     call: &str,
     target: &Label,
-    tree: &Tree,
+    graph: &G,
 ) -> Result<Vec<Label>, AllocError> {
     match call {
-        "targets" => hidden_targets(alloc, target, tree),
-        "configs" => hidden_configs(alloc, target, tree),
-        "missing" => missing_labels(alloc, target, tree),
-        "foreign" => foreign_labels(alloc, target, tree),
-        "reach" => listed(alloc, forbidden_target(alloc, target, tree)?),
-        "cycle" => or_none(alloc, shortest_cycle(alloc, target, tree)?),
-        _ => testonly_deps(alloc, target, tree),
+        "targets" => hidden_targets(alloc, target, graph),
+        "configs" => hidden_configs(alloc, target, graph),
+        "missing" => missing_labels(alloc, target, graph),
+        "foreign" => foreign_labels(alloc, target, graph),
+        "reach" => listed(alloc, forbidden_target(alloc, target, graph)?),
+        "cycle" => or_none(alloc, shortest_cycle(alloc, target, graph)?),
+        _ => testonly_deps(alloc, target, graph),
     }
 }
 
-fn forbids(alloc: Global, row: &str) -> Result<bool, Fail> {
+/// Whether a graph forbids what a line says.
+pub(crate) fn is_forbidden<G: Marks>(
+    alloc: Global,
+    graph: &G,
+    row: &str,
+) -> Result<bool, AllocError> {
     let target = label(alloc, part(row, '|', 2))?;
-    let tree = unresolved(alloc, part(row, '|', 1))?;
-    let labels = forbidden(alloc, part(row, '|', 0), &target, &tree)?;
+    let labels = forbidden(alloc, part(row, '|', 0), &target, graph)?;
     Ok(are_named(&labels, part(row, '|', 3)))
+}
+
+fn forbids(alloc: Global, row: &str) -> Result<bool, Fail> {
+    let tree = unresolved(alloc, part(row, '|', 1))?;
+    Ok(is_forbidden(alloc, &tree, row)?)
 }
 
 #[test]

@@ -9,12 +9,13 @@ ghost use Rattle.gn_chains_tests.specs.declared.tree.Item.{Item as Thing};
 ghost use Rattle.gn_dependencies.specs.Shape.{all_deps};
 ghost use Rattle.gn_dependencies.specs.Configurations.{AreRecorded, IsApplied};
 ghost use Rattle.gn_dependencies.specs.Inherited.{IsInherited};
-ghost use Rattle.gn_chains_tests.specs.Trees.{item_in, record_in, list_at, shape_in, records_in, visibility_in, testonly_in, forbidden_in, HoldsRecords, IsRight};
+ghost use Rattle.gn_chains_tests.specs.Trees.{item_in, record_in, list_at, shape_in, records_in, visibility_in, testonly_in, forbidden_in, places_in, HoldsRecords, IsRight};
 ghost use Rattle.gn_chains_tests.specs.Found.{listed};
 
 use gn_chains::{Graph, applied, inherited, pushed, pushed_public};
+use gn_graph_faults::Places;
 use gn_labels::{Label, Pattern};
-use gn_paths::Text;
+use gn_paths::{Place, Text};
 use gn_rows::{ItemKind, Variable};
 use gn_rules::Marks;
 use indexmap::IndexMap;
@@ -45,6 +46,8 @@ pub struct Item {
     pub all_dependent_configs: Vec<Label>,
     /// Its public configurations.
     pub public_configs: Vec<Label>,
+    /// The place of the call that defines it.
+    pub place: Place,
 }
 
 impl Item {
@@ -64,6 +67,11 @@ impl Item {
             configs: Vec::new(alloc),
             all_dependent_configs: Vec::new(alloc),
             public_configs: Vec::new(alloc),
+            place: Place {
+                file: Text::new(alloc),
+                line: 1,
+                column: 1,
+            },
         }
     }
 
@@ -298,6 +306,17 @@ impl Marks for Tree {
         match self.item(label) {
             None => &[],
             Some(item) => item.assert_no_deps.as_slice(),
+        }
+    }
+}
+
+impl Places for Tree {
+    ghost places = { places_in };
+
+    fn place(&self, label: &Label) -> Option<&Place> {
+        match self.item(label) {
+            None => None,
+            Some(item) => Some(&item.place),
         }
     }
 }

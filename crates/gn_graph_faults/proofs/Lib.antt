@@ -1,0 +1,6 @@
+mod Sorting
+mod Ordered
+mod Sentences
+mod ToldMore
+mod OneList
+mod Leasts

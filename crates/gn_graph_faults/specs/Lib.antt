@@ -1,0 +1,5 @@
+pub mod Order
+pub mod Faults
+pub mod Told
+pub mod Least
+pub mod Laws

@@ -1,0 +1,9 @@
+mod Shortening
+mod Ways
+mod Members
+mod InOrder
+mod Orders
+mod Reaching
+mod Findings
+mod Leasts
+mod Listed

@@ -1,0 +1,4 @@
+pub mod Behind
+pub mod Indexing
+pub mod Places
+pub mod Told

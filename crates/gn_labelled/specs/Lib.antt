@@ -1,0 +1,4 @@
+pub mod Index
+pub mod Graphs
+pub mod Laws
+pub mod Listed
