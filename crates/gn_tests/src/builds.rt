@@ -1,11 +1,8 @@
-// Builds, stage by stage: the dotfile, the build arguments, the build configuration and the build file. The expected texts stand in
+// Builds, stage by stage: the dotfile, the build arguments, the build configuration and the build files. The expected texts stand in
 // docs/OUTPUT.md.
 
-use crate::runs::{is_end, run, tree_of};
-use gn_outside::{TreeSink, TreeSource};
-use std::alloc::{AllocError, Global};
+use crate::runs::line_holds;
 use std::test::Fail;
-use std::thread::Threads;
 
 // A command line, the files of a tree over one whose build configuration names its default toolchain, how many build files are
 // loaded, the status and the text.
@@ -48,14 +45,16 @@ const DOTFILES: &str = builds! {
     "ls out",
         "//.gn": "buildconfig = \"//d/c.gn\"\nsecondary_source = \"//s\"",
         "//s/d/c.gn": "set_default_toolchain(\":t\")\nprint(target_gen_dir)",
+        "//s/d/BUILD.gn": "print(target_gen_dir)",
         "//BUILD.gn": "print(default_toolchain)",
-        => 1 0 "//out/gen/d\n//d:t\n";
+        => 2 0 "//out/gen/d\n//d:t\n//out/gen/d\n";
     "ls out",
         "//.gn": "buildconfig = \"//d/c.gn\"\nsecondary_source = \"//s\"",
         "//d/c.gn": "set_default_toolchain(\":t\")",
+        "//d/BUILD.gn": "",
         "//s/d/c.gn": "x = y",
         "//BUILD.gn": "",
-        => 1 0 "";
+        => 2 0 "";
     "ls out",
         "//.gn": "buildconfig = \"//d/c.gn\"\nsecondary_source = \"//s\"",
         "//s/d/c.gn": "",
@@ -66,11 +65,11 @@ const DOTFILES: &str = builds! {
         => 0 1 "ERROR at //.gn:1:1: \"set_default_toolchain\" is missing.\n";
     "ls .gn --args=",
         "//BUILD.gn": "print(root_build_dir)",
-        => 1 0 "//.gn\n";
+        => 2 0 "//.gn\n";
     "ls out",
         "//out/args.gn": "print(current_toolchain)",
         "//BUILD.gn": "import(\"//out/args.gn\")",
-        => 1 0 "\n//t:t\n";
+        => 2 0 "\n//t:t\n";
     // Lines come in the order of the files.
     "ls out",
         "//.gn": "print(1)\nbuildconfig = \"//b.gn\"",
@@ -95,8 +94,9 @@ const CONFIGURATIONS: &str = builds! {
         => 1 0 "\n//:e //:e\n//:g\n";
     "ls out //:g(//a:b)",
         "//b.gn": "set_default_toolchain(\"//a:b(//c:d)\")",
+        "//a/BUILD.gn": "",
         "//BUILD.gn": "print(get_label_info(\":g\", \"label_with_toolchain\"), root_out_dir)\ngroup(\"g\") {\n}",
-        => 1 0 "//:g(//a:b) //out\n//:g\n";
+        => 2 0 "//:g(//a:b) //out\n//:g\n";
     "ls out",
         "//b.gn": "set_default_toolchain(\"b\")",
         "//BUILD.gn": "",
@@ -107,7 +107,7 @@ const CONFIGURATIONS: &str = builds! {
         => 0 1 "ERROR at //b.gn:1:23: Wrong type of value.\n";
     "ls out",
         "//BUILD.gn": "set_default_toolchain(\"//:t\")",
-        => 1 1 "ERROR at //BUILD.gn:1:1: \"set_default_toolchain\" is not allowed here.\n";
+        => 2 1 "ERROR at //BUILD.gn:1:1: \"set_default_toolchain\" is not allowed here.\n";
     // What it leaves stands beneath the build file and its imports, which can't change it.
     "ls out",
         "//b.gn": "set_default_toolchain(\"//:t\")\nx = [ 1 ]\n_y = 2\ntemplate(\"t\") {\n  print(target_name, x)\n}\nset_defaults(\"t\") {\n  d = 1\n}",
@@ -146,39 +146,39 @@ const CONFIGURATIONS: &str = builds! {
     // A fault of the pattern comes behind those of the build.
     "ls out b",
         "//BUILD.gn": "x = y",
-        => 1 1 "ERROR at //BUILD.gn:1:5: Undefined identifier \"y\".\n";
+        => 2 1 "ERROR at //BUILD.gn:1:5: Undefined identifier \"y\".\n";
     "ls out b",
-        => 1 1 "ERROR at //BUILD.gn:1:1: No such file \"//BUILD.gn\".\n";
+        => 2 1 "ERROR at //BUILD.gn:1:1: No such file \"//BUILD.gn\".\n";
 };
 
 const ARGUMENTS: &str = builds! {
     // Later ones win: the default in the block, those of the dotfile, those that are kept or those of the command line.
     "ls out",
         "//BUILD.gn": "declare_args() {\n  x = 1\n}\nprint(x)",
-        => 1 0 "1\n";
+        => 2 0 "1\n";
     "ls out",
         "//.gn": "buildconfig = \"//b.gn\"\ndefault_args = {\n  x = 2\n  y = 2\n}",
         "//BUILD.gn": "declare_args() {\n  x = 1\n}\nprint(x)",
-        => 1 0 "2\n";
+        => 2 0 "2\n";
     "ls out",
         "//.gn": "buildconfig = \"//b.gn\"\ndefault_args = {\n  x = 2\n}",
         "//out/args.gn": "x = 3",
         "//BUILD.gn": "declare_args() {\n  x = 1\n}\nprint(x)",
-        => 1 0 "3\n";
+        => 2 0 "3\n";
     "ls out --args=x=4",
         "//out/args.gn": "x = 3\ny = 1",
         "//BUILD.gn": "declare_args() {\n  x = 1\n}\nprint(x)",
-        => 1 0 "4\n";
+        => 2 0 "4\n";
     "ls out --args=",
         "//out/args.gn": "x =",
         "//BUILD.gn": "print(1)",
-        => 1 0 "1\n";
+        => 2 0 "1\n";
     "ls out --args=x=",
         "//BUILD.gn": "",
         => 0 1 "ERROR at --args:1:3: Unexpected token.\n";
     "ls out --args=x=y --args=x=1",
         "//BUILD.gn": "",
-        => 1 0 "WARNING: The build argument \"x\" has no effect.\n";
+        => 2 0 "WARNING: The build argument \"x\" has no effect.\n";
     // Names of no effect, in their order, behind the lines and before the labels.
     "ls out",
         "//out/args.gn": "z = 1\nhost_os = \"h\"\nroot_out_dir = 1\na = 1\nx = 2",
@@ -188,13 +188,13 @@ const ARGUMENTS: &str = builds! {
     // It can't be read in its block.
     "ls out",
         "//BUILD.gn": "declare_args() {\n  x = 1\n  y = x\n}",
-        => 1 1 "ERROR at //BUILD.gn:3:7: Undefined identifier \"x\".\n";
+        => 2 1 "ERROR at //BUILD.gn:3:7: Undefined identifier \"x\".\n";
     // An argument that is declared twice: at each place but the least one of its name.
     "ls out",
         "//BUILD.gn": "import(\"//a.gni\")\nimport(\"//c.gni\")",
         "//a.gni": "declare_args() {\n  _x = 1\n  _y = 1\n}",
         "//c.gni": "declare_args() {\n  _y = 1\n  _x = 1\n}",
-        => 1 1 "ERROR at //c.gni:2:6: Duplicate build argument \"_y\".\n";
+        => 2 1 "ERROR at //c.gni:2:6: Duplicate build argument \"_y\".\n";
     // The same place twice is one: early and usual.
     "ls out --args=x=2",
         "//b.gn": "set_default_toolchain(\"//:t\")\nimport(\"//a.gni\")",
@@ -208,45 +208,13 @@ const ARGUMENTS: &str = builds! {
         => 1 1 "ERROR at //b.gn:3:5: Duplicate build argument \"x\".\n";
     "ls out",
         "//BUILD.gn": "group(\"g\") {\n  declare_args() {\n  }\n}",
-        => 1 1 "ERROR at //BUILD.gn:2:3: \"declare_args\" is not allowed here.\n";
+        => 2 1 "ERROR at //BUILD.gn:2:3: \"declare_args\" is not allowed here.\n";
 };
-
-// Whether a command line over a tree ends so, with so many build files loaded.
-fn says<R: Threads + Sync>(
-    rt: &R,
-    alloc: Global,
-    line: &str,
-    files: &str,
-    end: &str,
-) -> Result<bool, AllocError> {
-    let tree = tree_of(alloc, files)?;
-    let mut source = TreeSource::new(alloc, tree, Vec::new(alloc));
-    let mut sink = TreeSink::new(alloc, Vec::new(alloc));
-    let one = run(rt, alloc, line, &mut source, &mut sink)?;
-    match end.strip_prefix('0') {
-        Some(end) => Ok(one.units == 0 && is_end(one.status, sink.said(), end)),
-        None => match end.strip_prefix('1') {
-            Some(end) => Ok(one.units == 1 && is_end(one.status, sink.said(), end)),
-            None => Ok(false),
-        },
-    }
-}
-
-// Whether a row holds.
-fn holds<R: Threads + Sync>(rt: &R, alloc: Global, row: &str) -> Result<bool, AllocError> {
-    let Some((line, rest)) = row.split_once('\x1c') else {
-        return Ok(false);
-    };
-    match rest.split_once('\x1c') {
-        Some((files, end)) => says(rt, alloc, line, files, end),
-        None => Ok(false),
-    }
-}
 
 #[test]
 fn builds_go_from_file_to_file(rt: HostRuntime) -> Result<(), Fail> {
     for row in DOTFILES.split_terminator('\x1e') {
-        assert!(rt; holds(&rt, rt.alloc(), row)?, "at {row}");
+        assert!(rt; line_holds(&rt, rt.alloc(), row)?, "at {row}");
     }
     Ok(())
 }
@@ -254,7 +222,7 @@ fn builds_go_from_file_to_file(rt: HostRuntime) -> Result<(), Fail> {
 #[test]
 fn build_configurations_stand_beneath_build_files(rt: HostRuntime) -> Result<(), Fail> {
     for row in CONFIGURATIONS.split_terminator('\x1e') {
-        assert!(rt; holds(&rt, rt.alloc(), row)?, "at {row}");
+        assert!(rt; line_holds(&rt, rt.alloc(), row)?, "at {row}");
     }
     Ok(())
 }
@@ -262,7 +230,7 @@ fn build_configurations_stand_beneath_build_files(rt: HostRuntime) -> Result<(),
 #[test]
 fn build_arguments_override_their_defaults(rt: HostRuntime) -> Result<(), Fail> {
     for row in ARGUMENTS.split_terminator('\x1e') {
-        assert!(rt; holds(&rt, rt.alloc(), row)?, "at {row}");
+        assert!(rt; line_holds(&rt, rt.alloc(), row)?, "at {row}");
     }
     Ok(())
 }

@@ -13,15 +13,8 @@ const IMPORTS: &str =
 
 const NOTHING: &str = "//BUILD.gn\x1f\x1d";
 
-// The number of the read that fails over the imports, and the end.
-const READS: [(u64, &str); 6] = [
-    (1, "3gn: cannot read //.gn\n"),
-    (2, "3gn: cannot read //out/args.gn\n"),
-    (3, "3gn: cannot read //b.gn\n"),
-    (4, "3gn: cannot read //BUILD.gn\n"),
-    (5, "3gn: cannot read //z.gni\n"),
-    (6, "3gn: cannot read //d.gni\n"),
-];
+// How many files are read over the imports.
+const READS: u64 = 7;
 
 // A command line over a tree, the number of the read that fails or 0, and the end where the sink says half of a piece and fails.
 const HALVES: [(&str, &str, u64, &str); 4] = [
@@ -61,26 +54,24 @@ fn source(alloc: Global, tree: &str, failing: &[u64]) -> Result<TreeSource, Allo
     Ok(TreeSource::new(alloc, tree_of(alloc, tree)?, failing.to_vec(alloc)?))
 }
 
-// Whether a run ends so whose source fails at the read of this number, and whether that was its last read.
-fn stops_there<R: Threads + Sync>(
-    rt: &R,
-    alloc: Global,
-    row: &(u64, &str),
-) -> Result<bool, AllocError> {
-    let mut source = source(alloc, IMPORTS, &[row.0])?;
+// Whether a run says that the read of this number has failed, at which its source fails, and whether that was its last read.
+fn stops_there<R: Threads + Sync>(rt: &R, alloc: Global, number: u64) -> Result<bool, AllocError> {
+    let mut source = source(alloc, IMPORTS, &[number])?;
     let mut sink = TreeSink::new(alloc, Vec::new(alloc));
     let one = run(rt, alloc, "ls out", &mut source, &mut sink)?;
-    Ok(is_end(one.status, sink.said(), row.1) && has_read(&source, row.0))
+    let end = format!(in alloc; "3gn: cannot read {}\n", last_path(&source, number))?;
+    Ok(is_end(one.status, sink.said(), &end))
 }
 
-// Whether so many paths were read, and no more.
-fn has_read(source: &TreeSource, count: u64) -> bool {
-    match usize::try_from(count) {
-        Ok(count) => {
-            source.read_path(count.saturating_sub(1)).is_some() && source.read_path(count).is_none()
-        }
-        Err(_) => false,
+// The path of the read of this number where it is the last one, and no path else.
+fn last_path(source: &TreeSource, number: u64) -> &str {
+    let Ok(count) = usize::try_from(number) else {
+        return "";
+    };
+    if source.read_path(count).is_some() {
+        return "";
     }
+    source.read_path(count.saturating_sub(1)).unwrap_or("")
 }
 
 // Whether a run whose first write fails has said nothing.
@@ -108,8 +99,8 @@ fn half_ends_so<R: Threads + Sync>(
 
 #[test]
 fn a_failed_read_is_the_last_one(rt: HostRuntime) -> Result<(), Fail> {
-    for row in &READS {
-        assert!(rt; stops_there(&rt, rt.alloc(), row)?, "{}", row.0);
+    for number in 1..READS + 1 {
+        assert!(rt; stops_there(&rt, rt.alloc(), number)?, "{number}");
     }
     Ok(())
 }

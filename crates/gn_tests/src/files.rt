@@ -3,7 +3,7 @@
 use crate::runs::row_holds;
 use std::test::Fail;
 
-// A file, and what it says: its lines, and then the labels of its items.
+// A file, and what it says: its lines, and then the labels of its targets.
 macro_rules! said {
     ($($file:literal => $text:literal;)+) => {
         concat!($("//BUILD.gn\x1f", $file, "\x1d\x1c0", $text, "\x1e"),+)
@@ -25,7 +25,7 @@ const SAID: &str = said! {
     "print(\"a\\n\")\n" => "a\\n\n";
     "# only a comment" => "";
     "group(\"a\"){deps=[\":b\",]}group(\"b\"){deps=[]}" => "//:a\n//:b\n";
-    "deps = [ \":b\" ]\ngroup(\"a\") {\n}\n" => "//:a\n";
+    "deps = [ \":b\" ]\ngroup(\"a\") {\n}\ngroup(\"b\") {\n  deps = []\n}\n" => "//:a\n//:b\n";
     "executable(\"e\") {\n  sources = [ \"a.cc\" ]\n  defines = [ \"X=1\" ]\n  deps = [ \":s\" ]\n}\nsource_set(\"s\") {\n}\n" => "//:e\n//:s\n";
     "target(\"static_library\", \"l\") {\n  cflags = [ \"-g\" ]\n}\nshared_library(\"d\") {\n}\nloadable_module(\"m\") {\n}\n"
         => "//:d\n//:l\n//:m\n";

@@ -211,8 +211,8 @@ const TREES: &str = trees! {
     "//BUILD.gn": "a = 1\nnot_needed([ \"a\", \"b\" ])\nc = 1\nnot_needed(\"*\", [ \"c\" ])\n",
     => 1 "ERROR at //BUILD.gn:3:3: Assignment had no effect: \"c\".\n";
     // Defaults are given at the template's call and at the call of its kind.
-    "//BUILD.gn": "set_defaults(\"group\") {\n  deps = [ \":d\" ]\n}\ntemplate(\"group\") {\n  target(\"group\", target_name) {\n    print(deps)\n    forward_variables_from(invoker, \"*\")\n  }\n}\ngroup(\"g\") {\n}\n",
-    => 0 "[\":d\"]\n//:g\n";
+    "//BUILD.gn": "set_defaults(\"group\") {\n  deps = [ \":d\" ]\n}\ntemplate(\"group\") {\n  target(\"group\", target_name) {\n    print(deps)\n    forward_variables_from(invoker, \"*\")\n  }\n}\ngroup(\"g\") {\n}\nsource_set(\"d\") {\n}\n",
+    => 0 "[\":d\"]\n//:d\n//:g\n";
     // Equal defaults merge, others don't; the first name that differs is told; a template sees what its file keeps.
     "//BUILD.gn": "import(\"//a.gni\")\nimport(\"//a.gni\")\nimport(\"//b.gni\")\n",
     "//a.gni": "set_defaults(\"k\") {\n  a = 1\n}\n",
@@ -274,17 +274,27 @@ const TWICE: &str = concat!(
     "//c.gni\x1f\x1d",
 );
 
-// Whether these paths have been read, in this order, and no others.
+// Whether a read is one of these paths.
+fn is_one_of(read: Option<&str>, paths: &[&str]) -> bool {
+    for i in 0..paths.len() {
+        if read == Some(paths[i]) {
+            return true;
+        }
+    }
+    false
+}
+
+// Whether these paths have been read, in whatever order, and no others. No path is read twice.
 fn has_read(source: &TreeSource, paths: &[&str]) -> bool {
     for i in 0..paths.len() {
-        if source.read_path(i) != Some(paths[i]) {
+        if !is_one_of(source.read_path(i), paths) {
             return false;
         }
     }
     source.read_path(paths.len()).is_none()
 }
 
-// Whether `ls out` over a tree says nothing, ends well, loads one build file and reads these paths, in this order.
+// Whether `ls out` over a tree says nothing, ends well, loads two build files and reads these paths.
 fn tree_reads<R: Threads + Sync>(
     rt: &R,
     alloc: Global,
@@ -294,7 +304,7 @@ fn tree_reads<R: Threads + Sync>(
     let mut source = TreeSource::new(alloc, tree, Vec::new(alloc));
     let mut sink = TreeSink::new(alloc, Vec::new(alloc));
     let one = run(rt, alloc, "ls out", &mut source, &mut sink)?;
-    Ok(one.units == 1 && one.status == 0 && sink.said().is_empty() && has_read(&source, paths))
+    Ok(one.units == 2 && one.status == 0 && sink.said().is_empty() && has_read(&source, paths))
 }
 
 #[test]
@@ -305,6 +315,7 @@ fn a_file_that_is_imported_twice_is_read_once(rt: HostRuntime) -> Result<(), Fai
         "//out/args.gn",
         "//b.gn",
         "//BUILD.gn",
+        "//t/BUILD.gn",
         "//b.gni",
         "//c.gni",
         "//a.gni",

@@ -31,3 +31,5 @@ mod standing;
 mod units;
 #[cfg(test)]
 mod values;
+#[cfg(test)]
+mod whole_builds;

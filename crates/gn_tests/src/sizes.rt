@@ -1,6 +1,6 @@
 // The greatest size of a file and of a string.
 
-use crate::runs::{base_tree, file_says, tree_loads};
+use crate::runs::{base_tree, file_says, tree_loads, tree_says};
 use std::alloc::{AllocError, Global};
 use std::test::Fail;
 use std::thread::Threads;
@@ -89,7 +89,7 @@ fn beside_says<R: Threads + Sync>(
     let mut tree = base_tree(alloc)?;
     tree.put("//BUILD.gn", file.as_bytes())?;
     tree.put("//x", &bytes)?;
-    tree_loads(rt, alloc, tree, 1, end)
+    tree_says(rt, alloc, tree, end)
 }
 
 #[test]
@@ -140,7 +140,7 @@ fn build_arguments_of_the_limit_are_read_and_longer_ones_are_too_big(
     rt: HostRuntime,
 ) -> Result<(), Fail> {
     let too_big = "1ERROR at //out/args.gn:1:1: File \"//out/args.gn\" is too big.\n";
-    assert!(rt; spaces_end(&rt, rt.alloc(), "//out/args.gn", 16_777_216, 1, "0")?);
+    assert!(rt; spaces_end(&rt, rt.alloc(), "//out/args.gn", 16_777_216, 2, "0")?);
     assert!(rt; spaces_end(&rt, rt.alloc(), "//out/args.gn", 16_777_217, 0, too_big)?);
     Ok(())
 }

@@ -28,11 +28,12 @@ fn sources(alloc: Global) -> Result<Vec<TreeSource>, AllocError>
     Ok(sources)
 }
 
-// Whether there are three sources, the first of which has read the build file last, and no other one anything.
+// Whether there are three sources, the first of which has read the build files last, and no other one anything.
 fn the_first_is_read(sources: &[TreeSource]) -> bool {
     match sources {
         [first, second, third] => {
-            first.read_path(3) == Some("//BUILD.gn")
+            first.read_path(4).is_some()
+                && first.read_path(5).is_none()
                 && second.read_path(0).is_none()
                 && third.read_path(0).is_none()
         }
@@ -49,7 +50,7 @@ fn one_worker_runs<R: Threads + Wait + Sync>(rt: &R, alloc: Global) -> Result<bo
     let ended = run_gn(rt, alloc, &words, &host, sources, &mut sink);
     Ok(
         ended.status == 0
-            && ended.units == 1
+            && ended.units == 2
             && sink.said() == b"//:a\n//:b\n".as_slice()
             && the_first_is_read(&ended.sources),
     )

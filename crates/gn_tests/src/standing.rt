@@ -82,7 +82,7 @@ fn base(alloc: Global) -> Result<Base, PathError> {
     let context = shared(alloc, context(alloc)?)?;
     let root = Path::root(alloc)?;
     let configuration = resolve(alloc, &root, b"//c.gn")?;
-    Ok(Base::of_configuration(alloc, context, host(alloc)?, configuration, None))
+    Ok(Base::of_configuration(alloc, context, host(alloc)?, configuration, None)?)
 }
 
 // The execution of a build file.

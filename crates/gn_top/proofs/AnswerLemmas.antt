@@ -4,6 +4,7 @@ use Rattle.std.specs.declared.alloc.Global.{Global}
 use Rattle.std.proofs.Common.{◌≡◌, ℕ, ◌≤◌, List, [], ◌∷◌, ◌++◌, refl, sym, ap, ◌∙◌, subst, append_assoc, append-nil, codes, inl, ⊎_elim, arith}
 use Rattle.std.proofs.Math.Seq.{drop-append_seam}
 use Rattle.std.specs.Prelude.{Option, None, Some, Result, Ok, Err, IfOk, IsSome, true}
+use Rattle.std.specs.List.{IsDistinct}
 use Rattle.std.specs.declared.cmp.Ordering.TheVariants.{Equal}
 use Rattle.std.specs.Ordering.{nat_cmp}
 use Rattle.std.specs.Cmp.Lexicographic.{slice_cmp}
@@ -12,10 +13,10 @@ use Rattle.gn_labels.specs.declared.error.PatternFault.{PatternFault}
 use Rattle.gn_labels.specs.declared.pattern.Pattern.{Pattern}
 use Rattle.gn_outside.specs.Tree.{Tree}
 use Rattle.gn_outside.specs.States.{SourceRead, SourceState, paths_of}
-use Rattle.gn_outside.specs.Lists.{AllDiffer, Each, EachPair, Extends, OneOf}
+use Rattle.gn_outside.specs.Lists.{AllDiffer, Each, EachPair, Extends}
 use Rattle.gn_outside.specs.Sources.{AllTell, AllTellReads, FailedAt, IsAtMost, IsLeastFailure, ReadsOn, reads_since, joined_reads}
+use Rattle.gn_projects.specs.Loaded.{UnitCount, Exactly, UpTo, Failure, IsCount, IsWithin}
 use Rattle.gn_builds.specs.Driving.{FailsAt}
-use Rattle.gn_builds.specs.Loaded.{UnitCount, Exactly, AtMost, Failure}
 use Rattle.gn_top.specs.declared.answered.Answered.{Answered}
 use Rattle.gn_top.specs.declared.answered.RunStop.{RunStop}
 use Rattle.gn_top.specs.declared.answered.RunStop.TheVariants.{CannotRead, Memory}
@@ -25,7 +26,6 @@ use Rattle.gn_top.specs.declared.building.BuildEnd.TheVariants as build_end
 use Rattle.gn_top.specs.declared.building.Failure.{Failure as FailureCode}
 use Rattle.gn_top.specs.Stages.{Build}
 use Rattle.gn_top.specs.Said.{Said, build_said, loaded_said, pattern_asked, warning}
-use Rattle.gn_top.specs.Run.{IsCount, IsWithin}
 use Rattle.gn_top.specs.Steps.{IsSaying, IfCannotRead}
 use Rattle.gn_top.specs.Building.{shared_view, SaysEnd, SaysFault, ReadsOf}
 
@@ -88,12 +88,12 @@ at_most_itself path = λ greater. let tied : slice_cmp nat_cmp path path ≡ Equ
 joined : (before after : SourceState) (reads : List SourceRead) → IsSome before.reads → Extends before.reads after.reads reads → joined_reads (before ∷ []) (after ∷ []) ≡ paths_of reads
 joined before after reads told goes = append-nil (paths_of (reads_since before.reads after.reads)) ∙ ap paths_of (since_extended before.reads after.reads reads told goes)
 
-module _ (paths : Tree → List (List ℕ)) (before after : SourceState) (read : ReadsOf paths before after) where
+module _ (asks : Tree → List ℕ → Type 0) (before after : SourceState) (read : ReadsOf asks before after) where
   pub reads_differ : AllTellReads (before ∷ []) → AllDiffer (joined_reads (before ∷ []) (after ∷ []))
   reads_differ told = subst AllDiffer (sym (joined before after read.0 told.0 (read.1).joined)) read.2
 
-  pub reads_are_asked : (tree : Tree) → before.tree ≡ Some tree → AllTellReads (before ∷ []) → Each (OneOf (paths tree)) (joined_reads (before ∷ []) (after ∷ []))
-  reads_are_asked tree of told = subst (Each (OneOf (paths tree))) (sym (joined before after read.0 told.0 (read.1).joined)) (read.3 tree of)
+  pub reads_are_asked : (tree : Tree) → before.tree ≡ Some tree → AllTellReads (before ∷ []) → Each (asks tree) (joined_reads (before ∷ []) (after ∷ []))
+  reads_are_asked tree of told = subst (Each (asks tree)) (sym (joined before after read.0 told.0 (read.1).joined)) (read.3 tree of)
 
   pub source_goes_on : EachPair ReadsOn (before ∷ []) (after ∷ [])
   source_goes_on = ((read.0, read.1), tt)
@@ -153,9 +153,10 @@ warned start one two three all name first second third last =
 -- How many build files are loaded
 
 pub none_within : (count : UnitCount) → IsWithin 0 count
+unfolding IsDistinct
 none_within (Exactly n) = omega arith
-none_within (AtMost n) = omega arith
+none_within (UpTo w) = ([], tt, omega arith, λ k there. absurd there)
 
 pub count_within : (units : ℕ) (count : UnitCount) → IsCount units count → IsWithin units count
 count_within units (Exactly n) is = omega (arith, is)
-count_within units (AtMost n) is = is
+count_within units (UpTo w) is = is

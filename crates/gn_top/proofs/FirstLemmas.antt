@@ -11,7 +11,7 @@ use Rattle.gn_meaning.specs.Steps.{Left}
 use Rattle.gn_executions.specs.Alone.{alone_runs, arguments_runs}
 use Rattle.gn_executions.specs.Dotfile.{DotfileState, dotfile_runs}
 use Rattle.gn_unit.specs.Alone.{LeavesWith}
-use Rattle.gn_builds.specs.Worlds.{content_in}
+use Rattle.gn_projects.specs.Files.{content_in}
 use Rattle.gn_load.specs.Answers.{content_view}
 use Rattle.gn_load.specs.declared.answer.FileContent.{FileContent}
 use Rattle.gn_load.specs.declared.answer.FileContent.TheVariants as file_content

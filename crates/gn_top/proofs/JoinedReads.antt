@@ -41,16 +41,6 @@ pub unknown_apart : {X : Type 0} (known xs ys : List X) → Each (OneOf known) x
 unknown_apart known xs ys each none =
     each_maps (OneOf known) (λ x. Each (λ y. x ≢ y) ys) (λ x one. each_maps (λ y. OneOf known y → ⊥) (λ y. x ≢ y) (λ y not same. not (subst (OneOf known) same one)) ys none) xs each
 
--- one of some is one of these and others
-pub of_first : {X : Type 0} (xs ys : List X) (x : X) → OneOf xs x → OneOf (xs ++ ys) x
-of_first [] ys x one = absurd one
-of_first (z ∷ xs) ys x (inl same) = inl same
-of_first (z ∷ xs) ys x (inr later) = inr (of_first xs ys x later)
-
-pub of_second : {X : Type 0} (xs ys : List X) (x : X) → OneOf ys x → OneOf (xs ++ ys) x
-of_second [] ys x one = one
-of_second (z ∷ xs) ys x one = inr (of_second xs ys x one)
-
 -- Reads
 
 extends_behind : {X : Type 0} (before now after : Option (List X)) (xs ys : List X) → Extends before now xs → Extends now after ys → Extends before after (xs ++ ys)

@@ -1,5 +1,5 @@
 -- What was read before: which paths are known, and what is known at each.
-use Rattle.std.proofs.Common.{◌≡◌, ◌⊎◌, inl, inr, ℕ, Bool, true, false, ◌||◌, not, cond, List, [], ◌∷◌, Option, Some, None, refl, sym, ◌∙◌, ap, subst, true≢false}
+use Rattle.std.proofs.Common.{◌≡◌, ◌⊎◌, inl, inr, ℕ, Bool, true, false, ◌||◌, cond, if◌then◌else◌, List, [], ◌∷◌, Option, Some, None, Result, Err, refl, sym, ◌∙◌, ap, subst, true≢false}
 use Rattle.std.specs.Prelude.{◌↔◌, is_some}
 use Rattle.std.specs.List.{list_any}
 use Rattle.std.specs.Cmp.{both_ways}
@@ -11,7 +11,6 @@ use Rattle.std.specs.Ordering.{nat_cmp, is_eq, match_ordering}
 use Rattle.std.specs.Cmp.Lexicographic.{slice_cmp}
 use Rattle.std.proofs.lemmas.Bool.{or_left, or_right}
 use Rattle.std.proofs.lemmas.Cmp.{nat_list_cmp_total, tied_itself}
-use Rattle.std.proofs.lemmas.List.Elements.{filter_agree}
 use Rattle.std.proofs.lemmas.Map.Lookups.{exact_bytes}
 use Rattle.std.proofs.lemmas.Option.{same_Some}
 use Rattle.std.proofs.lemmas.Slice.Eq.{bytes_eq-Decides}
@@ -19,9 +18,12 @@ use Rattle.gn_outside.specs.Tree.{Tree, read_of}
 use Rattle.gn_outside.specs.Lists.{Each, OneOf}
 use Rattle.gn_values.specs.Tables.{Table, at_name, with_name}
 use Rattle.gn_environment.specs.Chains.{is_one_of}
-use Rattle.gn_builds.specs.Worlds.{content_in, Files}
-use Rattle.gn_builds.specs.Driving.{unknown_of}
-use Rattle.gn_builds.specs.Loaded.{paths_asked, loaded}
+use Rattle.gn_core.specs.Counted.{exceeds_limits}
+use Rattle.gn_projects.specs.Files.{content_in, Files}
+use Rattle.gn_projects.specs.Worlds.{world_of}
+use Rattle.gn_projects.specs.Errors.{too_large}
+use Rattle.gn_projects.specs.Computed.{faults_of, least_of}
+use Rattle.gn_projects.specs.Loaded.{Build, Failure, UpTo, loaded_by, loaded}
 use Rattle.gn_load.specs.Answers.{content_view}
 use Rattle.gn_load.specs.Turns.{known_paths}
 use Rattle.gn_load.specs.Plain.{Agrees}
@@ -168,10 +170,12 @@ module _ (one two : List (List ℕ)) (same : (path : List ℕ) → OneOf one pat
   is_same path =
       both_ways (is_one_of path one) (is_one_of path two) (λ h. one_is two path ((same path).0 (is_one one path h))) (λ h. one_is one path ((same path).1 (is_one two path h)))
 
-  unknown_same : (paths : List (List ℕ)) → unknown_of one paths ≡ unknown_of two paths
-  unfolding unknown_of
-  unknown_same paths = filter_agree _ _ (λ path. ap not (is_same path)) paths
+  -- a build whose first stage has read the paths that pass a test
+  loaded_where : Files → (List ℕ → Bool) → Result Build Failure
+  loaded_where files known =
+      if exceeds_limits (world_of files) known then Err (record { fault = too_large; units = UpTo (world_of files) })
+      else loaded_by (world_of files) (least_of (faults_of (world_of files)))
 
   pub loaded_same : (files : Files) → loaded one files ≡ loaded two files
-  unfolding loaded
-  loaded_same files = rw (unknown_same (paths_asked files)) refl
+  unfolding loaded loaded_where
+  loaded_same files i = loaded_where files (λ path. is_same path i)

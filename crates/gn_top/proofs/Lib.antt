@@ -3,7 +3,6 @@ pub mod CommandLemmas
 pub mod FirstLemmas
 pub mod JoinedReads
 pub mod KnownPaths
-pub mod OrderLemmas
 pub mod PartReads
 pub mod RepeatedLemmas
 pub mod RunLemmas

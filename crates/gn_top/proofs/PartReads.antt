@@ -12,7 +12,7 @@ use Rattle.gn_load.specs.declared.answer.FileContent.{FileContent}
 use Rattle.gn_load.specs.declared.work.PerformStop.TheVariants as stop
 use Rattle.gn_top.specs.declared.answered.RunStop.{RunStop}
 use Rattle.gn_top.specs.declared.answered.RunStop.TheVariants.{CannotRead, Memory}
-use Rattle.gn_top.specs.Building.{ReadsAmong, ReadsNew, ReadsOf, ReadsKnown, ReadsFirst, KnowsAlso}
+use Rattle.gn_top.specs.Building.{ReadsAmong, ReadsNew, ReadsOf, ReadsOneOf, ReadsKnown, ReadsFirst, KnowsAlso}
 use Rattle.gn_top.specs.Steps.{IfCannotRead, CountsFault}
 use Rattle.gn_top.proofs.JoinedReads.{each_maps, unknown_apart, joined_goes, joined_differ, joined_each}
 use Rattle.gn_top.proofs.RunLemmas.{nothing_more}
@@ -20,8 +20,8 @@ use Rattle.gn_top.proofs.RunLemmas.{nothing_more}
 pub no_reads : (s : SourceState) → ReadsOnBy s s []
 no_reads s = record { tree = refl; joined = nothing_more s.reads s.reads refl; stops = tt; faults = refl }
 
-pub reads_nothing : (paths : Tree → List (List ℕ)) (s : SourceState) → ReadsOf paths s s
-reads_nothing paths s = ([], no_reads s, tt, λ tree told. tt)
+pub reads_nothing : (asks : Tree → List ℕ → Type 0) (s : SourceState) → ReadsOf asks s s
+reads_nothing asks s = ([], no_reads s, tt, λ tree told. tt)
 
 pub among_nothing : (paths known : List (List ℕ)) (s : SourceState) → ReadsAmong paths known s s
 among_nothing paths known s = ([], no_reads s, tt, tt, tt)
@@ -103,7 +103,7 @@ new_stops {T} {U} s (Err e) paths known before now stopped new =
     subst (λ (q : RunStop). ReadsNew {T = U} paths known before now (Err q)) (sym stopped) (same_stop T U s paths known before now new)
 
 -- what a stage has read that has stopped
-pub first_stops : {T : Type 0} (P : RunStop → Type 0) (r : Result T RunStop) (paths : Tree → List (List ℕ)) (known : List (List ℕ)) (before now : SourceState) → IsErrAnd r P → ReadsOf paths before now → ReadsFirst paths known before now r
+pub first_stops : {T : Type 0} (P : RunStop → Type 0) (r : Result T RunStop) (paths : Tree → List (List ℕ)) (known : List (List ℕ)) (before now : SourceState) → IsErrAnd r P → ReadsOneOf paths before now → ReadsFirst paths known before now r
 first_stops P (Ok x) paths known before now stopped read = absurd stopped
 first_stops P (Err e) paths known before now stopped read = read
 
@@ -132,7 +132,7 @@ module _ (path : List ℕ) (known : List (List ℕ)) (before now : SourceState) 
 -- The first stage
 
 module _ (paths : Tree → List (List ℕ)) (before now : SourceState) (ps known : List (List ℕ)) (among : ReadsAmong ps known before now) (all : (tree : Tree) → before.tree ≡ Some tree → (p : List ℕ) → OneOf ps p → OneOf (paths tree) p) where
-  pub reads_of : ReadsOf paths before now
+  pub reads_of : ReadsOneOf paths before now
   reads_of = (among.0, among.1, among.2, λ tree told. each_maps (OneOf ps) (OneOf (paths tree)) (all tree told) (paths_of among.0) among.4)
 
   pub reads_known : (more : List (List ℕ)) → KnowsAlso known ps more → ReadsKnown paths more before now
@@ -144,14 +144,10 @@ module _ (paths : Tree → List (List ℕ)) (before now : SourceState) (ps known
     λ tree told. each_maps (OneOf ps) (OneOf (paths tree)) (all tree told) (paths_of among.0) among.4,
   )
 
--- what was read is asked for, where it is known
-pub known_of : (paths : Tree → List (List ℕ)) (known : List (List ℕ)) (before now : SourceState) → ReadsKnown paths known before now → ReadsOf paths before now
-known_of paths known before now read = (read.0, read.1, read.2, read.4)
-
 -- a first part that has ended, and a second one
 module _ {T : Type 0} (paths : Tree → List (List ℕ)) (ps qs known all : List (List ℕ)) (before between after : SourceState) (one : KnowsAlso [] ps known) (same : between.faults ≡ before.faults) (first : ReadsAmong ps [] before between)
     (asked : (tree : Tree) → before.tree ≡ Some tree → (p : List ℕ) → OneOf ps p ⊎ OneOf qs p → OneOf (paths tree) p) where
-  both : (r : Result T RunStop) → ReadsNew qs known between after r → ReadsOf paths before after
+  both : (r : Result T RunStop) → ReadsNew qs known between after r → ReadsOneOf paths before after
   both r second =
       let rs = first.0 in
       let us = second.among.0 in (

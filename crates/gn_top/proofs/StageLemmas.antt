@@ -7,11 +7,12 @@ use Rattle.gn_outside.specs.States.{SourceRead, SourceState, paths_of}
 use Rattle.gn_outside.specs.Lists.{OneOf}
 use Rattle.gn_outside.specs.Sources.{ReadsOnBy}
 use Rattle.gn_executions.specs.Base.{BaseState}
-use Rattle.gn_builds.specs.Worlds.{files_of}
+use Rattle.gn_projects.specs.Files.{Files, files_of}
+use Rattle.gn_projects.specs.Worlds.{world_of}
+use Rattle.gn_projects.specs.Loaded.{Build as Loaded, Exactly, Failure, IsAskedFor, loaded as loaded_over}
 use Rattle.gn_builds.specs.Driving.{FailsAt}
 use Rattle.gn_builds.specs.Rest.{ReadsAsked}
-use Rattle.gn_builds.specs.Loaded.{Build as Loaded, UnitCount, Exactly, AtMost, Failure, declared_by_build, paths_asked}
-use Rattle.gn_load.specs.Ends.{build_of, IsEndOf, IsCountOf, CountsEnd}
+use Rattle.gn_load.specs.Ends.{build_of, IsWithinMeant, IsEndOf, CountsEnd}
 use Rattle.gn_load.specs.Setups.{given_base}
 use Rattle.gn_load.specs.Turns.{known_paths}
 use Rattle.gn_load.specs.declared.answer.FileContent.{FileContent}
@@ -19,50 +20,54 @@ use Rattle.gn_load.specs.declared.built.Built.{Built}
 use Rattle.gn_load.specs.declared.plain.LoadEnd.{LoadEnd}
 use Rattle.gn_load.specs.declared.plain.LoadEnd.TheVariants as load_end
 use Rattle.gn_top.specs.Hosts.{HostTexts}
-use Rattle.gn_top.specs.Stages.{Request, First, Build, first_said, first_paths, configuration_base, without_repeated, graph_judged, behind_loading, behind_first, loaded, paths_behind_first, paths_read}
-use Rattle.gn_top.specs.Repeated.{repeated_fault}
-use Rattle.gn_top.specs.Run.{IsCount}
+use Rattle.gn_top.specs.Stages.{Request, First, Build, first_said, first_paths, configuration_base, files_behind, without_fault, graph_judged, behind_loading, behind_first, loaded, IsAskedBehind, IsReadFor}
+use Rattle.gn_top.specs.GraphFaults.{graph_fault}
 use Rattle.gn_top.specs.Steps.{IfCannotRead, CountsFault}
 use Rattle.gn_top.specs.declared.answered.RunStop.{RunStop}
 use Rattle.gn_top.specs.declared.answered.RunStop.TheVariants.{CannotRead, Memory}
 use Rattle.gn_top.specs.declared.building.Started.{Started}
 use Rattle.gn_top.specs.declared.building.BuildEnd.{BuildEnd}
 use Rattle.gn_top.specs.declared.building.BuildEnd.TheVariants as build_end
-use Rattle.gn_top.specs.Building.{started_view, IsStarted, IsBuild, StopsAs, ReadsOf, ReadsKnown, ReadsBuild, KnowsAlso}
-use Rattle.gn_top.proofs.JoinedReads.{each_maps, known_apart, differ_second, of_first, of_second, joined_goes, joined_differ, joined_each}
+use Rattle.gn_top.specs.Building.{started_view, IsStarted, IsBuild, StopsAs, ReadsOneOf, ReadsKnown, ReadsBuild, KnowsAlso}
+use Rattle.gn_top.proofs.JoinedReads.{each_maps, known_apart, differ_second, joined_goes, joined_differ, joined_each}
 use Rattle.gn_top.proofs.KnownPaths.{loaded_same}
 use Rattle.gn_top.proofs.PartReads.{fails_all_behind}
 
 -- Loading
 
-count_of : (count : UnitCount) (units : ℕ) → IsCountOf count units → IsCount units count
-count_of (Exactly n) units is = is
-count_of (AtMost n) units is = is
-
 module _ (host : HostTexts) (request : Request) (tree : Tree) (first : First) where
   abbrev base : BaseState
   base = configuration_base host request first
 
+  abbrev files : Files
+  files = files_behind host request tree first
+
   -- a build that was loaded
   pub built_is : (built : Built) (units : ℕ) (end : BuildEnd) → IsEndOf base (first_paths host request tree) tree (load_end.Built built) units
-      → IsBuild end (graph_judged (record { first = first; loaded = build_of built })) → IsBuild end (behind_first host request tree (Ok first))
-  built_is built units end is judged = subst (λ (r : Result Loaded Failure). IsBuild end (behind_loading first r)) (sym is.0) judged
+      → IsBuild end (graph_judged (record { first = first; loaded = build_of built; files = units })) → IsBuild end (behind_first host request tree (Ok first))
+  built_is built units end is judged =
+      subst (λ (r : Result Loaded Failure). IsBuild end (behind_loading first files r)) (sym is.0)
+      (subst (λ (n : ℕ). IsBuild end (graph_judged (record { first = first; loaded = build_of built; files = n }))) is.1 judged)
 
   -- its error
   pub wrong_is : (fault : Fault) (units : ℕ) → IsEndOf base (first_paths host request tree) tree (load_end.Wrong fault) units
       → IsBuild (build_end.Failed (record { fault = fault; units = units })) (behind_first host request tree (Ok first))
   wrong_is fault units (failure, is, same, count) = (
     failure.units,
-    ap (behind_loading first) is ∙ ap (λ f. Err (record { fault = f; units = failure.units })) same,
-    count_of failure.units units count,
+    ap (behind_loading first files) is ∙ ap (λ f. Err (record { fault = f; units = failure.units })) same,
+    count,
   )
 
 -- which of two lists of paths are known doesn't matter where they have the same
+within_same : (start : BaseState) (one two : List (List ℕ)) (tree : Tree) (units : ℕ) → ((path : List ℕ) → OneOf one path ↔ OneOf two path) → IsWithinMeant (world_of (files_of start tree)) (loaded_over one (files_of start tree)) units
+    → IsWithinMeant (world_of (files_of start tree)) (loaded_over two (files_of start tree)) units
+within_same start one two tree units same is = subst (λ (r : Result Loaded Failure). IsWithinMeant (world_of (files_of start tree)) r units) (loaded_same one two same (files_of start tree)) is
+
 ends_same : (start : BaseState) (one two : List (List ℕ)) (tree : Tree) (end : LoadEnd) (units : ℕ) → ((path : List ℕ) → OneOf one path ↔ OneOf two path) → IsEndOf start one tree end units → IsEndOf start two tree end units
 ends_same start one two tree (load_end.Built built) units same is = (sym (loaded_same one two same (files_of start tree)) ∙ is.0, is.1)
 ends_same start one two tree (load_end.Wrong fault) units same (failure, is, fault_is, count) = (failure, sym (loaded_same one two same (files_of start tree)) ∙ is, fault_is, count)
-ends_same start one two tree (load_end.Failed path) units same is = is
-ends_same start one two tree load_end.Memory units same is = is
+ends_same start one two tree (load_end.Failed path) units same is = within_same start one two tree units same is
+ends_same start one two tree load_end.Memory units same is = within_same start one two tree units same is
 
 -- all that the first stage asks for is known
 known_same : (paths known : List (List ℕ)) → KnowsAlso [] paths known → (path : List ℕ) → OneOf known path ↔ OneOf paths path
@@ -70,11 +75,12 @@ known_same paths known knows path = (λ one. elim ((knows path).0 one) [ inl non
 
 -- The third stage
 
-pub judged_fault : (build : Build) (fault : Fault) → repeated_fault (declared_by_build build.loaded) ≡ Some fault → IsBuild (build_end.Failed (record { fault = fault; units = 1 })) (graph_judged build)
-judged_fault build fault is = (Exactly 1, ap (without_repeated build) is, refl)
+pub judged_fault : (build : Build) (fault : Fault) (units : ℕ) → graph_fault build.loaded ≡ Some fault → units ≡ build.files
+    → IsBuild (build_end.Failed (record { fault = fault; units = units })) (graph_judged build)
+judged_fault build fault units is all = (Exactly build.files, ap (without_fault build) is, all)
 
-pub judged_right : (build : Build) → repeated_fault (declared_by_build build.loaded) ≡ None → graph_judged build ≡ Ok build
-judged_right build is = ap (without_repeated build) is
+pub judged_right : (build : Build) → graph_fault build.loaded ≡ None → graph_judged build ≡ Ok build
+judged_right build is = ap (without_fault build) is
 
 -- The meaning of a build behind its first stage
 
@@ -104,23 +110,20 @@ failed_build_is host request tree fault said = (Exactly 0, ap (behind_first host
 
 -- What a build has read
 
-first_part : (host : HostTexts) (request : Request) (tree : Tree) (path : List ℕ) → OneOf (first_paths host request tree) path → OneOf (paths_read host request tree) path
-unfolding paths_read
-first_part host request tree path one = of_first (first_paths host request tree) (paths_behind_first host request tree (first_said host request tree)) path one
+first_part : (host : HostTexts) (request : Request) (tree : Tree) (path : List ℕ) → OneOf (first_paths host request tree) path → IsReadFor host request tree path
+unfolding IsReadFor
+first_part host request tree path one = inl one
 
-second_part : (host : HostTexts) (request : Request) (tree : Tree) (first : First) (path : List ℕ) → first_said host request tree ≡ Ok first → OneOf (paths_asked (files_of (configuration_base host request first) tree)) path
-    → OneOf (paths_read host request tree) path
-unfolding paths_read
-second_part host request tree first path said one =
-    of_second (first_paths host request tree) (paths_behind_first host request tree (first_said host request tree)) path
-    (subst (λ (r : Result First Fault). OneOf (paths_behind_first host request tree r) path) (sym said) one)
+second_part : (host : HostTexts) (request : Request) (tree : Tree) (first : First) (path : List ℕ) → first_said host request tree ≡ Ok first → IsAskedFor (files_behind host request tree first) path → IsReadFor host request tree path
+unfolding IsReadFor
+second_part host request tree first path said asked = inr (subst (λ (r : Result First Fault). IsAskedBehind host request tree r path) (sym said) asked)
 
-pub first_reads : (host : HostTexts) (request : Request) (before now : SourceState) → ReadsOf (first_paths host request) before now → ReadsBuild host request before now
+pub first_reads : (host : HostTexts) (request : Request) (before now : SourceState) → ReadsOneOf (first_paths host request) before now → ReadsBuild host request before now
 first_reads host request before now read = (
   read.0,
   read.1,
   read.2,
-  λ tree told. each_maps (OneOf (first_paths host request tree)) (OneOf (paths_read host request tree)) (first_part host request tree) (paths_of read.0) (read.3 tree told),
+  λ tree told. each_maps (OneOf (first_paths host request tree)) (IsReadFor host request tree) (first_part host request tree) (paths_of read.0) (read.3 tree told),
 )
 
 pub known_reads : (host : HostTexts) (request : Request) (known : List (List ℕ)) (before now : SourceState) → ReadsKnown (first_paths host request) known before now → ReadsBuild host request before now
@@ -136,10 +139,10 @@ build_reads host request known first start before between after is said same one
       joined_goes before between after rs us one.1 two.1 same,
       joined_differ rs us one.2 (differ_second known (paths_of us) two.2) (known_apart known (paths_of rs) (paths_of us) two.2 one.3),
       λ tree told.
-          joined_each (OneOf (paths_read host request tree)) rs us
-          (each_maps (OneOf (first_paths host request tree)) (OneOf (paths_read host request tree)) (first_part host request tree) (paths_of rs) (one.4 tree told))
-          (each_maps (OneOf (paths_asked (files_of start tree))) (OneOf (paths_read host request tree))
-          (λ path asked. second_part host request tree first path (said tree told) (subst (λ (b : BaseState). OneOf (paths_asked (files_of b tree)) path) is asked)) (paths_of us)
+          joined_each (IsReadFor host request tree) rs us
+          (each_maps (OneOf (first_paths host request tree)) (IsReadFor host request tree) (first_part host request tree) (paths_of rs) (one.4 tree told))
+          (each_maps (IsAskedFor (files_of start tree)) (IsReadFor host request tree)
+          (λ path asked. second_part host request tree first path (said tree told) (subst (λ (b : BaseState). IsAskedFor (files_of b tree) path) is asked)) (paths_of us)
           (two.3 tree ((one.1).tree ∙ told))),
     )
 

@@ -14,7 +14,7 @@ use Rattle.gn_faults.specs.declared.fault.Fault.{Fault}
 use Rattle.gn_faults.specs.declared.stage.Stage.TheVariants.{Arguments}
 use Rattle.gn_executions.specs.Dotfile.{DotfileState}
 use Rattle.gn_unit.specs.Alone.{dotfile_state}
-use Rattle.gn_builds.specs.Loaded.{UnitCount, Failure}
+use Rattle.gn_projects.specs.Loaded.{UnitCount, Failure, IsCount}
 use Rattle.gn_builds.specs.Driving.{FailsAt}
 use Rattle.gn_load.specs.Ends.{build_of}
 use Rattle.gn_load.specs.Setups.{given_base}
@@ -22,9 +22,8 @@ use Rattle.gn_load.specs.declared.answer.FileContent.{FileContent}
 use Rattle.gn_load.specs.declared.plain.LoadEnd.{LoadEnd}
 use Rattle.gn_load.specs.declared.plain.LoadEnd.TheVariants as load_end
 use Rattle.gn_top.specs.Hosts.{HostTexts}
-use Rattle.gn_top.specs.Stages.{Request, First, Build, paths_read, configuration_base}
+use Rattle.gn_top.specs.Stages.{Request, First, Build, IsReadFor, configuration_base}
 use Rattle.gn_top.specs.Said.{failure_said, loaded_said}
-use Rattle.gn_top.specs.Run.{IsCount}
 use Rattle.gn_top.specs.Steps.{IsSaying, IfCannotRead, CountsFault}
 use Rattle.gn_top.specs.declared.answered.Answered.{Answered}
 use Rattle.gn_top.specs.declared.answered.RunStop.{RunStop}
@@ -63,7 +62,7 @@ pub record IsStarted (host : HostTexts) (request : Request) (first : First) (kno
   pub read : start.setup.known.entries ≡ known
 
 abbrev pub build_view : BuildCode → Build
-build_view build = record { first = started_view build.start; loaded = build_of build.loaded }
+build_view build = record { first = started_view build.start; loaded = build_of build.loaded; files = build.files }
 
 abbrev pub shared_view : Arc BuildCode Global → Build
 shared_view build = build_view (arc_value build)
@@ -105,10 +104,14 @@ pub record ReadsNew {T : Type 0} (paths known : List (List ℕ)) (before now : S
   pub failure : IfCannotRead result (λ path. FailsAt path before now)
 
 -- it has gone on by reads of paths that are asked for in its tree, each once
-abbrev pub ReadsOf : (Tree → List (List ℕ)) → SourceState → SourceState → Type 0
-ReadsOf paths before now =
+abbrev pub ReadsOf : (Tree → List ℕ → Type 0) → SourceState → SourceState → Type 0
+ReadsOf asks before now =
     (reads : List SourceRead) × ReadsOnBy before now reads × AllDiffer (paths_of reads)
-    × ((tree : Tree) → before.tree ≡ Some tree → Each (OneOf (paths tree)) (paths_of reads))
+    × ((tree : Tree) → before.tree ≡ Some tree → Each (asks tree) (paths_of reads))
+
+-- the same of paths of a list
+abbrev pub ReadsOneOf : (Tree → List (List ℕ)) → SourceState → SourceState → Type 0
+ReadsOneOf paths before now = ReadsOf (λ tree. OneOf (paths tree)) before now
 
 -- the same, where what was read is known
 abbrev pub ReadsKnown : (Tree → List (List ℕ)) → List (List ℕ) → SourceState → SourceState → Type 0
@@ -120,14 +123,14 @@ ReadsKnown paths known before now =
 -- the same of the first stage: what was read is known if the stage has ended
 abbrev pub ReadsFirst : {T : Type 0} → (Tree → List (List ℕ)) → List (List ℕ) → SourceState → SourceState → Result T RunStop → Type 0
 ReadsFirst paths known before now (Ok x) = ReadsKnown paths known before now
-ReadsFirst paths known before now (Err why) = ReadsOf paths before now
+ReadsFirst paths known before now (Err why) = ReadsOneOf paths before now
 
 -- these paths are known beside those that were
 abbrev pub KnowsAlso : List (List ℕ) → List (List ℕ) → List (List ℕ) → Type 0
 KnowsAlso before paths now = (path : List ℕ) → OneOf now path ↔ (OneOf before path ⊎ OneOf paths path)
 
 abbrev pub ReadsBuild : HostTexts → Request → SourceState → SourceState → Type 0
-ReadsBuild host request before now = ReadsOf (paths_read host request) before now
+ReadsBuild host request before now = ReadsOf (IsReadFor host request) before now
 
 -- loading has ended without an answer: a read has failed, or memory was wanting
 abbrev pub StopsAs : {T : Type 0} → LoadEnd → Result T RunStop → Type 0

@@ -4,6 +4,7 @@ pub mod Commands
 pub mod Texts
 pub mod Labels
 pub mod Repeated
+pub mod GraphFaults
 pub mod Hosts
 pub mod Stages
 pub mod Said

@@ -4,7 +4,7 @@ use Rattle.gn_outside.specs.States.{SourceState, SinkState, SinkEvent, SaidPiece
 use Rattle.gn_outside.specs.Lists.{EachPair, Extends}
 use Rattle.gn_outside.specs.Sources.{AllTellReads, total_faults, FailedAt, IsLeastFailure}
 use Rattle.gn_top.specs.Texts.{usage_line, cannot_read_line}
-use Rattle.gn_builds.specs.Loaded.{UnitCount, Exactly, AtMost}
+use Rattle.gn_projects.specs.Loaded.{IsCount, IsWithin}
 use Rattle.gn_top.specs.Said.{Said}
 
 -- what this meaning tells the sink: its files in their order, and then its text in one piece
@@ -57,16 +57,6 @@ pub record CutsFailure (sources now : List SourceState) (sink after : SinkState)
 -- before a failed write or want of memory: a first part of what the meaning tells, or of the line on a failed read
 pub record IsCutShort (meaning : Said) (sources now : List SourceState) (sink after : SinkState) : Type 0 where
   pub told : TellsPart meaning sink after ⊎ ((path : List ℕ) × CutsFailure sources now sink after path)
-
--- at most so many build files
-abbrev pub IsWithin : ℕ → UnitCount → Type 0
-IsWithin units (Exactly n) = units ≤ n
-IsWithin units (AtMost n) = units ≤ n
-
--- just as many build files, where the meaning says just how many
-abbrev pub IsCount : ℕ → UnitCount → Type 0
-IsCount units (Exactly n) = units ≡ n
-IsCount units (AtMost n) = units ≤ n
 
 -- a run that says its meaning has loaded the build files of the meaning, and any other no more than these
 pub record LoadsUnits (meaning : Said) (status units : ℕ) : Type 0 where

@@ -20,9 +20,8 @@ use Rattle.gn_top.specs.Words.{Options, Command, Ls, Line, line_said}
 use Rattle.gn_top.specs.Texts.{line, usage_line}
 use Rattle.gn_items.specs.declared.declaration.Declaration.{Declaration}
 use Rattle.gn_args.specs.Arguments.{unused_names}
-use Rattle.gn_builds.specs.Worlds.{toolchain_text}
-use Rattle.gn_builds.specs.Loaded.{UnitCount, Exactly, Failure, lines_of_build, declared_by_build}
-use Rattle.gn_top.specs.Stages.{Request, Build, loaded, paths_read}
+use Rattle.gn_projects.specs.Loaded.{UnitCount, Exactly, Failure, lines_of_build, declared_by_build}
+use Rattle.gn_top.specs.Stages.{Request, Build, loaded, IsReadFor}
 use Rattle.gn_top.specs.Labels.{listing}
 use Rattle.gn_top.specs.Hosts.{HostTexts}
 
@@ -45,14 +44,9 @@ usage_said = record { status = 2; text = usage_line; files = []; units = Exactly
 abbrev pub failure_said : Failure → Said
 failure_said failure = record { status = 1; text = printed failure.fault; files = []; units = failure.units }
 
--- the lines that the first stage has printed, and then those of the build configuration, of the imports that it needs, in the order of their paths, of the
--- other imports, in that order, and of the build file
+-- the lines that the first stage has printed, and then those of what was loaded, toolchain by toolchain
 abbrev pub lines_of : Build → List ℕ
 lines_of build = flat_map (λ text. text) build.first.prints ++ lines_of_build build.loaded
-
--- the text of the default toolchain
-abbrev pub default_of : Build → List ℕ
-default_of build = toolchain_text build.loaded.configuration.default_toolchain
 
 -- a build argument that was given to no effect
 unfoldable pub warning : List ℕ → List ℕ
@@ -64,14 +58,14 @@ declared_names build = map (λ (d : Declaration). d.name) (declared_by_build bui
 abbrev pub warnings_of : Build → List ℕ
 warnings_of build = flat_map warning (unused_names build.first.arguments (declared_names build))
 
--- the lines printed, the warnings in the order of the names, and then the labels of the items in label order, one a line: with a pattern those that it
--- matches
+-- the lines printed, the warnings in the order of the names, and then the labels of the targets that are generated, in label order, one a line: with a
+-- pattern those that it matches
 abbrev pub answer_text : Option Pattern → Build → List ℕ
-answer_text pattern build = lines_of build ++ (warnings_of build ++ listing (default_of build) pattern build.loaded.file.items)
+answer_text pattern build = lines_of build ++ (warnings_of build ++ listing build.loaded.default pattern build.loaded.generated)
 
 -- the answer of a build that was loaded
 abbrev pub answer_said : Option Pattern → Build → Said
-answer_said pattern build = record { status = 0; text = answer_text pattern build; files = []; units = Exactly 1 }
+answer_said pattern build = record { status = 0; text = answer_text pattern build; files = []; units = Exactly build.files }
 
 -- the pattern of a command, if it has one: what its text means at the source root
 abbrev pub pattern_meant : Result Pattern PatternFault → Result (Option Pattern) PatternFault
@@ -94,7 +88,7 @@ question_fault fault = record { stage = Question; place = None; toolchain = []; 
 -- what is said of a build to which a pattern is put
 abbrev pub build_said : Result (Option Pattern) PatternFault → Build → Said
 build_said (Ok pattern) build = answer_said pattern build
-build_said (Err fault) build = failure_said (record { fault = question_fault fault; units = Exactly 1 })
+build_said (Err fault) build = failure_said (record { fault = question_fault fault; units = Exactly build.files })
 
 -- what is said of what a build leaves, or of its error, which comes first
 abbrev pub loaded_said : Option (List ℕ) → Result Build Failure → Said
@@ -118,13 +112,13 @@ unfoldable pub said : List (List ℕ) → HostTexts → List Exported → Tree �
 said words host exporters tree = line_means (line_said words) host tree
 
 -- the paths that a command reads
-abbrev pub command_asked : Command → Options → HostTexts → Tree → List (List ℕ)
-command_asked (Ls directory pattern) options host tree = paths_read host (request_of directory options) tree
+abbrev pub command_asks : Command → Options → HostTexts → Tree → List ℕ → Type 0
+command_asks (Ls directory pattern) options host tree = IsReadFor host (request_of directory options) tree
 
-abbrev pub line_asks : Option Line → HostTexts → Tree → List (List ℕ)
-line_asks None host tree = []
-line_asks (Some line) host tree = command_asked line.command line.options host tree
+abbrev pub line_asks : Option Line → HostTexts → Tree → List ℕ → Type 0
+line_asks None host tree = λ path. ⊥
+line_asks (Some line) host tree = command_asks line.command line.options host tree
 
 -- the paths that the meaning of words reads
-unfoldable pub asked : List (List ℕ) → HostTexts → List Exported → Tree → List (List ℕ)
+unfoldable pub asked : List (List ℕ) → HostTexts → List Exported → Tree → List ℕ → Type 0
 asked words host exporters tree = line_asks (line_said words) host tree

@@ -1,6 +1,8 @@
--- What a build means in a tree, stage by stage: the dotfile and the build arguments, the build configuration and the build file of the source root.
-use Rattle.std.specs.Prelude.{ℕ, List, [], ◌∷◌, ◌++◌, Option, None, Some, Result, Ok, Err, codes}
+-- What a build means in a tree, stage by stage: the dotfile and the build arguments, all that is loaded behind these, and the build arguments that this
+-- declares.
+use Rattle.std.specs.Prelude.{◌⊎◌, ℕ, List, [], ◌∷◌, ◌++◌, Option, None, Some, Result, Ok, Err, codes}
 use Rattle.gn_outside.specs.Tree.{Tree, read_of}
+use Rattle.gn_outside.specs.Lists.{OneOf}
 use Rattle.gn_paths.specs.Resolve.{path_meant}
 use Rattle.gn_values.specs.Val.{Val}
 use Rattle.gn_values.specs.Tables.{Table, with_names}
@@ -14,10 +16,12 @@ use Rattle.gn_executions.specs.Alone.{first_context, arguments_runs}
 use Rattle.gn_executions.specs.Dotfile.{DotfileState, dotfile_runs}
 use Rattle.gn_executions.specs.Setups.{or_tree}
 use Rattle.gn_executions.specs.Base.{BaseState, setup_base}
-use Rattle.gn_builds.specs.Worlds.{content_in, files_of}
-use Rattle.gn_builds.specs.Loaded.{Build as Loaded, UnitCount, Exactly, Failure, too_large, declared_by_build, paths_asked, loaded as build_loaded}
+use Rattle.gn_projects.specs.Files.{content_in, Files, files_of}
+use Rattle.gn_projects.specs.Worlds.{world_of}
+use Rattle.gn_projects.specs.Errors.{too_large}
+use Rattle.gn_projects.specs.Loaded.{Build as Loaded, UnitCount, Exactly, Failure, declared_by_build, files_reached, IsAskedFor, loaded as build_loaded}
 use Rattle.gn_top.specs.Hosts.{HostTexts}
-use Rattle.gn_top.specs.Repeated.{repeated_fault}
+use Rattle.gn_top.specs.GraphFaults.{graph_fault}
 
 -- what a build is made from: its build directory, and the build arguments that the command line gives, if it does
 pub record Request : Type 0 where
@@ -122,34 +126,41 @@ abbrev pub configuration_base : HostTexts → Request → First → BaseState
 configuration_base host request first =
     setup_base (configuration_context host request first) (host_names host) first.dotfile.configuration first.dotfile.secondary
 
--- what a build leaves
+-- the files that it is loaded from
+abbrev pub files_behind : HostTexts → Request → Tree → First → Files
+files_behind host request tree first = files_of (configuration_base host request first) tree
+
+-- what a build leaves, and how many build files are loaded for it
 pub record Build : Type 0 where
   pub first : First
   pub loaded : Loaded
+  pub files : ℕ
 
 -- a build with this fault, once so many build files are loaded
 abbrev pub build_failed : Fault → UnitCount → Result Build Failure
 build_failed fault units = Err (record { fault = fault; units = units })
 
--- The third stage: the only fault so far is that a build argument is declared twice
+-- The third stage: the graph has no fault
 
-abbrev pub without_repeated : Build → Option Fault → Result Build Failure
-without_repeated build None = Ok build
-without_repeated build (Some fault) = build_failed fault (Exactly 1)
+abbrev pub without_fault : Build → Option Fault → Result Build Failure
+without_fault build None = Ok build
+without_fault build (Some fault) = build_failed fault (Exactly build.files)
 
 abbrev pub graph_judged : Build → Result Build Failure
-graph_judged build = without_repeated build (repeated_fault (declared_by_build build.loaded))
+graph_judged build = without_fault build (graph_fault build.loaded)
 
 -- All stages
 
-abbrev pub behind_loading : First → Result Loaded Failure → Result Build Failure
-behind_loading first (Ok build) = graph_judged (record { first = first; loaded = build })
-behind_loading first (Err failure) = Err failure
+abbrev pub behind_loading : First → Files → Result Loaded Failure → Result Build Failure
+behind_loading first files (Ok build) = graph_judged (record { first = first; loaded = build; files = files_reached (world_of files) })
+behind_loading first files (Err failure) = Err failure
 
--- the build configuration and the build file, where these paths were read before
+-- all that is loaded, where these paths were read before
+abbrev pub loaded_from : First → Files → List (List ℕ) → Result Build Failure
+loaded_from first files known = behind_loading first files (build_loaded known files)
+
 abbrev pub behind_first : HostTexts → Request → Tree → Result First Fault → Result Build Failure
-behind_first host request tree (Ok first) =
-    behind_loading first (build_loaded (first_paths host request tree) (files_of (configuration_base host request first) tree))
+behind_first host request tree (Ok first) = loaded_from first (files_behind host request tree first) (first_paths host request tree)
 behind_first host request tree (Err fault) = build_failed fault (Exactly 0)
 
 -- what a build leaves, or its error: the lowest stage that has one
@@ -158,9 +169,11 @@ loaded host request tree = behind_first host request tree (first_said host reque
 
 -- The paths that a build reads
 
-abbrev pub paths_behind_first : HostTexts → Request → Tree → Result First Fault → List (List ℕ)
-paths_behind_first host request tree (Ok first) = paths_asked (files_of (configuration_base host request first) tree)
-paths_behind_first host request tree (Err fault) = []
+-- behind the first stage those that loading asks for
+abbrev pub IsAskedBehind : HostTexts → Request → Tree → Result First Fault → List ℕ → Type 0
+IsAskedBehind host request tree (Ok first) path = IsAskedFor (files_behind host request tree first) path
+IsAskedBehind host request tree (Err fault) path = ⊥
 
-unfoldable pub paths_read : HostTexts → Request → Tree → List (List ℕ)
-paths_read host request tree = first_paths host request tree ++ paths_behind_first host request tree (first_said host request tree)
+unfoldable pub IsReadFor : HostTexts → Request → Tree → List ℕ → Type 0
+IsReadFor host request tree path =
+    OneOf (first_paths host request tree) path ⊎ IsAskedBehind host request tree (first_said host request tree) path

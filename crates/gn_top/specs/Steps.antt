@@ -5,8 +5,9 @@ use Rattle.gn_outside.specs.Lists.{Extends}
 use Rattle.gn_top.specs.declared.answered.Answered.{Answered}
 use Rattle.gn_top.specs.declared.answered.RunStop.{RunStop}
 use Rattle.gn_top.specs.declared.answered.RunStop.TheVariants.{CannotRead, Memory}
+use Rattle.gn_projects.specs.Loaded.{IsCount}
 use Rattle.gn_top.specs.Said.{Said, usage_said}
-use Rattle.gn_top.specs.Run.{IsCount, SaysPart}
+use Rattle.gn_top.specs.Run.{SaysPart}
 
 -- an answer has the status and the text of a meaning that puts no files, and has loaded as many build files
 pub record IsSaying (answered : Answered) (meaning : Said) : Type 0 where

@@ -2,7 +2,7 @@
 ghost use Rattle.std.specs.Prelude.{◌≡◌, ◌≤◌, [], ◌∷◌, ◌++◌, map, option_map, IfOk, OnOk, Some};
 ghost use Rattle.std.specs.List.{flat_map};
 ghost use Rattle.gn_outside.specs.Tree.{Tree};
-ghost use Rattle.gn_outside.specs.Lists.{AllDiffer, Each, EachPair, OneOf};
+ghost use Rattle.gn_outside.specs.Lists.{AllDiffer, Each, EachPair};
 ghost use Rattle.gn_outside.specs.Sources.{AllTell, AllTellReads, ReadsOn, IsLeastFailure, joined_reads};
 ghost use Rattle.gn_builds.specs.Driving.{FailsAt};
 ghost use Rattle.gn_top.specs.Words.{AreShort, HasNoForm};
@@ -25,7 +25,6 @@ use gn_executions::HostNames;
 use gn_faults::{Code, Fault, Stage};
 use gn_items::Declaration;
 use gn_labels::{Pattern, PatternFault, pattern_meant};
-use gn_load::toolchain_text;
 use gn_outside::Source;
 use gn_paths::{Path, PathFault, Text, Texts};
 use std::alloc::{AllocError, Global};
@@ -109,7 +108,7 @@ fn append_warnings(alloc: Global, text: &mut Vec<u8>, build: &Build) -> Result<(
     append_all(text, names.as_slice())
 }
 
-// The lines printed, the warnings, and the labels of the items; with a pattern, those that it matches.
+// The lines printed, the warnings, and the labels of the targets that are generated; with a pattern, those that it matches.
 fn listed_answer(
     alloc: Global,
     pattern: Option<&Pattern>,
@@ -120,18 +119,12 @@ fn listed_answer(
     let mut text = Vec::new(alloc);
     append_printed(&mut text, build)?;
     append_warnings(alloc, &mut text, build)?;
-    let default = toolchain_text(alloc, build.loaded.configuration())?;
-    append_labels(
-        alloc,
-        &mut text,
-        &default,
-        pattern,
-        build.loaded.file().items(),
-    )?;
+    let default = build.loaded.default();
+    append_labels(alloc, &mut text, default, pattern, build.loaded.generated())?;
     Ok(Answered {
         status: 0,
         text,
-        units: 1,
+        units: build.files,
     })
 }
 
@@ -185,7 +178,7 @@ fn build_answer(
 {
     match pattern_asked(alloc, pattern)? {
         Ok(pattern) => listed_answer(alloc, pattern.as_ref(), build),
-        Err(fault) => fault_answer(alloc, &question_fault(alloc, fault), 1),
+        Err(fault) => fault_answer(alloc, &question_fault(alloc, fault), build.files),
     }
 }
 
@@ -276,7 +269,7 @@ pub fn answer<S: Source>(
     ensures reads_once { AllTellReads (S.state source.old ∷ []) →
         AllDiffer (joined_reads (S.state source.old ∷ []) (S.state source.new ∷ [])) }
     ensures reads_asked { (tree : Tree) → AllTell tree (S.state source.old ∷ []) → AllTellReads (S.state source.old ∷ []) →
-        Each (OneOf (asked (texts words.now) (host_texts host.now) [] tree)) (joined_reads (S.state source.old ∷ []) (S.state source.new ∷ [])) }
+        Each (asked (texts words.now) (host_texts host.now) [] tree) (joined_reads (S.state source.old ∷ []) (S.state source.new ∷ [])) }
     ensures sources { EachPair ReadsOn (S.state source.old ∷ []) (S.state source.new ∷ []) }
 {
     match read_words(alloc, words)? {

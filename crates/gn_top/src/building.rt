@@ -1,9 +1,8 @@
-// A whole build, stage by stage: the dotfile and the build arguments, the build configuration and the build file of the source root.
+// A whole build, stage by stage: the dotfile and the build arguments, all that is loaded behind these, and the build arguments that this declares.
 
 ghost use Rattle.std.specs.Prelude.{◌≡◌, [], IfOk, Ok, Some};
 ghost use Rattle.gn_outside.specs.Tree.{Tree};
 ghost use Rattle.gn_builds.specs.Driving.{FailsAt};
-ghost use Rattle.gn_builds.specs.Loaded.{declared_by_build};
 ghost use Rattle.gn_builds.specs.Rest.{ReadsAsked};
 ghost use Rattle.gn_load.specs.Ends.{build_of, IsEndOf};
 ghost use Rattle.gn_load.specs.Plain.{Agrees};
@@ -13,12 +12,11 @@ ghost use Rattle.gn_top.specs.Words.{AreShort};
 ghost use Rattle.gn_top.specs.Steps.{IfCannotRead, CountsFault};
 ghost use Rattle.gn_top.specs.Hosts.{HostTexts};
 ghost use Rattle.gn_top.specs.Stages.{Request as Asked, first_paths, configuration_base, graph_judged, behind_first, loaded};
-ghost use Rattle.gn_top.specs.Repeated.{repeated_fault as least_repeated};
 ghost use Rattle.gn_top.specs.Building.{request_view, outer_view, first_view, started_view, shared_view, IsStarted, IsBuild, StopsAs, ReadsBuild, KnowsAlso};
 
 use crate::answered::RunStop;
 use crate::first::{First, FirstEnd, Outer, Request, run_first};
-use crate::repeated::repeated_fault;
+use crate::graph_faults::graph_fault;
 use gn_executions::HostNames;
 use gn_faults::Fault;
 use gn_load::{Built, Given, Known, LoadEnd, Plain, Setup, load_plain};
@@ -40,6 +38,8 @@ pub(crate) struct Started {
 pub(crate) struct Build {
     pub(crate) start: Started,
     pub(crate) loaded: Built,
+    /// How many build files were loaded.
+    pub(crate) files: u64,
 }
 
 /// The first fault of a build, and how many build files were loaded before it.
@@ -97,31 +97,32 @@ fn start_of(
     })
 }
 
-// The fault of a build's graph, if it has one.
-fn graph_fault(alloc: Global, build: &Build) -> Result<Option<Fault>, AllocError>
-    ensures { IfOk result (λ fault. fault ≡ least_repeated (declared_by_build (build_of build.now.loaded))) }
-{
-    repeated_fault(alloc, &build.loaded.declarations(alloc)?)
-}
-
 // The third stage: a build, unless it has a fault of its graph.
 fn judge_build(alloc: Global, build: Arc<Build>) -> Result<BuildEnd, AllocError>
     ensures { IfOk result (λ end. IsBuild end (graph_judged (shared_view build))) }
 {
-    let fault = graph_fault(alloc, &build)?;
+    let judged: &Build = &build;
+    let units = judged.files;
+    let fault = graph_fault(alloc, &judged.loaded)?;
     match fault {
-        Some(fault) => Ok(BuildEnd::Failed(Failure { fault, units: 1 })),
+        Some(fault) => Ok(BuildEnd::Failed(Failure { fault, units })),
         None => Ok(BuildEnd::Built(build)),
     }
 }
 
-// The same of what was loaded behind a first stage.
-fn end_build(alloc: Global, start: Started, built: Built) -> Result<BuildEnd, AllocError>
-    ensures { IfOk result (λ end. IsBuild end (graph_judged (record { first = started_view start; loaded = build_of built }))) }
+// The same of what was loaded behind a first stage, of so many build files.
+fn end_build(
+    alloc: Global,
+    start: Started,
+    built: Built,
+    files: u64,
+) -> Result<BuildEnd, AllocError>
+    ensures { IfOk result (λ end. IsBuild end (graph_judged (record { first = started_view start; loaded = build_of built; files = files }))) }
 {
     let build = Build {
         start,
         loaded: built,
+        files,
     };
     judge_build(alloc, Arc::new(alloc, build)?)
 }
@@ -135,7 +136,7 @@ fn behind_loading(alloc: Global, start: Started, plain: Plain) -> Result<BuildEn
 {
     let Plain { end, units } = plain;
     match end {
-        LoadEnd::Built(built) => Ok(end_build(alloc, start, built)?),
+        LoadEnd::Built(built) => Ok(end_build(alloc, start, built, units)?),
         LoadEnd::Wrong(fault) => Ok(BuildEnd::Failed(Failure { fault, units })),
         LoadEnd::Failed(path) => Err(RunStop::CannotRead(path)),
         LoadEnd::Memory => Err(RunStop::Memory),

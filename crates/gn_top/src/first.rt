@@ -9,7 +9,7 @@ ghost use Rattle.gn_outside.specs.Tree.{Tree, read_of};
 ghost use Rattle.gn_outside.specs.Lists.{OneOf};
 ghost use Rattle.gn_runs.specs.Runs.{has_bytes};
 ghost use Rattle.gn_unit.specs.Alone.{dotfile_state};
-ghost use Rattle.gn_builds.specs.Worlds.{content_in};
+ghost use Rattle.gn_projects.specs.Files.{content_in};
 ghost use Rattle.gn_builds.specs.Driving.{FailsAt};
 ghost use Rattle.gn_load.specs.Answers.{content_view};
 ghost use Rattle.gn_load.specs.Turns.{known_paths};

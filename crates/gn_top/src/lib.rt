@@ -5,6 +5,7 @@ mod answer;
 mod answered;
 mod building;
 mod first;
+mod graph_faults;
 mod host;
 mod labels;
 mod many;

@@ -1,7 +1,7 @@
 // The whole run over several sources.
 ghost use Rattle.std.specs.Prelude.{◌≡◌, ◌<◌, ◌≤◌, [], map, string_bytes, vec_len, drop};
 ghost use Rattle.gn_outside.specs.Tree.{Tree};
-ghost use Rattle.gn_outside.specs.Lists.{AllDiffer, Each, EachPair, OneOf};
+ghost use Rattle.gn_outside.specs.Lists.{AllDiffer, Each, EachPair};
 ghost use Rattle.gn_outside.specs.Sources.{AllTell, AllTellReads, ReadsOn, joined_reads};
 ghost use Rattle.gn_top.specs.Hosts.{IsRoot, host_texts};
 ghost use Rattle.gn_top.specs.Words.{HasNoForm, worker_count};
@@ -52,7 +52,7 @@ pub fn run_gn<R: Threads + Wait + Sync, S: Source + Send, K: Sink>(
     // Only what the meaning asks is read, and nothing twice.
     ensures reads_once { AllTellReads (map S.state sources.items) → AllDiffer (joined_reads (map S.state sources.items) (map S.state result.sources.items)) }
     ensures reads_asked { (tree : Tree) → AllTell tree (map S.state sources.items) → AllTellReads (map S.state sources.items) →
-        Each (OneOf (asked (texts words.now) (host_texts host.now) [] tree)) (joined_reads (map S.state sources.items) (map S.state result.sources.items)) }
+        Each (asked (texts words.now) (host_texts host.now) [] tree) (joined_reads (map S.state sources.items) (map S.state result.sources.items)) }
 
     // The number of build files loaded.
     ensures units { (tree : Tree) → AllTell tree (map S.state sources.items) →

@@ -1,7 +1,7 @@
 // The whole run over one source.
 ghost use Rattle.std.specs.Prelude.{◌≡◌, ◌<◌, ◌≤◌, [], ◌∷◌, IfOk, string_bytes};
 ghost use Rattle.gn_outside.specs.Tree.{Tree};
-ghost use Rattle.gn_outside.specs.Lists.{AllDiffer, Each, EachPair, OneOf};
+ghost use Rattle.gn_outside.specs.Lists.{AllDiffer, Each, EachPair};
 ghost use Rattle.gn_outside.specs.Sources.{AllTell, AllTellReads, ReadsOn, joined_reads};
 ghost use Rattle.gn_top.specs.Hosts.{IsRoot, host_texts};
 ghost use Rattle.gn_top.specs.Words.{HasNoForm};
@@ -90,7 +90,7 @@ pub fn run_one<R: Threads + Sync, S: Source, K: Sink>(
     // Only what the meaning asks is read, and nothing twice.
     ensures reads_once { AllTellReads (S.state source.old ∷ []) → AllDiffer (joined_reads (S.state source.old ∷ []) (S.state source.new ∷ [])) }
     ensures reads_asked { (tree : Tree) → AllTell tree (S.state source.old ∷ []) → AllTellReads (S.state source.old ∷ []) →
-        Each (OneOf (asked (texts words.now) (host_texts host.now) [] tree)) (joined_reads (S.state source.old ∷ []) (S.state source.new ∷ [])) }
+        Each (asked (texts words.now) (host_texts host.now) [] tree) (joined_reads (S.state source.old ∷ []) (S.state source.new ∷ [])) }
 
     // The number of build files loaded.
     ensures units { (tree : Tree) → AllTell tree (S.state source.old ∷ []) →

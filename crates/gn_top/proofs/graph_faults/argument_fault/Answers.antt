@@ -2,7 +2,7 @@ use Rattle.std.proofs.Common.{ap, subst, ◌∙◌, map}
 use Rattle.std.specs.Prelude.{List, IfOk, ◌≡◌}
 use Rattle.gn_items.specs.declared.declaration.Declaration.{Declaration}
 use Rattle.gn_top.specs.Repeated.{repeated_fault}
-use Rattle.gn_top.proofs.building.graph_fault.Goals as goal
+use Rattle.gn_top.proofs.graph_faults.argument_fault.Goals as goal
 
 pub returns : goal.returns
 returns c =
