@@ -41,7 +41,7 @@ pub enum Found {
 
 /// Answers what an evaluation asks, as far as it has the answers. It doesn't evaluate, and no call changes what it tells. Where it
 /// lacks an answer it notes what is needed and where the call stands, counts a stop, and answers `Stopped`; its owner
-/// then brings the answer, and evaluates from the start again.
+/// then brings the answer, and evaluates from the start again, or goes on from where the evaluation was kept.
 pub trait Library {
     /// What it tells, what it noted last, its count of stops, and the references behind which it stands.
     ghost state: { Self → LibraryState };
