@@ -31,7 +31,7 @@ use Rattle.gn_projects.specs.Files.{Files, files_of}
 use Rattle.gn_projects.specs.Worlds.{world_of}
 use Rattle.gn_projects.specs.Errors.{too_large, default_told}
 use Rattle.gn_projects.specs.Computed.{faults_of_unit}
-use Rattle.gn_projects.specs.Loaded.{effects_of, execution_texts, build_meant, UpTo, AreReached, files_reached, loaded_by, loaded, IsAskedFor}
+use Rattle.gn_projects.specs.Loaded.{effects_of, execution_texts, files_loaded, files_imported, files_written, Build, build_meant, UpTo, AreReached, files_reached, loaded_by, loaded, IsAskedFor}
 use Rattle.gn_builds.specs.Driving.{IsDriven, paths_read, unknown_of, files_begun, HasTooMany, ReadsNumbered}
 
 -- it has come to rest
@@ -147,10 +147,21 @@ pub record AreGenerated (default : List ℕ) (l : Log) (labels : List Label) : T
 abbrev pub default_filed : Log → List ℕ
 default_filed l = default_told (units (state_of l).filed (Setup []))
 
+-- what a build has left whose default toolchain has this text, whose executions have these numbers, and which generates these labels
+abbrev pub build_left : List ℕ → Log → List ℕ → List Label → Build
+build_left default l numbers labels = record {
+  default = default;
+  executions = map (effects_at l) numbers;
+  generated = labels;
+  loaded = files_loaded (state_of l).filed (map (key_at l) numbers);
+  imported = files_imported (map (key_at l) numbers);
+  written = files_written default (state_of l).filed (map (key_at l) numbers);
+}
+
 abbrev pub RestIsBuilt : Type 0
 RestIsBuilt = (known : List (List ℕ)) (files : Files) (l : Log) (numbers : List ℕ) (labels : List Label) → IsAtRest files l → IsWithinLimits known l
     → AreInOrder (default_filed l) l numbers → AreGenerated (default_filed l) l labels
-    → build_meant (world_of files) ≡ record { default = default_filed l; executions = map (effects_at l) numbers; generated = labels }
+    → build_meant (world_of files) ≡ build_left (default_filed l) l numbers labels
 
 -- Reads
 

@@ -14,4 +14,5 @@ mod telling;
 pub use faults::label_faults;
 pub use laws::{the_first_fault_is_the_least, there_is_one_list_of_faults};
 pub use least::least_fault;
+pub use order::put_in_order;
 pub use places::Places;

@@ -1,9 +1,9 @@
-mod Shortening
-mod Ways
-mod Members
-mod InOrder
-mod Orders
-mod Reaching
-mod Findings
-mod Leasts
-mod Listed
+pub mod Shortening
+pub mod Ways
+pub mod Members
+pub mod InOrder
+pub mod Orders
+pub mod Reaching
+pub mod Findings
+pub mod Leasts
+pub mod Listed

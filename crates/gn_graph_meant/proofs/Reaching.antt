@@ -36,7 +36,7 @@ has_passed p xs d h k = has-filter p d xs ∙ both_true (has xs d) (p d) h k
 pub passed_has : (p : Label → Bool) (xs : List Label) (d : Label) → has (filter p xs) d ≡ true → (has xs d ≡ true) × (p d ≡ true)
 passed_has p xs d h = and_parts (has xs d) (p d) (sym (has-filter p d xs) ∙ h)
 
-has_flat : (f : Label → List Label) (xs : List Label) (c q : Label) → has xs c ≡ true → has (f c) q ≡ true → has (flat_map f xs) q ≡ true
+pub has_flat : (f : Label → List Label) (xs : List Label) (c q : Label) → has xs c ≡ true → has (f c) q ≡ true → has (flat_map f xs) q ≡ true
 has_flat f [] c q h k = absurd (cc h)
 has_flat f (x ∷ xs) c q h k = go (same_label c x) refl h (λ i. has_flat f xs c q i k)
   where
@@ -45,12 +45,12 @@ has_flat f (x ∷ xs) c q h k = go (same_label c x) refl h (λ i. has_flat f xs 
         has-append (f x) (flat_map f xs) q ∙ ap (λ b. b || has (flat_map f xs) q) (ap (λ (z : Label). has (f z) q) (sym (same c x e)) ∙ k)
     go false e i others = has-append (f x) (flat_map f xs) q ∙ ap (λ b. has (f x) q || b) (others i) ∙ or_true (has (f x) q)
 
-path_more : (next : Label → List Label) (t d : Label) (p : Path) → IsPath next t p → has (next (end_from t p)) d ≡ true → IsPath next t (p ++ d ∷ [])
+pub path_more : (next : Label → List Label) (t d : Label) (p : Path) → IsPath next t p → has (next (end_from t p)) d ≡ true → IsPath next t (p ++ d ∷ [])
 path_more next t d [] h i = absurd h
 path_more next t d (x ∷ []) h i = (h, i)
 path_more next t d (x ∷ y ∷ p) h i = (h.0, path_more next x d (y ∷ p) h.1 i)
 
-end_more : (t d : Label) (p : Path) → end_from t (p ++ d ∷ []) ≡ d
+pub end_more : (t d : Label) (p : Path) → end_from t (p ++ d ∷ []) ≡ d
 end_more t d [] = refl
 end_more t d (x ∷ p) = end_more x d p
 

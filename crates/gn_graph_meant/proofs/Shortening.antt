@@ -19,7 +19,7 @@ starts-length : (t : Label) (p : Path) → length (starts t p) ≡ length p
 starts-length t [] = refl
 starts-length t (d ∷ p) = ap suc (starts-length d p)
 
-apart : (x : Label) (xs : List Label) → has xs x ≡ false → AllByRecursion (λ y. same_label x y ≡ false) xs
+pub apart : (x : Label) (xs : List Label) → has xs x ≡ false → AllByRecursion (λ y. same_label x y ≡ false) xs
 apart x [] h = tt
 apart x (y ∷ ys) h = go (same_label x y) refl h (apart x ys)
   where
@@ -28,7 +28,7 @@ apart x (y ∷ ys) h = go (same_label x y) refl h (apart x ys)
     go true e h others = absurd (cc h)
     go false e h others = (e, others h)
 
-alone : (x : Label) → IsDistinct same_label (x ∷ [])
+pub alone : (x : Label) → IsDistinct same_label (x ∷ [])
 unfolding IsDistinct
 alone x = (tt, tt)
 

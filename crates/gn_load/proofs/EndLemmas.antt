@@ -1,5 +1,5 @@
 -- How loading has ended.
-use Rattle.std.proofs.Common.{◌≡◌, inl, inr, ℕ, ◌≤◌, List, [], map, Option, Some, None, Bool, true, false, if◌then◌else◌, Result, Ok, Err, IfOk, refl, sym, ◌∙◌, ap, subst}
+use Rattle.std.proofs.Common.{◌≡◌, inl, inr, ℕ, ◌≤◌, List, [], Option, Some, None, Bool, true, false, if◌then◌else◌, Result, Ok, Err, IfOk, refl, sym, ◌∙◌, ap, subst}
 use Rattle.std.specs.Result.{IsErrAnd}
 use Rattle.gn_faults.specs.declared.fault.Fault.{Fault}
 use Rattle.gn_outside.specs.Tree.{Tree}
@@ -17,7 +17,7 @@ use Rattle.gn_projects.specs.Errors.{too_large}
 use Rattle.gn_projects.specs.Computed.{faults_of, least_of}
 use Rattle.gn_projects.specs.Loaded.{Build, Failure, Exactly, UpTo, IsCount, AreReached, files_reached, loaded_by, loaded}
 use Rattle.gn_builds.proofs.Begins.{no_log, starts_going, nothing_numbered}
-use Rattle.gn_builds.specs.Rest.{IsAtRest, Rests, IsSmall, ReachesFew, HasLargeImport, effects_at, IsWithinLimits, LargeImportsAreTooLarge, TooManyAreTooLarge, RestIsJudged, BegunAreReached, RestCountsFiles, ReachedAreCounted, RestIsBuilt, NumberedAreAsked}
+use Rattle.gn_builds.specs.Rest.{IsAtRest, Rests, IsSmall, ReachesFew, HasLargeImport, build_left, IsWithinLimits, LargeImportsAreTooLarge, TooManyAreTooLarge, RestIsJudged, BegunAreReached, RestCountsFiles, ReachedAreCounted, RestIsBuilt, NumberedAreAsked}
 use Rattle.gn_builds.proofs.ReadPaths.{reads_still}
 use Rattle.gn_builds.proofs.Units.{files_at_first}
 use Rattle.gn_load.specs.Turns.{IsStop}
@@ -99,7 +99,7 @@ module _ (begun : BegunAreReached) (large : LargeImportsAreTooLarge) (is_judged 
       let are : AreParts l parts = is.1.1 in
       let built = is_built known files l parts.numbers.items parts.labels.items rest within are.numbers are.labels in
       record {
-        is = is_judged known files l None rest within (is.1.0 files rest) ∙ ap (λ (build : Build). Ok build) (built ∙ ap (λ (d : List ℕ). record { default = d; executions = map (effects_at l) parts.numbers.items; generated = parts.labels.items }) (sym are.default) ∙ sym by);
+        is = is_judged known files l None rest within (is.1.0 files rest) ∙ ap (λ (build : Build). Ok build) (built ∙ ap (λ (d : List ℕ). build_left d l parts.numbers.items parts.labels.items) (sym are.default) ∙ sym by);
         counted = counts known files l rest within;
       }
   ends_at (judged.Right parts) (inr is) (end.Wrong fault) by = absurd by

@@ -14,6 +14,7 @@ mod ExecutionLemmas
 mod GeneratedLemmas
 mod JudgingLemmas
 mod BuiltLemmas
+mod FileLemmas
 mod PlainLemmas
 mod LinkLemmas
 mod LimitLemmas

@@ -1,5 +1,5 @@
 -- What loading a build comes to.
-use Rattle.std.specs.Prelude.{◌≡◌, ℕ, ◌≤◌, List, map, Result, Ok, Err}
+use Rattle.std.specs.Prelude.{◌≡◌, ℕ, ◌≤◌, List, Result, Ok, Err}
 use Rattle.gn_outside.specs.Tree.{Tree}
 use Rattle.gn_outside.specs.States.{SourceState}
 use Rattle.gn_executions.specs.Base.{BaseState}
@@ -8,18 +8,14 @@ use Rattle.gn_projects.specs.Files.{files_of}
 use Rattle.gn_projects.specs.Worlds.{world_of}
 use Rattle.gn_projects.specs.Loaded.{Build, Failure, IsCount, IsWithin, files_reached, loaded}
 use Rattle.gn_builds.specs.Driving.{FailsAt}
-use Rattle.gn_builds.specs.Rest.{effects_at}
+use Rattle.gn_builds.specs.Rest.{build_left}
 use Rattle.gn_load.specs.declared.built.Built.{Built}
 use Rattle.gn_load.specs.declared.plain.LoadEnd.{LoadEnd}
 use Rattle.gn_load.specs.declared.plain.LoadEnd.TheVariants as end
 
 -- what a build has left that was loaded: its executions have these numbers, in their order
 abbrev pub build_of : Built → Build
-build_of b = record {
-  default = b.default;
-  executions = map (effects_at b.book) b.executions.items;
-  generated = b.generated.items;
-}
+build_of b = build_left b.default b.book b.executions.items b.generated.items
 
 -- no more build files were claimed than the meaning of a build has
 abbrev pub IsWithinMeant : World → Result Build Failure → ℕ → Type 0

@@ -1,5 +1,5 @@
 -- What all comes to that was loaded: the error of the build, or its parts.
-use Rattle.std.specs.Prelude.{◌≡◌, ◌⊎◌, ℕ, List, [], ◌∷◌, ◌++◌, map, take, Option, Some, None}
+use Rattle.std.specs.Prelude.{◌≡◌, ◌⊎◌, ℕ, List, [], ◌∷◌, ◌++◌, take, Option, Some, None}
 use Rattle.std.specs.List.{flat_map}
 use Rattle.gn_faults.specs.declared.fault.Fault.{Fault}
 use Rattle.gn_runs.specs.Runs.{End}
@@ -13,7 +13,7 @@ use Rattle.gn_projects.specs.Worlds.{world_of}
 use Rattle.gn_projects.specs.Errors.{too_large}
 use Rattle.gn_projects.specs.Computed.{faults_at}
 use Rattle.gn_projects.specs.Loaded.{Build}
-use Rattle.gn_builds.specs.Rest.{IsAtRest, HasLargeImport, faults_of_key, IsFirstOf, effects_at, AreInOrder, AreGenerated, default_filed}
+use Rattle.gn_builds.specs.Rest.{IsAtRest, HasLargeImport, faults_of_key, IsFirstOf, AreInOrder, AreGenerated, default_filed, build_left}
 use Rattle.gn_builds.specs.Causes.{shown_toolchain, layer_project}
 use Rattle.gn_load.specs.declared.judging.Parts.{Parts}
 use Rattle.gn_load.specs.declared.judging.Judged.{Judged}
@@ -56,7 +56,7 @@ pub record AreParts (l : Log) (parts : Parts) : Type 0 where
 
 -- what a build has left that has these parts
 abbrev pub build_by : Log → Parts → Build
-build_by l parts = record { default = parts.default; executions = map (effects_at l) parts.numbers.items; generated = parts.labels.items }
+build_by l parts = build_left parts.default l parts.numbers.items parts.labels.items
 
 -- what is judged of a build none of whose imports needs too many
 abbrev pub IsJudgedSmall : Log → Judged → Type 0

@@ -8,6 +8,7 @@ pub mod Evaluating
 pub mod Current
 pub mod Turns
 pub mod Whole
+pub mod Files
 pub mod Executions
 pub mod Generated
 pub mod Judging

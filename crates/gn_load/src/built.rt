@@ -2,17 +2,18 @@
 
 ghost use Rattle.std.specs.Prelude.{◌≡◌, ◌<◌, ◌++◌, Some, IfOk, OnOk, map, length, option_map};
 ghost use Rattle.std.specs.List.{flat_map};
-ghost use Rattle.gn_projects.specs.Loaded.{lines, effects_of, lines_of_build, declared_by_build, items_of_build};
+ghost use Rattle.gn_projects.specs.Loaded.{lines, effects_of, named_first, lines_of_build, declared_by_build, items_of_build, default_named};
 ghost use Rattle.gn_builds.specs.Rest.{effects_at};
 ghost use Rattle.gn_load.specs.Answers.{meaning_of};
 ghost use Rattle.gn_load.specs.Whole.{AreWithin, effects_left};
 
 use crate::answer::{Answer, Executed, Filed, find_at};
+use crate::files::{WrittenFiles, imported_in_order, loaded_in_order, push_written};
 use crate::judging::Parts;
 use gn_book::{Book, KeyId};
-use gn_items::{Declaration, Item, Outcome};
+use gn_items::{Declaration, DefaultToolchain, Item, Outcome};
 use gn_labels::Label;
-use gn_paths::Text;
+use gn_paths::{Path, Text};
 use std::alloc::{AllocError, Global};
 
 /// A build that was loaded: what its executions have left, and the targets that it generates.
@@ -53,8 +54,8 @@ fn left_by(answer: &Filed) -> Option<&Outcome>
     }
 }
 
-// The same of the answer of the execution of a number.
-fn left_at<'a>(book: &'a Book<Answer>, number: KeyId) -> Option<&'a Outcome>
+/// The same of the answer of the execution of a number.
+pub(crate) fn left_at<'a>(book: &'a Book<Answer>, number: KeyId) -> Option<&'a Outcome>
     requires { number < length book.now.keys }
     ensures { effects_left (option_map (λ outcome. outcome.now) result) ≡ effects_at book.now number }
 {
@@ -164,8 +165,30 @@ fn push_all_defined<'a>(
     Ok(())
 }
 
+// The default toolchain as an execution has named it.
+fn named_by(left: Option<&Outcome>) -> Option<&DefaultToolchain>
+    ensures { option_map (λ t. t.now) result ≡ (effects_left (option_map (λ outcome. outcome.now) left.entry)).default_toolchain }
+{
+    match left {
+        None => None,
+        Some(outcome) => outcome.default_toolchain(),
+    }
+}
+
+// The default toolchain as the first of the executions of these numbers has named it.
+fn named_first<'a>(book: &'a Book<Answer>, numbers: &[KeyId]) -> Option<&'a DefaultToolchain>
+    requires { AreWithin book.now numbers.now }
+    ensures { option_map (λ t. t.now) result ≡ named_first (map (effects_at book.now) numbers.now) }
+{
+    match numbers {
+        [] => None,
+        [first, ..] => named_by(left_at(book, *first)),
+    }
+}
+
 impl Built {
     ghost use Rattle.gn_load.specs.Ends.{build_of};
+    ghost use Rattle.gn_load.specs.Files.{paths_lent, files_of};
     ghost use Rattle.gn_load.specs.Judging.{AreParts, build_by};
 
     /// The build that was loaded and has these parts.
@@ -225,5 +248,35 @@ impl Built {
         let mut defined = Vec::new(alloc);
         push_all_defined(&self.book, &self.executions, &mut defined)?;
         Ok(defined)
+    }
+
+    /// The default toolchain as the build configuration has named it, if it has.
+    pub fn default_named(&self) -> Option<&DefaultToolchain>
+        ensures { option_map (λ t. t.now) result ≡ default_named (build_of self.now) }
+    {
+        named_first(&self.book, &self.executions)
+    }
+
+    /// The paths of the files that are loaded as build files, in the order of their bytes, each once.
+    pub fn loaded_files(&self, alloc: Global) -> Result<Vec<&Path>, AllocError>
+        ensures { IfOk result (λ paths. paths_lent paths.items ≡ (build_of self.now).loaded) }
+    {
+        loaded_in_order(alloc, &self.book, &self.executions)
+    }
+
+    /// The paths of the files that are imported, in the order of their bytes, each once.
+    pub fn imported_files(&self, alloc: Global) -> Result<Vec<&Path>, AllocError>
+        ensures { IfOk result (λ paths. paths_lent paths.items ≡ (build_of self.now).imported) }
+    {
+        imported_in_order(alloc, &self.book, &self.executions)
+    }
+
+    /// The files that the executions have written, execution by execution, and under which toolchain.
+    pub fn written(&self, alloc: Global) -> Result<Vec<WrittenFiles<'_>>, AllocError>
+        ensures { IfOk result (λ files. files_of files.items ≡ (build_of self.now).written) }
+    {
+        let mut written = Vec::new(alloc);
+        push_written(&self.book, &self.executions, &self.default, &mut written)?;
+        Ok(written)
     }
 }

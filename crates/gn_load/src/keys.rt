@@ -55,6 +55,13 @@ pub(crate) fn home_key(alloc: Global, toolchain: &Text, default: &Text) -> Resul
     Ok(Key::Load(directory, default))
 }
 
+/// The key of the content of the file at a path.
+pub(crate) fn read_key(alloc: Global, path: &Path) -> Result<Key, AllocError>
+    ensures { IfOk result (λ key. key ≡ variant.Read path.now) }
+{
+    Ok(Key::Read(path.copy(alloc)?))
+}
+
 /// The key of an import of a layer.
 pub(crate) fn import_key(
     alloc: Global,

@@ -25,8 +25,8 @@ use std::alloc::{AllocError, Global};
 /// How many imports one may need, itself among them.
 pub(crate) const IMPORT_LIMIT: usize = 200;
 
-// What an execution has asked.
-fn asked_of<T>(executed: &Executed<T>) -> &[Question]
+/// What an execution has asked.
+pub(crate) fn asked_of<T>(executed: &Executed<T>) -> &[Question]
     ensures { map question_of result.now ≡ asked_of executed.now }
 {
     match executed {
