@@ -71,6 +71,17 @@ impl<'a> ItemIndex<'a> {
         }
     }
 
+    /// These items, in their order.
+    pub fn of(alloc: Global, items: &[&'a Item]) -> Result<ItemIndex<'a>, AllocError>
+        ensures { IfOk result (λ index. index ≡ lent items.now) }
+    {
+        let mut index = ItemIndex::new(alloc);
+        for item in items {
+            index.add(item)?;
+        }
+        Ok(index)
+    }
+
     /// Puts an item behind the others. After want of memory nothing is changed.
     pub fn add(&mut self, item: &'a Item) -> Result<(), AllocError>
         ensures ok { OnOk result (self.new ≡ self.old ++ item.now ∷ []) }

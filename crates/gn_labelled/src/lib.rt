@@ -5,6 +5,7 @@ mod graph;
 mod handed_on;
 mod index;
 mod laws;
+mod order;
 
 pub use graph::ItemGraph;
 pub use handed_on::{HandedOn, NoRecords};
@@ -12,3 +13,4 @@ pub use index::ItemIndex;
 pub use laws::{
     each_repetition_is_told, the_first_item_is_found, the_order_of_items_does_not_matter,
 };
+pub use order::dependencies_first;

@@ -1,1 +1,2 @@
+pub mod NoDependency
 pub mod Lists

@@ -28,7 +28,7 @@ rest_of_two p q a b c d e =
     ∙ ap (λ (z : List (List ℕ)). filter (is_missing (a.now ++ (b.now ++ (c.now ++ (d.now ++ e.now))))) z) (joined_two p q)
 
 -- what further lists have stands behind what the lists before them have
-pub further_texts : (v : Variable) (own : List (Variable × Held)) (configs more : List (Bor Fields)) → all_texts v own (configs ++ more) ≡ all_texts v own configs ++ flat_map (λ f. texts_at v f.now) more
+pub further_texts : (v : Variable) (own : List (Variable × Held)) (configs more : List Fields) → all_texts v own (configs ++ more) ≡ all_texts v own configs ++ flat_map (texts_at v) more
 further_texts v own configs more =
-    ap (λ (z : List (List ℕ)). texts_at v own ++ z) (flat_map-append (λ f. texts_at v f.now) configs more)
-    ∙ sym (append_assoc (texts_at v own) (flat_map (λ f. texts_at v f.now) configs) (flat_map (λ f. texts_at v f.now) more))
+    ap (λ (z : List (List ℕ)). texts_at v own ++ z) (flat_map-append (texts_at v) configs more)
+    ∙ sym (append_assoc (texts_at v own) (flat_map (texts_at v) configs) (flat_map (texts_at v) more))

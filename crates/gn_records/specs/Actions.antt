@@ -19,7 +19,7 @@ use Rattle.gn_writing.specs.declared.records.Written.{Written}
 use Rattle.gn_writing.specs.declared.records.Written.TheVariants as written
 use Rattle.gn_writing.specs.Commands.{action_command, action_description}
 use Rattle.gn_writing.specs.Names.{action_rule_name, pool_name}
-use Rattle.gn_records.specs.declared.context.Context.{Context}
+use Rattle.gn_records.specs.Around.{Around}
 use Rattle.gn_records.specs.Outputs.{for_source, for_none, meant_by, source_outs, item_outs, paths_at}
 use Rattle.gn_records.specs.Steps.{stamp_step, response_of}
 
@@ -29,8 +29,8 @@ first_seen build [] = []
 first_seen build (path ∷ more) = seen_from build path
 
 -- the script
-abbrev pub script_of : Context → Item → List ℕ
-script_of c i = first_seen c.build.now (paths_of (field_at i.fields Script))
+abbrev pub script_of : Around → Item → List ℕ
+script_of c i = first_seen c.build (paths_of (field_at i.fields Script))
 
 -- the name of the first of these pools
 abbrev pub first_pool : List ℕ → List Label → List ℕ
@@ -38,12 +38,12 @@ first_pool default [] = []
 first_pool default (pool ∷ more) = pool_name default pool
 
 -- the rule: its name, command and description, and its pool where one is set
-abbrev pub rule_of_action : Context → Item → ActionRule
+abbrev pub rule_of_action : Around → Item → ActionRule
 rule_of_action c i = record {
   name = action_rule_name i.label;
-  command = action_command c.program.now (script_of c i);
-  description = action_description c.default.now i.label;
-  pool = first_pool c.default.now (labels_of (field_at i.fields Pool));
+  command = action_command c.program (script_of c i);
+  description = action_description c.default i.label;
+  pool = first_pool c.default (labels_of (field_at i.fields Pool));
 }
 
 -- the arguments of a run
@@ -56,11 +56,11 @@ first_of [] = None
 first_of (path ∷ more) = Some path
 
 -- the file that says what a run has read, where one is set
-abbrev pub first_meant : Context → Item → Position × List (List ℕ) → List Subst → Option (List ℕ)
+abbrev pub first_meant : Around → Item → Position × List (List ℕ) → List Subst → Option (List ℕ)
 first_meant c i given [] = None
 first_meant c i given (s ∷ more) = first_of (meant_by c i given s)
 
-abbrev pub depfile_given : Context → Item → Position × List (List ℕ) → Option (List ℕ)
+abbrev pub depfile_given : Around → Item → Position × List (List ℕ) → Option (List ℕ)
 depfile_given c i given = first_meant c i given (substs_of (field_at i.fields Depfile))
 
 -- what there is where a variable is set
@@ -69,7 +69,7 @@ where_set None x = None
 where_set (Some held) x = Some x
 
 -- the one run of an action: it has a response file where the item says what that holds
-abbrev pub run_of : Context → Item → Run
+abbrev pub run_of : Around → Item → Run
 run_of c i = record {
   outs = item_outs c i;
   ins = [];
@@ -81,10 +81,10 @@ run_of c i = record {
 }
 
 -- the run of an action_foreach for one of its sources
-abbrev pub run_for : Context → Item → List ℕ → Run
+abbrev pub run_for : Around → Item → List ℕ → Run
 run_for c i source = record {
   outs = source_outs c i source;
-  ins = seen_from c.build.now source ∷ [];
+  ins = seen_from c.build source ∷ [];
   sources = [];
   args = args_given i (for_source c i ForeachArgs source);
   depfile = depfile_given c i (for_source c i ForeachDepfile source);
@@ -93,7 +93,7 @@ run_for c i source = record {
 }
 
 -- what all actions have, and their runs
-abbrev pub with_runs : Context → Item → List Run → Dones → Action
+abbrev pub with_runs : Around → Item → List Run → Dones → Action
 with_runs c i runs d = record {
   rule = rule_of_action c i;
   script = script_of c i;
@@ -103,8 +103,8 @@ with_runs c i runs d = record {
   dones = d;
 }
 
-abbrev pub action_record : Context → Item → Dones → Written
+abbrev pub action_record : Around → Item → Dones → Written
 action_record c i d = written.Action (with_runs c i (run_of c i ∷ []) d)
 
-abbrev pub foreach_record : Context → Item → Dones → Written
+abbrev pub foreach_record : Around → Item → Dones → Written
 foreach_record c i d = written.Action (with_runs c i (map (run_for c i) (paths_of (field_at i.fields Sources))) d)

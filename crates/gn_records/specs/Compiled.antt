@@ -1,7 +1,6 @@
 -- What is written of targets whose sources are compiled.
 use Rattle.std.specs.Prelude.{ℕ, List, [], ◌∷◌, ◌++◌, Bool, true, false, Option, None, Some, map, is_some}
 use Rattle.std.specs.List.{flat_map, filter}
-use Rattle.std.specs.Borrow.{Bor}
 use Rattle.gn_paths.specs.Parts.{file_of, name_in}
 use Rattle.gn_paths.specs.Rebase.{seen_from}
 use Rattle.gn_labels.specs.declared.label.Label.{Label}
@@ -30,9 +29,9 @@ use Rattle.gn_writing.specs.Outputs.{OutputValues, tool_outputs}
 use Rattle.gn_writing.specs.Rest.{is_missing}
 use Rattle.gn_writing.specs.Sources.{use_of}
 use Rattle.gn_records.specs.declared.compiled.Bindings.{Bindings}
-use Rattle.gn_records.specs.declared.context.Context.{Context}
 use Rattle.gn_records.specs.declared.inherited.Inherited.{Inherited}
 use Rattle.gn_records.specs.declared.output.Output.{Output}
+use Rattle.gn_records.specs.Around.{Around}
 use Rattle.gn_records.specs.Actions.{first_of}
 use Rattle.gn_records.specs.Flags.{compile_flags, link_flags_where}
 use Rattle.gn_records.specs.Output.{own_tool, tool_where, tool_given, values_for}
@@ -52,9 +51,9 @@ where_bound false text = None
 where_bound true text = Some text
 
 -- how the target is called: without its toolchain it is printed as one of the default one
-abbrev pub label_texts : Context → Label → LabelTexts
+abbrev pub label_texts : Around → Label → LabelTexts
 label_texts c label = record {
-  label = printed c.default.now label;
+  label = printed c.default label;
   name = label.name;
   no_toolchain = where_bound c.bound.label_no_toolchain (printed label.toolchain label);
 }
@@ -65,16 +64,16 @@ seen_if build None = []
 seen_if build (Some path) = seen_from build path
 
 -- its output
-abbrev pub output_texts : Context → Output → OutputTexts
-output_texts c o = record { directory = seen_if c.build.now o.directory; extension = o.extension; name = o.name }
+abbrev pub output_texts : Around → Output → OutputTexts
+output_texts c o = record { directory = seen_if c.build o.directory; extension = o.extension; name = o.name }
 
 -- its directories
-abbrev pub directories_of : Context → Output → Directories
+abbrev pub directories_of : Around → Output → Directories
 directories_of c o = record {
-  root_gen_dir = where_bound c.bound.root_gen_dir (seen_from c.build.now c.generated.now);
-  root_out_dir = seen_from c.build.now c.out.now;
-  target_gen_dir = where_bound c.bound.target_gen_dir (seen_from c.build.now o.around.generated);
-  target_out_dir = seen_from c.build.now o.around.objects;
+  root_gen_dir = where_bound c.bound.root_gen_dir (seen_from c.build c.generated);
+  root_out_dir = seen_from c.build c.out;
+  target_gen_dir = where_bound c.bound.target_gen_dir (seen_from c.build o.around.generated);
+  target_out_dir = seen_from c.build o.around.objects;
 }
 
 -- what a tool makes by the texts of its outputs; nothing where the toolchain lacks it
@@ -83,17 +82,17 @@ outs_of_tool n given None = []
 outs_of_tool n given (Some t) = tool_outputs n (tool_given ToolOutputs n given) (substs_of (field_at t.fields Outputs))
 
 -- a source that a tool builds
-abbrev pub unit_of : Context → Item → OutputValues → ToolName → List ℕ → Source
+abbrev pub unit_of : Around → Item → OutputValues → ToolName → List ℕ → Source
 unit_of c i n tool source = record {
   rule = rule_of c tool;
-  source = seen_from c.build.now source;
+  source = seen_from c.build source;
   file_part = file_of source;
   name_part = name_in (file_of source);
   outs = outs_of_tool n (for_source c i ToolOutputs source) (tool_where c (Some tool));
 }
 
 -- the sources that are built of one source, and the objects that it gives: the first output of what is built, or itself
-abbrev pub units_used : Context → Item → OutputValues → List ℕ → SourceUse → List Source
+abbrev pub units_used : Around → Item → OutputValues → List ℕ → SourceUse → List Source
 units_used c i n source (Built tool) = unit_of c i n tool source ∷ []
 units_used c i n source _ = []
 
@@ -101,19 +100,19 @@ abbrev pub first_alone : List (List ℕ) → List (List ℕ)
 first_alone [] = []
 first_alone (path ∷ more) = path ∷ []
 
-abbrev pub objects_used : Context → Item → OutputValues → List ℕ → SourceUse → List (List ℕ)
+abbrev pub objects_used : Around → Item → OutputValues → List ℕ → SourceUse → List (List ℕ)
 objects_used c i n source (Built tool) = first_alone (unit_of c i n tool source).outs
-objects_used c i n source Object = seen_from c.build.now source ∷ []
+objects_used c i n source Object = seen_from c.build source ∷ []
 objects_used c i n source NotBuilt = []
 
-unfoldable pub units_for : Context → Item → OutputValues → List ℕ → List Source
+unfoldable pub units_for : Around → Item → OutputValues → List ℕ → List Source
 units_for c i n source = units_used c i n source (use_of source)
 
-unfoldable pub objects_for : Context → Item → OutputValues → List ℕ → List (List ℕ)
+unfoldable pub objects_for : Around → Item → OutputValues → List ℕ → List (List ℕ)
 objects_for c i n source = objects_used c i n source (use_of source)
 
 -- what the target makes of its own sources
-abbrev pub own_sources : Context → Item → OutputValues → List (List ℕ) → OwnSources
+abbrev pub own_sources : Around → Item → OutputValues → List (List ℕ) → OwnSources
 own_sources c i n hard = record {
   inputs = paths_at c i Inputs;
   hard = hard;
@@ -122,10 +121,10 @@ own_sources c i n hard = record {
 }
 
 -- the line that joins the objects: a stamp where the kind has no tool for its output
-abbrev pub tool_step : Context → OutputValues → ToolName → Step
+abbrev pub tool_step : Around → OutputValues → ToolName → Step
 tool_step c n tool = record { rule = rule_of c tool; outs = outs_of_tool n for_none (tool_where c (Some tool)) }
 
-abbrev pub join_step : Context → Item → OutputValues → Option ToolName → Step
+abbrev pub join_step : Around → Item → OutputValues → Option ToolName → Step
 join_step c i n None = stamp_step c i.label
 join_step c i n (Some tool) = tool_step c n tool
 
@@ -150,10 +149,10 @@ join_of linked step d objects h = record {
 }
 
 -- what a compiled target with this output binds
-abbrev pub bindings_of : Context → Item → List (Bor Fields) → Inherited → Output → Bindings
+abbrev pub bindings_of : Around → Item → List Fields → Inherited → Output → Bindings
 bindings_of c i configs h o = record {
-  compile = compile_flags c.build.now i.fields configs;
-  link = link_flags_where (is_linked i.kind) c.build.now (tool_where c (own_tool i.kind)) i.fields configs h;
+  compile = compile_flags c.build i.fields configs;
+  link = link_flags_where (is_linked i.kind) c.build (tool_where c (own_tool i.kind)) i.fields configs h;
   names = label_texts c i.label;
   output = output_texts c o;
   directories = directories_of c o;

@@ -10,7 +10,7 @@ use Rattle.gn_substs.specs.declared.subst.Subst.{Subst}
 use Rattle.gn_items.specs.declared.item.Item.{Item}
 use Rattle.gn_items.specs.declared.tool.Tool.{Tool}
 use Rattle.gn_writing.specs.Outputs.{OutputValues, tool_outputs}
-use Rattle.gn_records.specs.declared.context.Context.{Context}
+use Rattle.gn_records.specs.Around.{Around}
 use Rattle.gn_records.specs.Flags.{first_or}
 use Rattle.gn_records.specs.Output.{substs_of_tool, tool_given}
 use Rattle.gn_records.specs.Outputs.{for_none}
@@ -26,7 +26,7 @@ abbrev pub first_path : List (List ℕ) → List ℕ
 first_path paths = first_or [] paths
 
 -- the done file: the stamp where the kind has no tool for its output; of a shared library what its tool says, where it does; and else the first output
-abbrev pub done_of : Context → Item → ItemKind → OutputValues → Option Tool → List (List ℕ) → List ℕ
+abbrev pub done_of : Around → Item → ItemKind → OutputValues → Option Tool → List (List ℕ) → List ℕ
 done_of c i kinds.SharedLibrary n tool outs = first_path (set_outs n ToolDependOutput (substs_of_tool DependOutput tool) outs)
 done_of c i kinds.StaticLibrary n tool outs = first_path outs
 done_of c i kinds.Executable n tool outs = first_path outs

@@ -1,7 +1,6 @@
 -- The lists of a compiled target: its own, and those of the configurations applied to it, in their order.
 use Rattle.std.specs.Prelude.{ℕ, List, [], ◌∷◌, ◌++◌, Bool, true, false, Option, None, Some, map, if◌then◌else◌}
 use Rattle.std.specs.List.{fold, flat_map, list_any}
-use Rattle.std.specs.Borrow.{Bor}
 use Rattle.gn_text.specs.Names.{with_name}
 use Rattle.gn_paths.specs.Components.{is_slash}
 use Rattle.gn_paths.specs.Rebase.{seen_from}
@@ -24,14 +23,14 @@ abbrev pub seen_at : List ℕ → Variable → List (Variable × Held) → List 
 seen_at build v fields = map (seen_from build) (paths_of (field_at fields v))
 
 -- those of an item, and then of the configurations applied to it
-abbrev pub all_texts : Variable → List (Variable × Held) → List (Bor Fields) → List (List ℕ)
-all_texts v own configs = texts_at v own ++ flat_map (λ f. texts_at v f.now) configs
+abbrev pub all_texts : Variable → List (Variable × Held) → List Fields → List (List ℕ)
+all_texts v own configs = texts_at v own ++ flat_map (texts_at v) configs
 
-abbrev pub all_seen_at : List ℕ → Variable → List (Variable × Held) → List (Bor Fields) → List (List ℕ)
-all_seen_at build v own configs = seen_at build v own ++ flat_map (λ f. seen_at build v f.now) configs
+abbrev pub all_seen_at : List ℕ → Variable → List (Variable × Held) → List Fields → List (List ℕ)
+all_seen_at build v own configs = seen_at build v own ++ flat_map (seen_at build v) configs
 
 -- what the compilers bind: flags in this order, and each directory of headers once
-abbrev pub compile_flags : List ℕ → List (Variable × Held) → List (Bor Fields) → CompileFlags
+abbrev pub compile_flags : List ℕ → List (Variable × Held) → List Fields → CompileFlags
 compile_flags build own configs = record {
   asmflags = all_texts Asmflags own configs;
   cflags = all_texts Cflags own configs;
@@ -55,14 +54,14 @@ abbrev pub lib_words : List ℕ → List ℕ → List ℕ → List (List ℕ)
 lib_words build switch text = if list_any is_slash text then paths_meant build text else (switch ++ text) ∷ []
 
 -- the directories of libraries, and the libraries: the target's and its configurations', then those of what it inherits, each once
-abbrev pub lib_dirs_of : List ℕ → List (Variable × Held) → List (Bor Fields) → Inherited → List (List ℕ)
+abbrev pub lib_dirs_of : List ℕ → List (Variable × Held) → List Fields → Inherited → List (List ℕ)
 lib_dirs_of build own configs h = fold with_name [] (all_seen_at build LibDirs own configs ++ h.lib_dirs)
 
-abbrev pub libs_of : List (Variable × Held) → List (Bor Fields) → Inherited → List (List ℕ)
+abbrev pub libs_of : List (Variable × Held) → List Fields → Inherited → List (List ℕ)
 libs_of own configs h = fold with_name [] (all_texts Libs own configs ++ h.libs)
 
 -- what the linker binds
-abbrev pub link_flags : List ℕ → Option Tool → List (Variable × Held) → List (Bor Fields) → Inherited → LinkFlags
+abbrev pub link_flags : List ℕ → Option Tool → List (Variable × Held) → List Fields → Inherited → LinkFlags
 link_flags build tool own configs h = record {
   ldflags = all_texts Ldflags own configs ++ map (λ d. text_of_tool LibDirSwitch tool ++ d) (lib_dirs_of build own configs h);
   libs = flat_map (lib_words build (text_of_tool LibSwitch tool)) (libs_of own configs h);
@@ -70,6 +69,6 @@ link_flags build tool own configs h = record {
 }
 
 -- only where something is linked
-abbrev pub link_flags_where : Bool → List ℕ → Option Tool → List (Variable × Held) → List (Bor Fields) → Inherited → LinkFlags
+abbrev pub link_flags_where : Bool → List ℕ → Option Tool → List (Variable × Held) → List Fields → Inherited → LinkFlags
 link_flags_where false build tool own configs h = record { ldflags = []; libs = []; solibs = [] }
 link_flags_where true build tool own configs h = link_flags build tool own configs h

@@ -1,3 +1,4 @@
+pub mod Around
 pub mod Steps
 pub mod Outputs
 pub mod Plain
@@ -9,3 +10,5 @@ pub mod Compiled
 pub mod Done
 pub mod Records
 pub mod Made
+pub mod Alone
+pub mod ToolTexts

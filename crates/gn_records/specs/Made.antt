@@ -27,3 +27,10 @@ outputs_of kind (target.Group g) = []
 outputs_of kind (target.Copy c) = flat_map copied_outs c.files
 outputs_of kind (target.Action a) = flat_map run_outs a.runs
 outputs_of kind (target.Compiled c) = compiled_outputs (is_some (own_tool kind)) c
+
+-- the objects of a target, which a compiled one alone has
+abbrev pub objects_of : Written → List (List ℕ)
+objects_of (target.Group g) = []
+objects_of (target.Copy c) = []
+objects_of (target.Action a) = []
+objects_of (target.Compiled c) = c.sources.objects

@@ -21,9 +21,9 @@ use Rattle.gn_items.specs.declared.tool.Tool.{Tool}
 use Rattle.gn_items.specs.Tools.{tool_at}
 use Rattle.gn_writing.specs.Outputs.{OutputValues, name_text}
 use Rattle.gn_writing.specs.TargetNames.{output_name, output_extension}
-use Rattle.gn_records.specs.declared.context.Context.{Context}
 use Rattle.gn_records.specs.declared.output.Output.{Output}
 use Rattle.gn_records.specs.declared.output.OwnDirectories.{OwnDirectories}
+use Rattle.gn_records.specs.Around.{Around}
 use Rattle.gn_records.specs.Actions.{first_of}
 use Rattle.gn_records.specs.Flags.{texts_at, first_or, text_of_tool}
 use Rattle.gn_records.specs.Outputs.{for_none}
@@ -36,9 +36,9 @@ own_tool kinds.SharedLibrary = Some tools.Solink
 own_tool kinds.LoadableModule = Some tools.SolinkModule
 own_tool _ = None
 
-abbrev pub tool_where : Context → Option ToolName → Option Tool
+abbrev pub tool_where : Around → Option ToolName → Option Tool
 tool_where c None = None
-tool_where c (Some tool) = tool_at (tool_name tool) c.tools.now
+tool_where c (Some tool) = tool_at (tool_name tool) c.tools
 
 -- the prefix of the tool, unless the target overrides it
 abbrev pub prefix_unless : Option Bool → List ℕ → List ℕ
@@ -58,19 +58,19 @@ extension_of_output i tool =
     output_extension (text_of_tool variables.DefaultOutputExtension tool) (first_of (texts_at variables.OutputExtension i.fields))
 
 -- the obj and the gen directory of the target's directory
-abbrev pub own_directories : Context → Item → OwnDirectories
-own_directories c i = record { objects = obj_directory_of c.out.now i.label.dir; generated = gen_directory_of c.out.now i.label.dir }
+abbrev pub own_directories : Around → Item → OwnDirectories
+own_directories c i = record { objects = obj_directory_of c.out i.label.dir; generated = gen_directory_of c.out i.label.dir }
 
 -- what a target with an output of this name and extension in this directory gives to the texts of tools
-abbrev pub values_with : Context → Item → OwnDirectories → (name extension : List ℕ) → Option (List ℕ) → OutputValues
+abbrev pub values_with : Around → Item → OwnDirectories → (name extension : List ℕ) → Option (List ℕ) → OutputValues
 values_with c i d name extension directory = record {
-  build = c.build.now;
+  build = c.build;
   output_name = name;
   output_extension = extension;
   label_name = i.label.name;
   output_dir = directory;
-  root_out_dir = c.out.now;
-  root_gen_dir = c.generated.now;
+  root_out_dir = c.out;
+  root_gen_dir = c.generated;
   target_out_dir = d.objects;
   target_gen_dir = d.generated;
 }
@@ -99,12 +99,12 @@ abbrev pub directory_or : List (List ℕ) → Option (List ℕ) → Option (List
 directory_or [] other = other
 directory_or (path ∷ more) other = Some path
 
-abbrev pub directory_of_output : Context → Item → Option Tool → OwnDirectories → (name extension : List ℕ) → Option (List ℕ)
+abbrev pub directory_of_output : Around → Item → Option Tool → OwnDirectories → (name extension : List ℕ) → Option (List ℕ)
 directory_of_output c i tool d name extension =
     directory_or (paths_of (field_at i.fields variables.OutputDir)) (default_directory (values_with c i d name extension None) (substs_of_tool variables.DefaultOutputDir tool))
 
 -- the output of a target whose kind has this tool
-abbrev pub output_of : Context → Item → Option Tool → Output
+abbrev pub output_of : Around → Item → Option Tool → Output
 output_of c i tool = record {
   name = name_of_output i tool;
   extension = extension_of_output i tool;
@@ -113,5 +113,5 @@ output_of c i tool = record {
 }
 
 -- what a target with this output gives to the texts of tools
-abbrev pub values_for : Context → Item → Output → OutputValues
+abbrev pub values_for : Around → Item → Output → OutputValues
 values_for c i o = values_with c i o.around o.name o.extension o.directory

@@ -7,24 +7,24 @@ use Rattle.gn_rows.specs.Names.{tool_name}
 use Rattle.gn_items.specs.Tools.{has_name}
 use Rattle.gn_writing.specs.declared.records.Step.{Step}
 use Rattle.gn_writing.specs.TargetNames.{target_file}
-use Rattle.gn_records.specs.declared.context.Context.{Context}
+use Rattle.gn_records.specs.Around.{Around}
 
 -- the rule of a tool
-abbrev pub rule_of : Context → ToolName → List ℕ
-rule_of c tool = c.prefix.now ++ tool_name tool
+abbrev pub rule_of : Around → ToolName → List ℕ
+rule_of c tool = c.prefix ++ tool_name tool
 
 -- what a tool makes; nothing where the toolchain lacks it
-abbrev pub where_had : Context → ToolName → List (List ℕ) → List (List ℕ)
-where_had c tool outs = if has_name (tool_name tool) c.tools.now then outs else []
+abbrev pub where_had : Around → ToolName → List (List ℕ) → List (List ℕ)
+where_had c tool outs = if has_name (tool_name tool) c.tools then outs else []
 
 -- the stamp of a target
-abbrev pub stamp_of : Context → Label → List ℕ
-stamp_of c label = target_file c.build.now c.out.now label (codes ".stamp")
+abbrev pub stamp_of : Around → Label → List ℕ
+stamp_of c label = target_file c.build c.out label (codes ".stamp")
 
 -- the response file of an action
-abbrev pub response_of : Context → Label → List ℕ
+abbrev pub response_of : Around → Label → List ℕ
 response_of c label = stamp_of c label ++ codes ".rsp"
 
 -- the line that makes a stamp
-abbrev pub stamp_step : Context → Label → Step
+abbrev pub stamp_step : Around → Label → Step
 stamp_step c label = record { rule = rule_of c Stamp; outs = where_had c Stamp (stamp_of c label ∷ []) }

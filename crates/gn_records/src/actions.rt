@@ -1,6 +1,7 @@
 // Actions, which run a script once, or once for each source.
 
 ghost use Rattle.std.specs.Prelude.{◌≡◌, IfOk};
+ghost use Rattle.gn_records.specs.Around.{around};
 ghost use Rattle.gn_records.specs.Actions.{with_runs, action_record, foreach_record};
 
 use crate::context::Context;
@@ -21,7 +22,7 @@ fn with_runs(
     runs: Runs,
     dones: Dones,
 ) -> Result<Action, AllocError>
-    ensures { IfOk result (λ a. a ≡ with_runs context.now item.now runs dones) }
+    ensures { IfOk result (λ a. a ≡ with_runs (around context.now) item.now runs dones) }
 {
     let script = script_of(alloc, context, item)?;
     let inputs = paths_at(alloc, context, item, Variable::Inputs)?;
@@ -44,7 +45,7 @@ pub(crate) fn action(
     item: &Item,
     dones: Dones,
 ) -> Result<Written, AllocError>
-    ensures { IfOk result (λ w. w ≡ action_record context.now item.now dones) }
+    ensures { IfOk result (λ w. w ≡ action_record (around context.now) item.now dones) }
 {
     let runs = only_run(alloc, context, item)?;
     Ok(Written::Action(with_runs(alloc, context, item, runs, dones)?))
@@ -57,7 +58,7 @@ pub(crate) fn action_foreach(
     item: &Item,
     dones: Dones,
 ) -> Result<Written, AllocError>
-    ensures { IfOk result (λ w. w ≡ foreach_record context.now item.now dones) }
+    ensures { IfOk result (λ w. w ≡ foreach_record (around context.now) item.now dones) }
 {
     let runs = runs_for(alloc, context, item, item.fields.paths(Variable::Sources))?;
     Ok(Written::Action(with_runs(alloc, context, item, runs, dones)?))

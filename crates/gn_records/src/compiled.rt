@@ -3,6 +3,7 @@
 ghost use Rattle.std.specs.Prelude.{◌≡◌, IfOk, option_map};
 ghost use Rattle.gn_labels.specs.Labels.{printed};
 ghost use Rattle.gn_paths.specs.Rebase.{seen_from};
+ghost use Rattle.gn_records.specs.Around.{around, fields_of};
 ghost use Rattle.gn_records.specs.Compiled.{is_linked, where_bound, label_texts, seen_if, output_texts, directories_of, own_sources, join_step, bindings_of};
 ghost use Rattle.gn_records.specs.Flags.{link_flags_where};
 ghost use Rattle.gn_records.specs.Output.{own_tool, tool_where, values_for};
@@ -53,7 +54,7 @@ fn label_texts(
     context: &Context<'_>,
     label: &Label,
 ) -> Result<LabelTexts, AllocError>
-    ensures { IfOk result (λ texts. texts ≡ label_texts context.now label.now) }
+    ensures { IfOk result (λ texts. texts ≡ label_texts (around context.now) label.now) }
 {
     let no_toolchain = bound_label(alloc, context.bound.label_no_toolchain, label)?;
     let name = label.name.copy(alloc)?;
@@ -81,7 +82,7 @@ fn output_texts(
     context: &Context<'_>,
     output: &Output,
 ) -> Result<OutputTexts, AllocError>
-    ensures { IfOk result (λ texts. texts ≡ output_texts context.now output.now) }
+    ensures { IfOk result (λ texts. texts ≡ output_texts (around context.now) output.now) }
 {
     let directory = seen_if(alloc, context.build, output.directory.as_ref())?;
     let extension = output.extension.copy(alloc)?;
@@ -114,7 +115,7 @@ fn directories_of(
     context: &Context<'_>,
     output: &Output,
 ) -> Result<Directories, AllocError>
-    ensures { IfOk result (λ directories. directories ≡ directories_of context.now output.now) }
+    ensures { IfOk result (λ directories. directories ≡ directories_of (around context.now) output.now) }
 {
     let bound = context.bound;
     let build = context.build;
@@ -142,7 +143,7 @@ fn step_of(
     item: &Item,
     output: &Output,
 ) -> Result<Step, AllocError>
-    ensures { IfOk result (λ step. step ≡ join_step context.now item.now (values_for context.now item.now output.now) (own_tool item.now.kind)) }
+    ensures { IfOk result (λ step. step ≡ join_step (around context.now) item.now (values_for (around context.now) item.now output.now) (own_tool item.now.kind)) }
 {
     let names = names_for(context, item, output);
     join_step(alloc, context, item, &names, own_tool(item.kind))
@@ -156,7 +157,7 @@ fn sources_of(
     output: &Output,
     hard: &Texts,
 ) -> Result<OwnSources, AllocError>
-    ensures { IfOk result (λ s. s ≡ own_sources context.now item.now (values_for context.now item.now output.now) hard.now) }
+    ensures { IfOk result (λ s. s ≡ own_sources (around context.now) item.now (values_for (around context.now) item.now output.now) hard.now) }
 {
     let names = names_for(context, item, output);
     own_sources(alloc, context, item, &names, hard)
@@ -170,7 +171,7 @@ fn linked(
     configs: &[&Fields],
     inherited: &Inherited,
 ) -> Result<LinkFlags, AllocError>
-    ensures { IfOk result (λ flags. flags ≡ link_flags_where (is_linked item.now.kind) context.now.build.now (tool_where context.now (own_tool item.now.kind)) item.now.fields configs.now inherited.now) }
+    ensures { IfOk result (λ flags. flags ≡ link_flags_where (is_linked item.now.kind) context.now.build.now (tool_where (around context.now) (own_tool item.now.kind)) item.now.fields (fields_of configs.now) inherited.now) }
 {
     let tool = tool_of_kind(context, item.kind);
     link_flags_where(
@@ -203,7 +204,7 @@ fn bindings_of(
     inherited: &Inherited,
     output: &Output,
 ) -> Result<Bindings, AllocError>
-    ensures { IfOk result (λ b. b ≡ bindings_of context.now item.now configs.now inherited.now output.now) }
+    ensures { IfOk result (λ b. b ≡ bindings_of (around context.now) item.now (fields_of configs.now) inherited.now output.now) }
 {
     let names = label_texts(alloc, context, &item.label)?;
     let link = linked(alloc, context, item, configs, inherited)?;
@@ -248,7 +249,7 @@ fn with_output(
     hard: &Texts,
     output: &Output,
 ) -> Result<Record, AllocError>
-    ensures { IfOk result (λ r. r ≡ with_output context.now item.now configs.now inherited.now dones.now hard.now output.now) }
+    ensures { IfOk result (λ r. r ≡ with_output (around context.now) item.now (fields_of configs.now) inherited.now dones.now hard.now output.now) }
 {
     let step = step_of(alloc, context, item, output)?;
     let exports = exports_of(alloc, context, item, configs, output, &step.outs)?;
@@ -270,7 +271,7 @@ pub(crate) fn compiled(
     dones: &Dones,
     hard: &Texts,
 ) -> Result<Record, AllocError>
-    ensures { IfOk result (λ r. r ≡ compiled_record context.now item.now configs.now inherited.now dones.now hard.now) }
+    ensures { IfOk result (λ r. r ≡ compiled_record (around context.now) item.now (fields_of configs.now) inherited.now dones.now hard.now) }
 {
     let output = output_of(alloc, context, item, tool_of_kind(context, item.kind))?;
     with_output(

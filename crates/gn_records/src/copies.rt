@@ -4,6 +4,7 @@ ghost use Rattle.std.specs.Prelude.{◌≡◌, [], ◌∷◌, ◌++◌, IfOk, On
 ghost use Rattle.gn_rows.specs.declared.kinds.ToolName.TheVariants as tools;
 ghost use Rattle.gn_rows.specs.declared.variable.Variable.TheVariants as variables;
 ghost use Rattle.gn_define.specs.Fields.{field_at, paths_of};
+ghost use Rattle.gn_records.specs.Around.{around};
 ghost use Rattle.gn_records.specs.Outputs.{source_outs};
 ghost use Rattle.gn_records.specs.Plain.{copied, copy_record};
 ghost use Rattle.gn_records.specs.Steps.{where_had};
@@ -24,7 +25,7 @@ fn copied_outs(
     item: &Item,
     source: &Path,
 ) -> Result<Texts, AllocError>
-    ensures { IfOk result (λ outs. outs ≡ where_had context.now tools.Copy (source_outs context.now item.now source.now)) }
+    ensures { IfOk result (λ outs. outs ≡ where_had (around context.now) tools.Copy (source_outs (around context.now) item.now source.now)) }
 {
     if context.tools.has(ToolName::Copy.name()) {
         return source_outs(alloc, context, item, source);
@@ -39,7 +40,7 @@ fn copied(
     item: &Item,
     source: &Path,
 ) -> Result<Copied, AllocError>
-    ensures { IfOk result (λ file. file ≡ copied context.now item.now source.now) }
+    ensures { IfOk result (λ file. file ≡ copied (around context.now) item.now source.now) }
 {
     let outs = copied_outs(alloc, context, item, source)?;
     let source = source.seen_from(alloc, context.build)?;
@@ -54,7 +55,7 @@ fn push_copied(
     files: &mut Vec<Copied>,
     source: &Path,
 ) -> Result<(), AllocError>
-    ensures { OnOk result (files.new.items ≡ files.old.items ++ copied context.now item.now source.now ∷ []) }
+    ensures { OnOk result (files.new.items ≡ files.old.items ++ copied (around context.now) item.now source.now ∷ []) }
 {
     let file = copied(alloc, context, item, source)?;
     files.push(file)?;
@@ -68,7 +69,7 @@ fn all_copied(
     item: &Item,
     sources: &[Path],
 ) -> Result<CopiedFiles, AllocError>
-    ensures { IfOk result (λ files. files ≡ map (copied context.now item.now) sources.now) }
+    ensures { IfOk result (λ files. files ≡ map (copied (around context.now) item.now) sources.now) }
 {
     let mut files = Vec::with_capacity(alloc, sources.len())?;
     for source in sources {
@@ -84,7 +85,7 @@ pub(crate) fn copy(
     item: &Item,
     dones: Dones,
 ) -> Result<Written, AllocError>
-    ensures { IfOk result (λ w. w ≡ copy_record context.now item.now dones) }
+    ensures { IfOk result (λ w. w ≡ copy_record (around context.now) item.now dones) }
 {
     let rule = tool_rule(alloc, context.prefix, ToolName::Copy)?;
     let stamp = stamp_step(alloc, context, &item.label)?;

@@ -2,6 +2,7 @@
 
 ghost use Rattle.std.specs.Prelude.{◌≡◌, IfOk, option_map};
 ghost use Rattle.gn_writing.specs.Outputs.{values_of, tool_outputs};
+ghost use Rattle.gn_records.specs.Around.{around};
 ghost use Rattle.gn_records.specs.Done.{set_outs, first_path, done_of, linked_of};
 ghost use Rattle.gn_records.specs.Output.{tool_given};
 ghost use Rattle.gn_records.specs.Outputs.{for_none};
@@ -66,7 +67,7 @@ pub(crate) fn done_of(
     tool: Option<&Tool>,
     outs: &Texts,
 ) -> Result<Text, AllocError>
-    ensures { IfOk result (λ t. t ≡ done_of context.now item.now item.now.kind (values_of names.now) (option_map (λ t. t.now) tool.entry) outs.now) }
+    ensures { IfOk result (λ t. t ≡ done_of (around context.now) item.now item.now.kind (values_of names.now) (option_map (λ t. t.now) tool.entry) outs.now) }
 {
     match item.kind {
         ItemKind::SharedLibrary => {

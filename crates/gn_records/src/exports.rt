@@ -2,6 +2,7 @@
 
 ghost use Rattle.std.specs.Prelude.{◌≡◌, IfOk};
 ghost use Rattle.gn_rows.specs.declared.variable.Variable.TheVariants.{Libs, LibDirs};
+ghost use Rattle.gn_records.specs.Around.{around, fields_of};
 ghost use Rattle.gn_records.specs.Compiled.{only_where};
 ghost use Rattle.gn_records.specs.Flags.{all_texts, all_seen_at};
 ghost use Rattle.gn_records.specs.Records.{gives_libs, done_with, linked_with, exports_of};
@@ -31,7 +32,7 @@ fn libs_given(
     own: &Fields,
     configs: &[&Fields],
 ) -> Result<Texts, AllocError>
-    ensures { IfOk result (λ list. list ≡ only_where (gives_libs kind) (all_texts Libs own.now configs.now)) }
+    ensures { IfOk result (λ list. list ≡ only_where (gives_libs kind) (all_texts Libs own.now (fields_of configs.now))) }
 {
     if gives_libs(kind) {
         return all_texts(alloc, Variable::Libs, own, configs);
@@ -47,7 +48,7 @@ fn lib_dirs_given(
     own: &Fields,
     configs: &[&Fields],
 ) -> Result<Texts, AllocError>
-    ensures { IfOk result (λ list. list ≡ only_where (gives_libs kind) (all_seen_at build.now LibDirs own.now configs.now)) }
+    ensures { IfOk result (λ list. list ≡ only_where (gives_libs kind) (all_seen_at build.now LibDirs own.now (fields_of configs.now))) }
 {
     if gives_libs(kind) {
         return all_seen_at(alloc, build, Variable::LibDirs, own, configs);
@@ -63,7 +64,7 @@ fn done_given(
     output: &Output,
     outs: &Texts,
 ) -> Result<Text, AllocError>
-    ensures { IfOk result (λ t. t ≡ done_with context.now item.now output.now outs.now) }
+    ensures { IfOk result (λ t. t ≡ done_with (around context.now) item.now output.now outs.now) }
 {
     let names = names_for(context, item, output);
     let tool = tool_of_kind(context, item.kind);
@@ -78,7 +79,7 @@ fn linked_given(
     output: &Output,
     outs: &Texts,
 ) -> Result<Text, AllocError>
-    ensures { IfOk result (λ t. t ≡ linked_with context.now item.now output.now outs.now) }
+    ensures { IfOk result (λ t. t ≡ linked_with (around context.now) item.now output.now outs.now) }
 {
     let names = names_for(context, item, output);
     let tool = tool_of_kind(context, item.kind);
@@ -94,7 +95,7 @@ pub(crate) fn exports_of(
     output: &Output,
     outs: &Texts,
 ) -> Result<Exports, AllocError>
-    ensures { IfOk result (λ e. e ≡ exports_of context.now item.now configs.now output.now outs.now) }
+    ensures { IfOk result (λ e. e ≡ exports_of (around context.now) item.now (fields_of configs.now) output.now outs.now) }
 {
     let done = done_given(alloc, context, item, output, outs)?;
     let linked = linked_given(alloc, context, item, output, outs)?;

@@ -3,6 +3,7 @@
 ghost use Rattle.std.specs.Prelude.{◌≡◌, ◌++◌, IfOk, OnOk, map};
 ghost use Rattle.std.specs.List.{flat_map};
 ghost use Rattle.gn_paths.specs.Rebase.{seen_from};
+ghost use Rattle.gn_records.specs.Around.{fields_of};
 ghost use Rattle.gn_records.specs.Flags.{texts_at, seen_at, all_texts, all_seen_at, compile_flags};
 
 use crate::outputs::once;
@@ -30,7 +31,7 @@ fn add_texts(
     variable: Variable,
     configs: &[&Fields],
 ) -> Result<(), AllocError>
-    ensures { OnOk result (list.new ≡ list.old ++ flat_map (λ f. texts_at variable f.now) configs.now) }
+    ensures { OnOk result (list.new ≡ list.old ++ flat_map (texts_at variable) (fields_of configs.now)) }
 {
     for config in configs {
         add_copies(alloc, list, config.texts(variable))?;
@@ -46,7 +47,7 @@ fn add_paths(
     variable: Variable,
     configs: &[&Fields],
 ) -> Result<(), AllocError>
-    ensures { OnOk result (list.new ≡ list.old ++ flat_map (λ f. seen_at build.now variable f.now) configs.now) }
+    ensures { OnOk result (list.new ≡ list.old ++ flat_map (seen_at build.now variable) (fields_of configs.now)) }
 {
     for config in configs {
         add_seen(alloc, list, build, config.paths(variable))?;
@@ -61,7 +62,7 @@ pub(crate) fn all_texts(
     own: &Fields,
     configs: &[&Fields],
 ) -> Result<Texts, AllocError>
-    ensures { IfOk result (λ list. list ≡ all_texts variable own.now configs.now) }
+    ensures { IfOk result (λ list. list ≡ all_texts variable own.now (fields_of configs.now)) }
 {
     let mut list = Texts::new(alloc);
     add_copies(alloc, &mut list, own.texts(variable))?;
@@ -77,7 +78,7 @@ pub(crate) fn all_seen_at(
     own: &Fields,
     configs: &[&Fields],
 ) -> Result<Texts, AllocError>
-    ensures { IfOk result (λ list. list ≡ all_seen_at build.now variable own.now configs.now) }
+    ensures { IfOk result (λ list. list ≡ all_seen_at build.now variable own.now (fields_of configs.now)) }
 {
     let mut list = all_seen(alloc, build, own.paths(variable))?;
     add_paths(alloc, &mut list, build, variable, configs)?;
@@ -91,7 +92,7 @@ fn include_dirs(
     own: &Fields,
     configs: &[&Fields],
 ) -> Result<Texts, AllocError>
-    ensures { IfOk result (λ list. list ≡ (compile_flags build.now own.now configs.now).include_dirs) }
+    ensures { IfOk result (λ list. list ≡ (compile_flags build.now own.now (fields_of configs.now)).include_dirs) }
 {
     let list = all_seen_at(alloc, build, Variable::IncludeDirs, own, configs)?;
     once(alloc, &list)
@@ -104,7 +105,7 @@ pub fn compile_flags(
     own: &Fields,
     configs: &[&Fields],
 ) -> Result<CompileFlags, AllocError>
-    ensures { IfOk result (λ flags. flags ≡ compile_flags build.now own.now configs.now) }
+    ensures { IfOk result (λ flags. flags ≡ compile_flags build.now own.now (fields_of configs.now)) }
 {
     let asmflags = all_texts(alloc, Variable::Asmflags, own, configs)?;
     let cflags = all_texts(alloc, Variable::Cflags, own, configs)?;

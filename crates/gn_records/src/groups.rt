@@ -1,6 +1,7 @@
 // Groups.
 
 ghost use Rattle.std.specs.Prelude.{◌≡◌, IfOk};
+ghost use Rattle.gn_records.specs.Around.{around};
 ghost use Rattle.gn_records.specs.Plain.{group_record};
 
 use crate::context::Context;
@@ -16,7 +17,7 @@ pub(crate) fn group(
     label: &Label,
     dones: Dones,
 ) -> Result<Written, AllocError>
-    ensures { IfOk result (λ w. w ≡ group_record context.now label.now dones) }
+    ensures { IfOk result (λ w. w ≡ group_record (around context.now) label.now dones) }
 {
     let stamp = stamp_step(alloc, context, label)?;
     Ok(Written::Group(Group { stamp, dones }))

@@ -2,6 +2,7 @@
 
 ghost use Rattle.std.specs.Prelude.{◌≡◌, IfOk, true};
 ghost use Rattle.gn_writing.specs.Outputs.{values_of};
+ghost use Rattle.gn_records.specs.Around.{around};
 ghost use Rattle.gn_records.specs.Compiled.{tool_step, join_step, rest_where, only_where, join_of};
 
 use crate::context::Context;
@@ -23,7 +24,7 @@ fn tool_step(
     names: &OutputNames<'_>,
     tool: ToolName,
 ) -> Result<Step, AllocError>
-    ensures { IfOk result (λ step. step ≡ tool_step context.now (values_of names.now) tool) }
+    ensures { IfOk result (λ step. step ≡ tool_step (around context.now) (values_of names.now) tool) }
 {
     let rule = tool_rule(alloc, context.prefix, tool)?;
     let outs = outs_of_tool(alloc, names, &for_none(alloc), context.tools.get(tool))?;
@@ -38,7 +39,7 @@ pub(crate) fn join_step(
     names: &OutputNames<'_>,
     tool: Option<ToolName>,
 ) -> Result<Step, AllocError>
-    ensures { IfOk result (λ step. step ≡ join_step context.now item.now (values_of names.now) tool) }
+    ensures { IfOk result (λ step. step ≡ join_step (around context.now) item.now (values_of names.now) tool) }
 {
     match tool {
         Some(tool) => tool_step(alloc, context, names, tool),

@@ -2,6 +2,7 @@
 #![tactic(auto)]
 
 mod actions;
+mod alone;
 mod bound;
 mod compiled;
 mod context;
@@ -9,12 +10,12 @@ mod copies;
 mod done;
 mod exports;
 mod flags;
+mod further;
 mod groups;
 mod inherited;
 mod joining;
 mod laws;
 mod linking;
-mod made;
 mod output;
 mod outputs;
 mod paths;
@@ -24,11 +25,17 @@ mod runs;
 mod sources;
 mod stamps;
 mod texts;
+mod tools;
 
+pub use alone::made;
 pub use bound::bound_names;
 pub use context::{BoundNames, Context};
+pub use further::outputs_of;
 pub use inherited::Inherited;
-pub use laws::further_configurations_stand_behind;
-pub use made::outputs_of;
+pub use laws::{
+    exports_need_no_dependency, further_configurations_stand_behind, objects_need_no_dependency,
+    outputs_need_no_dependency, what_is_made_needs_no_dependency,
+};
 pub use records::{Exports, Record, record_of};
 pub use texts::dones;
+pub use tools::{tool_of, tools_of};

@@ -5,6 +5,7 @@ ghost use Rattle.std.specs.List.{flat_map, list_any};
 ghost use Rattle.gn_paths.specs.Components.{is_slash};
 ghost use Rattle.gn_rows.specs.declared.variable.Variable.TheVariants.{LibDirSwitch};
 ghost use Rattle.gn_writing.specs.Outputs.{paths_meant};
+ghost use Rattle.gn_records.specs.Around.{fields_of};
 ghost use Rattle.gn_records.specs.Flags.{text_of_tool, lib_words, lib_dirs_of, libs_of, link_flags, link_flags_where};
 
 use crate::flags::{all_seen_at, all_texts};
@@ -101,7 +102,7 @@ fn libs_of(
     configs: &[&Fields],
     inherited: &Inherited,
 ) -> Result<Texts, AllocError>
-    ensures { IfOk result (λ list. list ≡ libs_of own.now configs.now inherited.now) }
+    ensures { IfOk result (λ list. list ≡ libs_of own.now (fields_of configs.now) inherited.now) }
 {
     let mut list = all_texts(alloc, Variable::Libs, own, configs)?;
     add_copies(alloc, &mut list, inherited.libs.as_slice())?;
@@ -116,7 +117,7 @@ fn lib_dirs_of(
     configs: &[&Fields],
     inherited: &Inherited,
 ) -> Result<Texts, AllocError>
-    ensures { IfOk result (λ list. list ≡ lib_dirs_of build.now own.now configs.now inherited.now) }
+    ensures { IfOk result (λ list. list ≡ lib_dirs_of build.now own.now (fields_of configs.now) inherited.now) }
 {
     let mut list = all_seen_at(alloc, build, Variable::LibDirs, own, configs)?;
     add_copies(alloc, &mut list, inherited.lib_dirs.as_slice())?;
@@ -132,7 +133,7 @@ fn libs(
     configs: &[&Fields],
     inherited: &Inherited,
 ) -> Result<Texts, AllocError>
-    ensures { IfOk result (λ list. list ≡ (link_flags build.now (option_map (λ t. t.now) tool.entry) own.now configs.now inherited.now).libs) }
+    ensures { IfOk result (λ list. list ≡ (link_flags build.now (option_map (λ t. t.now) tool.entry) own.now (fields_of configs.now) inherited.now).libs) }
 {
     let switch = text_of_tool(tool, Variable::LibSwitch);
     let libs = libs_of(alloc, own, configs, inherited)?;
@@ -148,7 +149,7 @@ fn switched_dirs(
     configs: &[&Fields],
     inherited: &Inherited,
 ) -> Result<Texts, AllocError>
-    ensures { IfOk result (λ list. list ≡ map (λ d. text_of_tool LibDirSwitch (option_map (λ t. t.now) tool.entry) ++ d) (lib_dirs_of build.now own.now configs.now inherited.now)) }
+    ensures { IfOk result (λ list. list ≡ map (λ d. text_of_tool LibDirSwitch (option_map (λ t. t.now) tool.entry) ++ d) (lib_dirs_of build.now own.now (fields_of configs.now) inherited.now)) }
 {
     let switch = text_of_tool(tool, Variable::LibDirSwitch);
     let dirs = lib_dirs_of(alloc, build, own, configs, inherited)?;
@@ -164,7 +165,7 @@ fn ldflags(
     configs: &[&Fields],
     inherited: &Inherited,
 ) -> Result<Texts, AllocError>
-    ensures { IfOk result (λ list. list ≡ (link_flags build.now (option_map (λ t. t.now) tool.entry) own.now configs.now inherited.now).ldflags) }
+    ensures { IfOk result (λ list. list ≡ (link_flags build.now (option_map (λ t. t.now) tool.entry) own.now (fields_of configs.now) inherited.now).ldflags) }
 {
     let dirs = switched_dirs(alloc, build, tool, own, configs, inherited)?;
     let mut list = all_texts(alloc, Variable::Ldflags, own, configs)?;
@@ -181,7 +182,7 @@ fn link_flags(
     configs: &[&Fields],
     inherited: &Inherited,
 ) -> Result<LinkFlags, AllocError>
-    ensures { IfOk result (λ flags. flags ≡ link_flags build.now (option_map (λ t. t.now) tool.entry) own.now configs.now inherited.now) }
+    ensures { IfOk result (λ flags. flags ≡ link_flags build.now (option_map (λ t. t.now) tool.entry) own.now (fields_of configs.now) inherited.now) }
 {
     let ldflags = ldflags(alloc, build, tool, own, configs, inherited)?;
     let libs = libs(alloc, build, tool, own, configs, inherited)?;
@@ -203,7 +204,7 @@ pub(crate) fn link_flags_where(
     configs: &[&Fields],
     inherited: &Inherited,
 ) -> Result<LinkFlags, AllocError>
-    ensures { IfOk result (λ flags. flags ≡ link_flags_where is_linked build.now (option_map (λ t. t.now) tool.entry) own.now configs.now inherited.now) }
+    ensures { IfOk result (λ flags. flags ≡ link_flags_where is_linked build.now (option_map (λ t. t.now) tool.entry) own.now (fields_of configs.now) inherited.now) }
 {
     if is_linked {
         return link_flags(alloc, build, tool, own, configs, inherited);

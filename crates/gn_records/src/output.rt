@@ -4,6 +4,7 @@ ghost use Rattle.std.specs.Prelude.{◌≡◌, IfOk, option_map, None};
 ghost use Rattle.gn_paths.specs.Resolve.{path_meant};
 ghost use Rattle.gn_substs.specs.declared.positions.Position.TheVariants.{ToolDefaultOutputDir};
 ghost use Rattle.gn_substs.specs.Expansions.{expanded};
+ghost use Rattle.gn_records.specs.Around.{around};
 ghost use Rattle.gn_records.specs.Actions.{first_of};
 ghost use Rattle.gn_records.specs.Flags.{first_or};
 ghost use Rattle.gn_records.specs.Output.{own_tool, tool_where, prefix_of, name_of_output, extension_of_output, own_directories, values_with, tool_given, path_if, default_directory, substs_of_tool, directory_of_output, output_of, values_for};
@@ -51,7 +52,7 @@ pub(crate) fn own_tool(kind: ItemKind) -> Option<ToolName>
 
 // The tool of a kind, where the toolchain has it.
 pub(crate) fn tool_of_kind<'a>(context: &Context<'a>, kind: ItemKind) -> Option<&'a Tool>
-    ensures { option_map (λ t. t.now) result ≡ tool_where context.now (own_tool kind) }
+    ensures { option_map (λ t. t.now) result ≡ tool_where (around context.now) (own_tool kind) }
 {
     match own_tool(kind) {
         Some(tool) => context.tools.get(tool),
@@ -112,7 +113,7 @@ fn own_directories(
     context: &Context<'_>,
     item: &Item,
 ) -> Result<OwnDirectories, AllocError>
-    ensures { IfOk result (λ d. d ≡ own_directories context.now item.now) }
+    ensures { IfOk result (λ d. d ≡ own_directories (around context.now) item.now) }
 {
     let objects = obj_directory(alloc, context.out, &item.label.dir)?;
     let generated = gen_directory(alloc, context.out, &item.label.dir)?;
@@ -154,11 +155,11 @@ pub(crate) fn substs_of_tool<'a>(tool: Option<&'a Tool>, variable: Variable) -> 
 fn names_before<'a>(
     context: &Context<'a>,
     item: &'a Item,
-    around: &'a OwnDirectories,
+    own: &'a OwnDirectories,
     name: &'a Text,
     extension: &'a Text,
 ) -> OutputNames<'a>
-    ensures { values_of result ≡ values_with context.now item.now around.now name.now extension.now None }
+    ensures { values_of result ≡ values_with (around context.now) item.now own.now name.now extension.now None }
 {
     OutputNames {
         build: context.build,
@@ -168,8 +169,8 @@ fn names_before<'a>(
         output_dir: None,
         root_out_dir: context.out,
         root_gen_dir: context.generated,
-        target_out_dir: &around.objects,
-        target_gen_dir: &around.generated,
+        target_out_dir: &own.objects,
+        target_gen_dir: &own.generated,
     }
 }
 
@@ -193,17 +194,17 @@ fn directory_of_output(
     context: &Context<'_>,
     item: &Item,
     tool: Option<&Tool>,
-    around: &OwnDirectories,
+    own: &OwnDirectories,
     name: &Text,
     extension: &Text,
 ) -> Result<Option<Path>, AllocError>
-    ensures { IfOk result (λ d. d ≡ directory_of_output context.now item.now (option_map (λ t. t.now) tool.entry) around.now name.now extension.now) }
+    ensures { IfOk result (λ d. d ≡ directory_of_output (around context.now) item.now (option_map (λ t. t.now) tool.entry) own.now name.now extension.now) }
 {
     match item.fields.paths(Variable::OutputDir) {
         [path, ..] => Ok(Some(path.copy(alloc)?)),
         [] => default_directory(
             alloc,
-            &names_before(context, item, around, name, extension),
+            &names_before(context, item, own, name, extension),
             substs_of_tool(tool, Variable::DefaultOutputDir),
         ),
     }
@@ -216,7 +217,7 @@ pub(crate) fn output_of(
     item: &Item,
     tool: Option<&Tool>,
 ) -> Result<Output, AllocError>
-    ensures { IfOk result (λ o. o ≡ output_of context.now item.now (option_map (λ t. t.now) tool.entry)) }
+    ensures { IfOk result (λ o. o ≡ output_of (around context.now) item.now (option_map (λ t. t.now) tool.entry)) }
 {
     let around = own_directories(alloc, context, item)?;
     let name = name_of_output(alloc, item, tool)?;
@@ -236,7 +237,7 @@ pub(crate) fn names_for<'a>(
     item: &'a Item,
     output: &'a Output,
 ) -> OutputNames<'a>
-    ensures { values_of result ≡ values_for context.now item.now output.now }
+    ensures { values_of result ≡ values_for (around context.now) item.now output.now }
 {
     OutputNames {
         build: context.build,

@@ -3,6 +3,7 @@
 ghost use Rattle.std.specs.Prelude.{◌≡◌, [], ◌++◌, IfOk, OnOk};
 ghost use Rattle.std.specs.List.{fold, flat_map};
 ghost use Rattle.gn_text.specs.Names.{with_name};
+ghost use Rattle.gn_records.specs.Around.{around};
 ghost use Rattle.gn_records.specs.Outputs.{output_position, for_source, for_none, meant_by, outs_given, source_outs, item_outs};
 
 use crate::context::Context;
@@ -32,7 +33,7 @@ pub(crate) fn for_source(
     position: Position,
     source: &Path,
 ) -> Result<Given, AllocError>
-    ensures { IfOk result (λ given. given ≡ for_source context.now item.now position source.now) }
+    ensures { IfOk result (λ given. given ≡ for_source (around context.now) item.now position source.now) }
 {
     let around = Around {
         target: &item.label.dir,
@@ -58,7 +59,7 @@ pub(crate) fn push_meant(
     given: &Given,
     text: &Subst,
 ) -> Result<(), AllocError>
-    ensures { OnOk result (paths.new ≡ paths.old ++ meant_by context.now item.now given.now text.now) }
+    ensures { OnOk result (paths.new ≡ paths.old ++ meant_by (around context.now) item.now given.now text.now) }
 {
     let expanded = text.expand(alloc, given)?;
     match path_meant(alloc, &item.label.dir, expanded.as_bytes())? {
@@ -75,7 +76,7 @@ fn all_meant(
     given: &Given,
     texts: &[Subst],
 ) -> Result<Texts, AllocError>
-    ensures { IfOk result (λ paths. paths ≡ flat_map (meant_by context.now item.now given.now) texts.now) }
+    ensures { IfOk result (λ paths. paths ≡ flat_map (meant_by (around context.now) item.now given.now) texts.now) }
 {
     let mut paths = Texts::new(alloc);
     for text in texts {
@@ -99,7 +100,7 @@ fn outs_given(
     item: &Item,
     given: &Given,
 ) -> Result<Texts, AllocError>
-    ensures { IfOk result (λ outs. outs ≡ outs_given context.now item.now given.now) }
+    ensures { IfOk result (λ outs. outs ≡ outs_given (around context.now) item.now given.now) }
 {
     let paths = all_meant(
         alloc,
@@ -118,7 +119,7 @@ pub(crate) fn source_outs(
     item: &Item,
     source: &Path,
 ) -> Result<Texts, AllocError>
-    ensures { IfOk result (λ outs. outs ≡ source_outs context.now item.now source.now) }
+    ensures { IfOk result (λ outs. outs ≡ source_outs (around context.now) item.now source.now) }
 {
     let given = for_source(alloc, context, item, output_position(item.kind), source)?;
     outs_given(alloc, context, item, &given)
@@ -130,7 +131,7 @@ pub(crate) fn item_outs(
     context: &Context<'_>,
     item: &Item,
 ) -> Result<Texts, AllocError>
-    ensures { IfOk result (λ outs. outs ≡ item_outs context.now item.now) }
+    ensures { IfOk result (λ outs. outs ≡ item_outs (around context.now) item.now) }
 {
     outs_given(alloc, context, item, &for_none(alloc))
 }

@@ -1,6 +1,7 @@
 // Paths of an item, as seen from the build directory.
 
 ghost use Rattle.std.specs.Prelude.{◌≡◌, IfOk};
+ghost use Rattle.gn_records.specs.Around.{around};
 ghost use Rattle.gn_records.specs.Outputs.{paths_at};
 
 use crate::context::Context;
@@ -17,7 +18,7 @@ pub(crate) fn paths_at(
     item: &Item,
     variable: Variable,
 ) -> Result<Texts, AllocError>
-    ensures { IfOk result (λ paths. paths ≡ paths_at context.now item.now variable) }
+    ensures { IfOk result (λ paths. paths ≡ paths_at (around context.now) item.now variable) }
 {
     all_seen(alloc, context.build, item.fields.paths(variable))
 }

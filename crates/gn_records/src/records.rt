@@ -1,6 +1,7 @@
 // What is known of a target that is resolved.
 
 ghost use Rattle.std.specs.Prelude.{◌≡◌, IfOk};
+ghost use Rattle.gn_records.specs.Around.{around, fields_of};
 ghost use Rattle.gn_records.specs.Records.{is_plain, plain_written, plain_exports, plain_record, record_of};
 
 use crate::actions::{action, action_foreach};
@@ -41,7 +42,7 @@ pub struct Record {
 
 // What a target gives that has no objects: its stamp is its done file.
 fn plain_exports(alloc: Global, context: &Context<'_>, item: &Item) -> Result<Exports, AllocError>
-    ensures { IfOk result (λ e. e ≡ plain_exports context.now item.now) }
+    ensures { IfOk result (λ e. e ≡ plain_exports (around context.now) item.now) }
 {
     let done = stamp(alloc, context, &item.label)?;
     Ok(Exports {
@@ -59,7 +60,7 @@ fn plain_record(
     item: &Item,
     dones: Dones,
 ) -> Result<Record, AllocError>
-    ensures { IfOk result (λ r. r ≡ plain_record context.now item.now dones) }
+    ensures { IfOk result (λ r. r ≡ plain_record (around context.now) item.now dones) }
 {
     let exports = plain_exports(alloc, context, item)?;
     let written = plain_written(alloc, context, item, dones)?;
@@ -73,7 +74,7 @@ fn plain_written(
     item: &Item,
     dones: Dones,
 ) -> Result<Written, AllocError>
-    ensures { IfOk result (λ w. w ≡ plain_written item.now.kind context.now item.now dones) }
+    ensures { IfOk result (λ w. w ≡ plain_written item.now.kind (around context.now) item.now dones) }
 {
     match item.kind {
         ItemKind::Copy => copy(alloc, context, item, dones),
@@ -95,6 +96,7 @@ fn is_plain(kind: ItemKind) -> bool
 
 /// The record of a target. `configs` are the fields of the configurations applied to it, in order; `inherited` is what it takes from
 /// the libraries that it inherits; `dones` are the done files of its dependencies; `hard` are those for which its objects wait.
+#[tactic(auto, unfolding(crate::specs::Records::record_of))]
 pub fn record_of(
     alloc: Global,
     context: &Context<'_>,
@@ -104,7 +106,7 @@ pub fn record_of(
     dones: Dones,
     hard: &Texts,
 ) -> Result<Record, AllocError>
-    ensures { IfOk result (λ r. r ≡ record_of context.now item.now configs.now inherited.now dones hard.now) }
+    ensures { IfOk result (λ r. r ≡ record_of (around context.now) item.now (fields_of configs.now) inherited.now dones hard.now) }
 {
     if is_plain(item.kind) {
         return plain_record(alloc, context, item, dones);

@@ -1,6 +1,7 @@
 // The rules of actions.
 
 ghost use Rattle.std.specs.Prelude.{◌≡◌, IfOk};
+ghost use Rattle.gn_records.specs.Around.{around};
 ghost use Rattle.gn_records.specs.Actions.{first_seen, script_of, first_pool, rule_of_action};
 
 use crate::context::Context;
@@ -27,13 +28,13 @@ pub(crate) fn script_of(
     context: &Context<'_>,
     item: &Item,
 ) -> Result<Text, AllocError>
-    ensures { IfOk result (λ t. t ≡ script_of context.now item.now) }
+    ensures { IfOk result (λ t. t ≡ script_of (around context.now) item.now) }
 {
     first_seen(alloc, context.build, item.fields.paths(Variable::Script))
 }
 
 // The name of the first of these pools.
-fn first_pool(alloc: Global, default: &Text, pools: &[Label]) -> Result<Text, AllocError>
+pub(crate) fn first_pool(alloc: Global, default: &Text, pools: &[Label]) -> Result<Text, AllocError>
     ensures { IfOk result (λ t. t ≡ first_pool default.now pools.now) }
 {
     match pools {
@@ -44,7 +45,7 @@ fn first_pool(alloc: Global, default: &Text, pools: &[Label]) -> Result<Text, Al
 
 // The command.
 fn command_of(alloc: Global, context: &Context<'_>, item: &Item) -> Result<Text, AllocError>
-    ensures { IfOk result (λ t. t ≡ (rule_of_action context.now item.now).command) }
+    ensures { IfOk result (λ t. t ≡ (rule_of_action (around context.now) item.now).command) }
 {
     let script = script_of(alloc, context, item)?;
     action_command(alloc, context.program, &script)
@@ -56,7 +57,7 @@ pub(crate) fn rule_of_action(
     context: &Context<'_>,
     item: &Item,
 ) -> Result<ActionRule, AllocError>
-    ensures { IfOk result (λ rule. rule ≡ rule_of_action context.now item.now) }
+    ensures { IfOk result (λ rule. rule ≡ rule_of_action (around context.now) item.now) }
 {
     let name = action_rule_name(alloc, &item.label)?;
     let command = command_of(alloc, context, item)?;

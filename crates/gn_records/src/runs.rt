@@ -4,6 +4,7 @@ ghost use Rattle.std.specs.Prelude.{◌≡◌, [], ◌∷◌, ◌++◌, IfOk, On
 ghost use Rattle.gn_rows.specs.declared.variable.Variable.TheVariants.{ResponseFileContents};
 ghost use Rattle.gn_substs.specs.Expansions.{expanded};
 ghost use Rattle.gn_define.specs.Fields.{field_at, texts_of};
+ghost use Rattle.gn_records.specs.Around.{around};
 ghost use Rattle.gn_records.specs.Actions.{args_given, first_of, first_meant, depfile_given, where_set, run_of, run_for};
 ghost use Rattle.gn_records.specs.Outputs.{meant_by};
 
@@ -45,7 +46,7 @@ fn first_meant(
     given: &Given,
     texts: &[Subst],
 ) -> Result<Option<Text>, AllocError>
-    ensures { IfOk result (λ path. path ≡ first_meant context.now item.now given.now texts.now) }
+    ensures { IfOk result (λ path. path ≡ first_meant (around context.now) item.now given.now texts.now) }
 {
     match texts {
         [text, ..] => path_of(alloc, context, item, given, text),
@@ -61,7 +62,7 @@ fn path_of(
     given: &Given,
     text: &Subst,
 ) -> Result<Option<Text>, AllocError>
-    ensures { IfOk result (λ path. path ≡ first_of (meant_by context.now item.now given.now text.now)) }
+    ensures { IfOk result (λ path. path ≡ first_of (meant_by (around context.now) item.now given.now text.now)) }
 {
     let expanded = text.expand(alloc, given)?;
     match path_meant(alloc, &item.label.dir, expanded.as_bytes())? {
@@ -77,7 +78,7 @@ fn depfile_given(
     item: &Item,
     given: &Given,
 ) -> Result<Option<Text>, AllocError>
-    ensures { IfOk result (λ path. path ≡ depfile_given context.now item.now given.now) }
+    ensures { IfOk result (λ path. path ≡ depfile_given (around context.now) item.now given.now) }
 {
     first_meant(
         alloc,
@@ -94,7 +95,7 @@ fn response_file(
     context: &Context<'_>,
     item: &Item,
 ) -> Result<Option<Text>, AllocError>
-    ensures { IfOk result (λ file. file ≡ (run_of context.now item.now).response_file) }
+    ensures { IfOk result (λ file. file ≡ (run_of (around context.now) item.now).response_file) }
 {
     match item.fields.get(Variable::ResponseFileContents) {
         Some(_) => Ok(Some(response(alloc, context, &item.label)?)),
@@ -115,7 +116,7 @@ fn response_words(alloc: Global, item: &Item) -> Result<Option<Texts>, AllocErro
 
 // The arguments of an action's run.
 fn args_of(alloc: Global, context: &Context<'_>, item: &Item) -> Result<Texts, AllocError>
-    ensures { IfOk result (λ args. args ≡ (run_of context.now item.now).args) }
+    ensures { IfOk result (λ args. args ≡ (run_of (around context.now) item.now).args) }
 {
     let file = only(alloc, response(alloc, context, &item.label)?)?;
     args_given(alloc, item, &Given::new(Position::ActionArgs, file))
@@ -123,7 +124,7 @@ fn args_of(alloc: Global, context: &Context<'_>, item: &Item) -> Result<Texts, A
 
 // The one run of an action.
 pub(crate) fn run_of(alloc: Global, context: &Context<'_>, item: &Item) -> Result<Run, AllocError>
-    ensures { IfOk result (λ run. run ≡ run_of context.now item.now) }
+    ensures { IfOk result (λ run. run ≡ run_of (around context.now) item.now) }
 {
     let depfile = depfile_given(alloc, context, item, &for_none(alloc))?;
     let response_file = response_file(alloc, context, item)?;
@@ -149,7 +150,7 @@ fn args_for(
     item: &Item,
     source: &Path,
 ) -> Result<Texts, AllocError>
-    ensures { IfOk result (λ args. args ≡ (run_for context.now item.now source.now).args) }
+    ensures { IfOk result (λ args. args ≡ (run_for (around context.now) item.now source.now).args) }
 {
     let given = for_source(alloc, context, item, Position::ForeachArgs, source)?;
     args_given(alloc, item, &given)
@@ -162,7 +163,7 @@ fn depfile_for(
     item: &Item,
     source: &Path,
 ) -> Result<Option<Text>, AllocError>
-    ensures { IfOk result (λ path. path ≡ (run_for context.now item.now source.now).depfile) }
+    ensures { IfOk result (λ path. path ≡ (run_for (around context.now) item.now source.now).depfile) }
 {
     let given = for_source(alloc, context, item, Position::ForeachDepfile, source)?;
     depfile_given(alloc, context, item, &given)
@@ -175,7 +176,7 @@ fn run_for(
     item: &Item,
     source: &Path,
 ) -> Result<Run, AllocError>
-    ensures { IfOk result (λ run. run ≡ run_for context.now item.now source.now) }
+    ensures { IfOk result (λ run. run ≡ run_for (around context.now) item.now source.now) }
 {
     let outs = source_outs(alloc, context, item, source)?;
     let depfile = depfile_for(alloc, context, item, source)?;
@@ -198,7 +199,7 @@ pub(crate) fn only_run(
     context: &Context<'_>,
     item: &Item,
 ) -> Result<Runs, AllocError>
-    ensures { IfOk result (λ runs. runs ≡ run_of context.now item.now ∷ []) }
+    ensures { IfOk result (λ runs. runs ≡ run_of (around context.now) item.now ∷ []) }
 {
     let mut runs = Vec::with_capacity(alloc, 1)?;
     runs.push(run_of(alloc, context, item)?)?;
@@ -213,7 +214,7 @@ fn push_run(
     runs: &mut Vec<Run>,
     source: &Path,
 ) -> Result<(), AllocError>
-    ensures { OnOk result (runs.new.items ≡ runs.old.items ++ run_for context.now item.now source.now ∷ []) }
+    ensures { OnOk result (runs.new.items ≡ runs.old.items ++ run_for (around context.now) item.now source.now ∷ []) }
 {
     let run = run_for(alloc, context, item, source)?;
     runs.push(run)?;
@@ -227,7 +228,7 @@ pub(crate) fn runs_for(
     item: &Item,
     sources: &[Path],
 ) -> Result<Runs, AllocError>
-    ensures { IfOk result (λ runs. runs ≡ map (run_for context.now item.now) sources.now) }
+    ensures { IfOk result (λ runs. runs ≡ map (run_for (around context.now) item.now) sources.now) }
 {
     let mut runs = Vec::with_capacity(alloc, sources.len())?;
     for source in sources {

@@ -7,6 +7,7 @@ ghost use Rattle.gn_rows.specs.declared.variable.Variable.TheVariants as variabl
 ghost use Rattle.gn_substs.specs.declared.positions.Position.TheVariants.{ToolOutputs};
 ghost use Rattle.gn_define.specs.Fields.{field_at, paths_of};
 ghost use Rattle.gn_writing.specs.Outputs.{values_of};
+ghost use Rattle.gn_records.specs.Around.{around};
 ghost use Rattle.gn_records.specs.Compiled.{outs_of_tool, unit_of, first_alone, units_used, objects_used, units_for, objects_for, own_sources};
 ghost use Rattle.gn_records.specs.Outputs.{for_source};
 
@@ -59,7 +60,7 @@ fn outs_of_source(
     tool: ToolName,
     source: &Path,
 ) -> Result<Texts, AllocError>
-    ensures { IfOk result (λ outs. outs ≡ (unit_of context.now item.now (values_of names.now) tool source.now).outs) }
+    ensures { IfOk result (λ outs. outs ≡ (unit_of (around context.now) item.now (values_of names.now) tool source.now).outs) }
 {
     let given = for_source(alloc, context, item, Position::ToolOutputs, source)?;
     outs_of_tool(alloc, names, &given, context.tools.get(tool))
@@ -74,7 +75,7 @@ fn unit_of(
     tool: ToolName,
     source: &Path,
 ) -> Result<Unit, AllocError>
-    ensures { IfOk result (λ unit. unit ≡ unit_of context.now item.now (values_of names.now) tool source.now) }
+    ensures { IfOk result (λ unit. unit ≡ unit_of (around context.now) item.now (values_of names.now) tool source.now) }
 {
     let file_part = part(alloc, source.as_bytes(), PathPart::File)?;
     let name_part = part(alloc, source.as_bytes(), PathPart::Name)?;
@@ -126,8 +127,8 @@ fn add_source(
     objects: &mut Texts,
     source: &Path,
 ) -> Result<(), AllocError>
-    ensures units { OnOk result (units.new.items ≡ units.old.items ++ units_for context.now item.now (values_of names.now) source.now) }
-    ensures objects { OnOk result (objects.new ≡ objects.old ++ objects_for context.now item.now (values_of names.now) source.now) }
+    ensures units { OnOk result (units.new.items ≡ units.old.items ++ units_for (around context.now) item.now (values_of names.now) source.now) }
+    ensures objects { OnOk result (objects.new ≡ objects.old ++ objects_for (around context.now) item.now (values_of names.now) source.now) }
 {
     match use_of(alloc, source)? {
         SourceUse::Built(tool) => add_unit(
@@ -151,8 +152,8 @@ fn add_sources(
     objects: &mut Texts,
     sources: &[Path],
 ) -> Result<(), AllocError>
-    ensures units { OnOk result (units.new.items ≡ units.old.items ++ flat_map (units_for context.now item.now (values_of names.now)) sources.now) }
-    ensures objects { OnOk result (objects.new ≡ objects.old ++ flat_map (objects_for context.now item.now (values_of names.now)) sources.now) }
+    ensures units { OnOk result (units.new.items ≡ units.old.items ++ flat_map (units_for (around context.now) item.now (values_of names.now)) sources.now) }
+    ensures objects { OnOk result (objects.new ≡ objects.old ++ flat_map (objects_for (around context.now) item.now (values_of names.now)) sources.now) }
 {
     for source in sources {
         add_source(alloc, context, item, names, units, objects, source)?;
@@ -168,7 +169,7 @@ pub(crate) fn own_sources(
     names: &OutputNames<'_>,
     hard: &Texts,
 ) -> Result<OwnSources, AllocError>
-    ensures { IfOk result (λ s. s ≡ own_sources context.now item.now (values_of names.now) hard.now) }
+    ensures { IfOk result (λ s. s ≡ own_sources (around context.now) item.now (values_of names.now) hard.now) }
 {
     let mut units = Vec::new(alloc);
     let mut objects = Texts::new(alloc);

@@ -2,6 +2,7 @@
 
 ghost use Rattle.std.specs.Prelude.{◌≡◌, [], ◌∷◌, ◌++◌, codes, IfOk};
 ghost use Rattle.gn_rows.specs.declared.kinds.ToolName.TheVariants.{Stamp};
+ghost use Rattle.gn_records.specs.Around.{around};
 ghost use Rattle.gn_records.specs.Steps.{rule_of, where_had, stamp_of, stamp_step, response_of};
 
 use crate::context::Context;
@@ -15,7 +16,7 @@ use std::alloc::{AllocError, Global};
 // The stamp of a target: a file beside its objects, as seen from the build directory. It is the done file of groups, source
 // sets, actions and copies.
 pub(crate) fn stamp(alloc: Global, context: &Context<'_>, label: &Label) -> Result<Text, AllocError>
-    ensures { IfOk result (λ t. t ≡ stamp_of context.now label.now) }
+    ensures { IfOk result (λ t. t ≡ stamp_of (around context.now) label.now) }
 {
     target_file(alloc, context.build, context.out, label, b".stamp")
 }
@@ -26,7 +27,7 @@ pub(crate) fn response(
     context: &Context<'_>,
     label: &Label,
 ) -> Result<Text, AllocError>
-    ensures { IfOk result (λ t. t ≡ response_of context.now label.now) }
+    ensures { IfOk result (λ t. t ≡ response_of (around context.now) label.now) }
 {
     let mut text = stamp(alloc, context, label)?;
     text.append(b".rsp")?;
@@ -35,7 +36,7 @@ pub(crate) fn response(
 
 // What the tool that makes stamps makes.
 fn stamp_outs(alloc: Global, context: &Context<'_>, label: &Label) -> Result<Texts, AllocError>
-    ensures { IfOk result (λ outs. outs ≡ where_had context.now Stamp (stamp_of context.now label.now ∷ [])) }
+    ensures { IfOk result (λ outs. outs ≡ where_had (around context.now) Stamp (stamp_of (around context.now) label.now ∷ [])) }
 {
     if context.tools.has(ToolName::Stamp.name()) {
         return only(alloc, stamp(alloc, context, label)?);
@@ -49,7 +50,7 @@ pub(crate) fn stamp_step(
     context: &Context<'_>,
     label: &Label,
 ) -> Result<Step, AllocError>
-    ensures { IfOk result (λ step. step ≡ stamp_step context.now label.now) }
+    ensures { IfOk result (λ step. step ≡ stamp_step (around context.now) label.now) }
 {
     let rule = tool_rule(alloc, context.prefix, ToolName::Stamp)?;
     let outs = stamp_outs(alloc, context, label)?;

@@ -46,7 +46,7 @@ pub(crate) fn both(alloc: Global, first: &Texts, second: &Texts) -> Result<Texts
 }
 
 // Copies of texts that are lent.
-fn copies_of_lent(alloc: Global, texts: &[&Text]) -> Result<Texts, AllocError>
+pub(crate) fn copies_of_lent(alloc: Global, texts: &[&Text]) -> Result<Texts, AllocError>
     ensures { IfOk result (λ list. list ≡ map (λ t. t.now) texts.now) }
 {
     let mut list = Vec::with_capacity(alloc, texts.len())?;

@@ -1,0 +1,6 @@
+//! The targets that dependencies lead to.
+#![tactic(auto)]
+
+mod walking;
+
+pub use walking::reached;

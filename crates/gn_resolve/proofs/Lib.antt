@@ -1,0 +1,10 @@
+pub mod Ready
+pub mod Items
+pub mod Held
+pub mod LibraryLists
+pub mod Right
+pub mod Put
+pub mod PassLemmas
+pub mod HardLists
+pub mod Framed
+pub mod DoneLists

@@ -1,0 +1,4 @@
+pub mod Resolved
+pub mod Table
+pub mod Steps
+pub mod Whole

@@ -1,0 +1,107 @@
+// What is kept of targets that are resolved.
+
+ghost use Rattle.std.specs.Prelude.{◌≡◌, option_map, OnOk, Some, None};
+ghost use Rattle.indexmap.specs.IndexMap.{Updates};
+ghost use Rattle.gn_labels.specs.declared.label.Label.{Label as Named};
+ghost use Rattle.gn_labels.specs.contracts.label.LabelPartialEq.TheImpl.{eq-value};
+ghost use Rattle.gn_resolve.specs.Table.{entry_in, is_in, known_in, handed_in, hard_at};
+
+use gn_labelled::{HandedOn, ItemGraph};
+use gn_labels::Label;
+use gn_records::Record;
+use indexmap::IndexMap;
+use std::alloc::{AllocError, Global};
+
+/// What is kept of a target that is resolved.
+#[derive(Drop)]
+pub struct Entry {
+    /// The configurations that it hands on to all that depend on it.
+    pub pushed: Vec<Label>,
+    /// Those that it hands on to targets that have it as a dependency.
+    pub pushed_public: Vec<Label>,
+    /// The actions and copies to which its dependencies lead, in label order.
+    pub hard: Vec<Label>,
+    /// Its record; None where no item has its label.
+    pub known: Option<Record>,
+}
+
+/// Targets that are resolved, by their labels.
+#[derive(Drop)]
+pub struct Resolved {
+    /// What is kept of each.
+    pub entries: IndexMap<Label, Entry>,
+}
+
+/// The graph of the items of a build, with what is kept of its targets.
+pub(crate) type Known<'a> = ItemGraph<'a, Resolved>;
+
+impl Resolved {
+    /// No target is resolved. It takes no memory.
+    pub fn new(alloc: Global) -> Resolved
+        ensures { (q : Named) → entry_in result q ≡ None }
+    {
+        Resolved {
+            entries: IndexMap::new(alloc),
+        }
+    }
+
+    // What is kept of a label.
+    pub(crate) fn entry(&self, label: &Label) -> Option<&Entry>
+        ensures { option_map (λ e. e.now) result ≡ entry_in self.now label.now }
+    {
+        self.entries.get(label)
+    }
+
+    // Whether the target of a label is resolved.
+    pub(crate) fn has(&self, label: &Label) -> bool
+        ensures { result ≡ is_in self.now label.now }
+    {
+        self.entries.contains_key(label)
+    }
+
+    // The actions and copies to which the dependencies of a target lead; none where it isn't resolved.
+    pub(crate) fn hard(&self, label: &Label) -> &[Label]
+        ensures { result.now ≡ hard_at self.now label.now }
+    {
+        match self.entry(label) {
+            None => &[],
+            Some(entry) => entry.hard.as_slice(),
+        }
+    }
+
+    /// The record of a target, in the time of one look-up; None where it isn't resolved or no item has the label. It takes no memory.
+    pub fn get(&self, label: &Label) -> Option<&Record>
+        ensures { option_map (λ r. r.now) result ≡ known_in self.now label.now }
+    {
+        match self.entry(label) {
+            None => None,
+            Some(entry) => entry.known.as_ref(),
+        }
+    }
+
+    // Puts what is kept of a target with the others.
+    pub(crate) fn put(&mut self, label: Label, entry: Entry) -> Result<(), AllocError>
+        ensures { OnOk result (Updates eq-value.it self.old.entries self.new.entries label (Some entry)) }
+    {
+        self.entries.insert(label, entry)?;
+        Ok(())
+    }
+}
+
+impl HandedOn for Resolved {
+    ghost handed_on = { handed_in };
+
+    fn pushed(&self, label: &Label) -> &[Label] {
+        match self.entry(label) {
+            None => &[],
+            Some(entry) => entry.pushed.as_slice(),
+        }
+    }
+
+    fn pushed_public(&self, label: &Label) -> &[Label] {
+        match self.entry(label) {
+            None => &[],
+            Some(entry) => entry.pushed_public.as_slice(),
+        }
+    }
+}

@@ -1,0 +1,9 @@
+mod Sorted
+mod Settled
+mod Members
+mod Leading
+mod Reaching
+mod Faultless
+mod Handing
+mod Placing
+mod Inheriting

@@ -1,0 +1,4 @@
+pub mod Along
+pub mod Reached
+pub mod Inherited
+pub mod Laws

@@ -1,0 +1,3 @@
+pub mod Toolchains
+pub mod Frames
+pub mod Laws
