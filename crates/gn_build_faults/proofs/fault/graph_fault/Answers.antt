@@ -2,12 +2,11 @@ use Rattle.std.proofs.Common.{map}
 use Rattle.gn_basics.proofs.Results.{if_ok}
 use Rattle.gn_items.specs.declared.item.Item.{Item}
 use Rattle.gn_labelled.specs.Graphs.{shape_of}
-use Rattle.gn_build_faults.specs.Faults.{facts_in, target_fault}
+use Rattle.gn_build_faults.specs.Faults.{facts_in}
 use Rattle.gn_build_faults.proofs.Listed.{others_have_nothing}
-use Rattle.gn_build_faults.proofs.fault.fault_of.Goals as goal
+use Rattle.gn_build_faults.proofs.fault.graph_fault.Goals as goal
 
 pub returns : goal.returns
-unfolding target_fault
 returns c =
     let items = c.args.graph.now.items in
     let all = map (λ (item : Item). item.label) items in

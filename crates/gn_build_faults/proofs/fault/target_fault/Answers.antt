@@ -1,0 +1,12 @@
+use Rattle.std.proofs.Common.{◌∙◌}
+use Rattle.gn_basics.proofs.Results.{if_ok}
+use Rattle.gn_labelled.specs.Index.{lent}
+use Rattle.gn_toolchains.specs.Frames.{surroundings as given}
+use Rattle.gn_build_faults.proofs.Known.{told_of}
+use Rattle.gn_build_faults.proofs.fault.target_fault.Goals as goal
+
+pub returns : goal.returns
+returns c =
+    if_ok c.fault_of.result
+    (λ told is. is ∙ told_of (given c.args.surroundings) (lent c.args.items.now) c.in_ok-index_of.field-0 c.args.targets.now c.in_ok-frames.frames c.in_ok-index_of.ensures c.in_ok-frames.ensures)
+    c.fault_of.ensures

@@ -1,0 +1,190 @@
+// Outputs that are made twice.
+
+ghost use Rattle.std.specs.Prelude.{◌≡◌, ◌∷◌, ◌++◌, [], None, IfOk, OnOk, option_map, if◌then◌else◌};
+ghost use Rattle.gn_items.specs.Effects.{item_at};
+ghost use Rattle.gn_faults.specs.declared.code.Code.TheVariants.{SameOutput};
+ghost use Rattle.gn_records.specs.Around.{around};
+ghost use Rattle.gn_toolchains.specs.Frames.{has_text, with_text};
+ghost use Rattle.gn_build_faults.specs.Told.{fault_with as meant};
+ghost use Rattle.gn_build_faults.specs.Outputs.{made_around, with_texts, made_twice, shown, lesser, least_shown, twice_told, output_fault};
+
+use crate::told::fault_with;
+use gn_faults::{Code, Fault};
+use gn_items::Item;
+use gn_labelled::{ItemGraph, NoRecords};
+use gn_labels::Label;
+use gn_paths::{Path, Text, Texts, path_meant};
+use gn_records::{Context, made};
+use indexmap::IndexSet;
+use std::alloc::{AllocError, Global};
+use std::cmp::Ordering;
+
+/// What the file of a target makes, as the build directory sees it; nothing where there is no item.
+pub(crate) fn made_around(
+    alloc: Global,
+    context: &Context<'_>,
+    item: Option<&Item>,
+) -> Result<Texts, AllocError>
+    ensures { IfOk result (λ outs. outs ≡ made_around (around context.now) (option_map (λ i. i.now) item.entry)) }
+{
+    match item {
+        None => Ok(Texts::new(alloc)),
+        Some(item) => made(alloc, context, item),
+    }
+}
+
+// Puts an output with those that were seen. Whether it was seen before.
+fn see(alloc: Global, seen: &mut IndexSet<Text>, output: &Text) -> Result<bool, AllocError>
+    ensures seen { OnOk result (seen.new.keys ≡ with_text seen.old.keys output.now) }
+    ensures before { IfOk result (λ b. b ≡ has_text seen.old.keys output.now) }
+{
+    let before = seen.contains(output);
+    let text = output.copy(alloc)?;
+    seen.insert(text)?;
+    Ok(before)
+}
+
+// Puts a copy of a text behind others.
+fn push_copy(alloc: Global, texts: &mut Vec<Text>, text: &Text) -> Result<(), AllocError>
+    ensures { OnOk result (texts.new.items ≡ texts.old.items ++ text.now ∷ []) }
+{
+    let text = text.copy(alloc)?;
+    texts.push(text)?;
+    Ok(())
+}
+
+// Sees an output, and puts it behind those that are made twice where it was seen before.
+fn see_one(
+    alloc: Global,
+    seen: &mut IndexSet<Text>,
+    twice: &mut Vec<Text>,
+    output: &Text,
+) -> Result<(), AllocError>
+    ensures seen { OnOk result (seen.new.keys ≡ with_text seen.old.keys output.now) }
+    ensures twice { OnOk result (twice.new.items ≡ (if has_text seen.old.keys output.now then twice.old.items ++ output.now ∷ [] else twice.old.items)) }
+{
+    if see(alloc, seen, output)? {
+        return push_copy(alloc, twice, output);
+    }
+    Ok(())
+}
+
+// Sees outputs, one after the other.
+fn see_all(
+    alloc: Global,
+    seen: &mut IndexSet<Text>,
+    twice: &mut Vec<Text>,
+    outputs: &[Text],
+) -> Result<(), AllocError>
+    ensures seen { OnOk result (seen.new.keys ≡ with_texts seen.old.keys outputs.now) }
+    ensures twice { OnOk result (twice.new.items ≡ twice.old.items ++ made_twice seen.old.keys outputs.now) }
+{
+    for output in outputs {
+        see_one(alloc, seen, twice, output)?;
+    }
+    Ok(())
+}
+
+// An output as it is shown.
+fn shown(alloc: Global, build: &Path, output: &Text) -> Result<Text, AllocError>
+    ensures { IfOk result (λ text. text ≡ shown build.now output.now) }
+{
+    match path_meant(alloc, build, output.as_bytes())? {
+        Ok(path) => path.as_text().copy(alloc),
+        Err(_) => output.copy(alloc),
+    }
+}
+
+// The first in the order of their bytes of two texts.
+fn lesser(best: Option<Text>, text: Text) -> Text
+    ensures { result ≡ lesser best text }
+{
+    match best {
+        None => text,
+        Some(best) => match text.cmp(&best) {
+            Ordering::Less => text,
+            _ => best,
+        },
+    }
+}
+
+// The first in the order of their bytes of outputs as they are shown.
+fn least_shown(alloc: Global, build: &Path, outputs: &[Text]) -> Result<Option<Text>, AllocError>
+    ensures { IfOk result (λ least. least ≡ least_shown build.now None outputs.now) }
+{
+    let mut best: Option<Text> = None;
+    for output in outputs {
+        let text = shown(alloc, build, output)?;
+        best = Some(lesser(best, text));
+    }
+    Ok(best)
+}
+
+// Sees outputs, and finds the first of those that are made twice.
+fn least_twice(
+    alloc: Global,
+    build: &Path,
+    seen: &mut IndexSet<Text>,
+    outputs: &[Text],
+) -> Result<Option<Text>, AllocError>
+    ensures least { IfOk result (λ least. least ≡ least_shown build.now None (made_twice seen.old.keys outputs.now)) }
+    ensures seen { OnOk result (seen.new.keys ≡ with_texts seen.old.keys outputs.now) }
+{
+    let mut twice = Vec::new(alloc);
+    see_all(alloc, seen, &mut twice, outputs)?;
+    least_shown(alloc, build, twice.as_slice())
+}
+
+// A text alone.
+fn alone(alloc: Global, text: Text) -> Result<Texts, AllocError>
+    ensures { IfOk result (λ texts. texts ≡ text ∷ []) }
+{
+    let mut texts = Texts::new(alloc);
+    texts.push(text)?;
+    Ok(texts)
+}
+
+// The fault of an output that is made twice.
+fn told(
+    alloc: Global,
+    graph: &ItemGraph<'_, NoRecords>,
+    label: &Label,
+    output: Text,
+) -> Result<Fault, AllocError>
+    ensures { IfOk result (λ fault. fault ≡ meant graph.now.default.now graph.now.items label.now SameOutput (output ∷ [])) }
+{
+    let detail = alone(alloc, output)?;
+    fault_with(alloc, graph, label, Code::SameOutput, detail)
+}
+
+// The fault of an output that is made twice, if there is one.
+fn twice_told(
+    alloc: Global,
+    graph: &ItemGraph<'_, NoRecords>,
+    label: &Label,
+    output: Option<Text>,
+) -> Result<Option<Fault>, AllocError>
+    ensures { IfOk result (λ fault. fault ≡ twice_told graph.now.default.now graph.now.items label.now output) }
+{
+    match output {
+        None => Ok(None),
+        Some(output) => Ok(Some(told(alloc, graph, label, output)?)),
+    }
+}
+
+/// Sees the outputs of a target, and tells the first of those that are made twice.
+#[tactic(auto, unfolding(crate::specs::Outputs::output_fault))]
+pub(crate) fn output_fault(
+    alloc: Global,
+    graph: &ItemGraph<'_, NoRecords>,
+    build: &Path,
+    seen: &mut IndexSet<Text>,
+    outputs: &[Text],
+    label: &Label,
+) -> Result<Option<Fault>, AllocError>
+    ensures fault { IfOk result (λ fault. fault ≡ output_fault graph.now.default.now graph.now.items build.now seen.old.keys outputs.now label.now) }
+    ensures seen { OnOk result (seen.new.keys ≡ with_texts seen.old.keys outputs.now) }
+{
+    let output = least_twice(alloc, build, seen, outputs)?;
+    twice_told(alloc, graph, label, output)
+}

@@ -1,0 +1,3 @@
+pub mod UseLemmas
+pub mod WriteLemmas
+pub mod Sets
