@@ -2,25 +2,28 @@
 ghost use Rattle.std.specs.Prelude.{None};
 
 use gn_outside::{Sink, SinkStop};
-use std::io::Write;
+use std::io::{ErrorKind, Write};
 use std::rt::Files;
 use std::{fs, io};
 
+// The name under which a file is written, in the folder in which it will stand.
+const UNFINISHED: &str = ".gn-new";
+
 /// Standard output, and the files below the current folder.
 #[derive(Drop)]
-pub struct FileSink<R: Files + Print + Drop> {
+pub struct FileSink<R: Files + Print + Drop + AllocGlobal> {
     rt: R,
     faults: u64,
 }
 
-impl<R: Files + Print + Drop> FileSink<R> {
+impl<R: Files + Print + Drop + AllocGlobal> FileSink<R> {
     /// A sink that hasn't failed yet.
     pub fn new(rt: R) -> Self {
         FileSink { rt, faults: 0 }
     }
 }
 
-impl<R: Files + Print + Drop> Sink for FileSink<R> {
+impl<R: Files + Print + Drop + AllocGlobal> Sink for FileSink<R> {
     ghost state = { λ s. record { events = None; faults = s.faults } };
 
     fn say(&mut self, bytes: &[u8]) -> Result<(), SinkStop> {
@@ -39,18 +42,40 @@ impl<R: Files + Print + Drop> Sink for FileSink<R> {
         if self.faults == u64::MAX {
             return Err(SinkStop::Memory);
         }
-        if write_file(&self.rt, path.strip_prefix("//").unwrap_or(path), bytes).is_ok() {
-            return Ok(());
+        match write_file(&self.rt, path.strip_prefix("//").unwrap_or(path), bytes) {
+            Ok(()) => Ok(()),
+            Err(error) if error.kind() == ErrorKind::OutOfMemory => Err(SinkStop::Memory),
+            Err(_) => {
+                self.faults += 1;
+                Err(SinkStop::Failed)
+            }
         }
-        self.faults += 1;
-        Err(SinkStop::Failed)
     }
 }
 
 // Writes a file whole, and makes the folders above it where they are missing.
-fn write_file<R: Files>(rt: &R, name: &str, bytes: &[u8]) -> io::Result<()> {
-    if let Some((folder, _)) = name.rsplit_once('/') {
-        fs::create_dir_all(rt, folder)?;
+fn write_file<R: Files + AllocGlobal>(rt: &R, name: &str, bytes: &[u8]) -> io::Result<()> {
+    match name.rsplit_once('/') {
+        Some((folder, _)) => {
+            fs::create_dir_all(rt, folder)?;
+            let beside = format!(in rt.alloc(); "{folder}/{UNFINISHED}")?;
+            write_beside(rt, beside.as_str(), name, bytes)
+        }
+        None => write_beside(rt, UNFINISHED, name, bytes),
     }
-    fs::write(rt, name, bytes)
+}
+
+// Writes a file whole under the first name, and only then gives it the second one, under which so never stands a part of it.
+// A failure leaves no file under the first name, where that can be removed.
+fn write_beside<R: Files>(rt: &R, beside: &str, name: &str, bytes: &[u8]) -> io::Result<()> {
+    let written = write_and_rename(rt, beside, name, bytes);
+    if written.is_err() {
+        let _ = fs::remove_file(rt, beside);
+    }
+    written
+}
+
+fn write_and_rename<R: Files>(rt: &R, beside: &str, name: &str, bytes: &[u8]) -> io::Result<()> {
+    fs::write(rt, beside, bytes)?;
+    fs::rename(rt, beside, name)
 }

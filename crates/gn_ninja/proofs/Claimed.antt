@@ -1,12 +1,11 @@
 -- Claims are the same where the same names stand twice.
 use Rattle.std.proofs.Common.{◌≡◌, ℕ, Bool, not, ◌&&◌, List, [], ◌∷◌, ◌++◌, refl, ap, ◌∙◌}
 use Rattle.std.specs.List.{flat_map}
-use Rattle.gn_ninja.specs.declared.claims.Claimant.{Claimant}
 use Rattle.gn_ninja.specs.declared.claims.Class.{Class}
 use Rattle.gn_ninja.specs.declared.claims.Class.TheVariants.{OfRoot, OfItself, OnlyExecutable, OnlyTarget, WithDirectory, OfDirectory}
 use Rattle.gn_ninja.specs.declared.claims.TheConstants.{CLASSES}
 use Rattle.gn_ninja.specs.declared.claims.Repeated.{Repeated}
-use Rattle.gn_ninja.specs.Claims.{name_of, name_where, name_in, claim_to, claims_in, claims_of, is_one_of, stands_twice, names_of, executable_names, IsRepeated}
+use Rattle.gn_ninja.specs.Claims.{Claimant, name_of, name_where, name_in, claim_to, claims_in, claims_of, is_one_of, stands_twice, names_of, executable_names, IsRepeated}
 
 same_name : (e f t u : List ℕ → Bool) → ((q : List ℕ) → e q ≡ f q) → ((q : List ℕ) → t q ≡ u q) → (class : Class) (c : Claimant) → name_in e t class c ≡ name_in f u class c
 same_name e f t u p q OfRoot c = refl

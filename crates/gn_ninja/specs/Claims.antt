@@ -5,17 +5,28 @@ use Rattle.std.specs.Str.{bytes_eq}
 use Rattle.gn_paths.specs.Components.{two_slashes}
 use Rattle.gn_paths.specs.Parts.{file_of}
 use Rattle.gn_ninja.specs.declared.phony.Claim.{Claim}
-use Rattle.gn_ninja.specs.declared.claims.Claimant.{Claimant}
+use Rattle.gn_labels.specs.declared.label.Label.{Label}
+use Rattle.gn_ninja.specs.declared.claims.Claimant.{Claimant as Lent}
 use Rattle.gn_ninja.specs.declared.claims.Repeated.{Repeated}
 use Rattle.gn_ninja.specs.declared.claims.Class.{Class}
 use Rattle.gn_ninja.specs.declared.claims.Class.TheVariants.{OfRoot, OfItself, OnlyExecutable, OnlyTarget, WithDirectory, OfDirectory}
 use Rattle.gn_ninja.specs.declared.claims.TheConstants.{CLASSES}
 
+-- a generated target of the default toolchain, which may have names besides its done file
+pub record Claimant : Type 0 where
+  pub label : Label
+  pub is_executable : Bool
+  pub done : List ℕ
+
+-- the same, where it is lent
+abbrev pub claimant : Lent → Claimant
+claimant t = record { label = t.label.now; is_executable = t.is_executable; done = t.done.now }
+
 abbrev pub dir_of : Claimant → List ℕ
-dir_of t = t.label.now.dir
+dir_of t = t.label.dir
 
 abbrev pub name_of : Claimant → List ℕ
-name_of t = t.label.now.name
+name_of t = t.label.name
 
 -- a directory of the source tree without its `//`
 abbrev pub bare : List ℕ → List ℕ
@@ -52,7 +63,7 @@ name_in executables targets OfDirectory t = name_where (bytes_eq (file_of (dir_o
 -- the claim to a name
 abbrev pub claim_to : Claimant → Option (List ℕ) → List Claim
 claim_to t None = []
-claim_to t (Some name) = record { name = name; done = t.done.now } ∷ []
+claim_to t (Some name) = record { name = name; done = t.done } ∷ []
 
 -- the claims of a class, in the order of the targets
 abbrev pub claims_in : (executables targets : List ℕ → Bool) → List Claimant → Class → List Claim

@@ -1,11 +1,11 @@
 // Which names targets may have besides their done files.
 
-ghost use Rattle.std.specs.Prelude.{◌≡◌, ◌∷◌, [], ◌++◌, List, ℕ, Some, IfOk, OnOk};
+ghost use Rattle.std.specs.Prelude.{◌≡◌, ◌∷◌, [], ◌++◌, List, ℕ, Some, IfOk, OnOk, map};
 ghost use Rattle.std.specs.List.{flat_map};
 ghost use Rattle.std.specs.Str.{bytes_eq};
 ghost use Rattle.gn_text.specs.Names.{with_name};
 ghost use Rattle.gn_paths.specs.Parts.{file_of};
-ghost use Rattle.gn_ninja.specs.Claims.{AreNoted, IsRepeated, is_one_of, bare, stands_twice, names_of, executable_names, name_where, name_in, claim_to, claims_in, claims_of};
+ghost use Rattle.gn_ninja.specs.Claims.{claimant, AreNoted, IsRepeated, is_one_of, bare, stands_twice, names_of, executable_names, name_where, name_in, claim_to, claims_in, claims_of};
 
 use crate::phony::Claim;
 use gn_labels::Label;
@@ -81,7 +81,7 @@ fn note(once: &mut Names, again: &mut Names, name: &Text) -> Result<(), AllocErr
 // The names of the targets that stand more than once.
 #[tactic(auto, using(crate::proofs::Twice::nothing_noted))]
 fn repeated_targets(alloc: Global, targets: &[Claimant<'_>]) -> Result<Names, AllocError>
-    ensures { IfOk result (λ again. (q : List ℕ) → is_one_of again q ≡ stands_twice (names_of targets.now) q) }
+    ensures { IfOk result (λ again. (q : List ℕ) → is_one_of again q ≡ stands_twice (names_of (map claimant targets.now)) q) }
 {
     let mut once = Names::new(alloc);
     let mut again = Names::new(alloc);
@@ -97,7 +97,7 @@ fn note_executable(
     again: &mut Names,
     target: &Claimant<'_>,
 ) -> Result<(), AllocError>
-    ensures { OnOk result ((names : List (List ℕ)) → AreNoted names once.old again.old → AreNoted (names ++ executable_names (target.now ∷ [])) once.new again.new) }
+    ensures { OnOk result ((names : List (List ℕ)) → AreNoted names once.old again.old → AreNoted (names ++ executable_names (claimant target.now ∷ [])) once.new again.new) }
 {
     if target.is_executable {
         note(once, again, &target.label.name)
@@ -109,7 +109,7 @@ fn note_executable(
 // The names of the executables that stand more than once.
 #[tactic(auto, using(crate::proofs::Twice::nothing_noted))]
 fn repeated_executables(alloc: Global, targets: &[Claimant<'_>]) -> Result<Names, AllocError>
-    ensures { IfOk result (λ again. (q : List ℕ) → is_one_of again q ≡ stands_twice (executable_names targets.now) q) }
+    ensures { IfOk result (λ again. (q : List ℕ) → is_one_of again q ≡ stands_twice (executable_names (map claimant targets.now)) q) }
 {
     let mut once = Names::new(alloc);
     let mut again = Names::new(alloc);
@@ -121,7 +121,7 @@ fn repeated_executables(alloc: Global, targets: &[Claimant<'_>]) -> Result<Names
 
 // The names of targets and of executables that stand more than once.
 fn repeated_names(alloc: Global, targets: &[Claimant<'_>]) -> Result<Repeated, AllocError>
-    ensures { IfOk result (λ r. IsRepeated targets.now r) }
+    ensures { IfOk result (λ r. IsRepeated (map claimant targets.now) r) }
 {
     let of_targets = repeated_targets(alloc, targets)?;
     let of_executables = repeated_executables(alloc, targets)?;
@@ -174,7 +174,7 @@ fn name_in(
     class: Class,
     target: &Claimant<'_>,
 ) -> Result<Option<Text>, AllocError>
-    ensures { IfOk result (λ n. n ≡ name_in (is_one_of repeated.now.executables) (is_one_of repeated.now.targets) class target.now) }
+    ensures { IfOk result (λ n. n ≡ name_in (is_one_of repeated.now.executables) (is_one_of repeated.now.targets) class (claimant target.now)) }
 {
     let dir = target.label.dir.as_bytes();
     let name = target.label.name.as_bytes();
@@ -203,7 +203,7 @@ fn push_claim(
     target: &Claimant<'_>,
     name: Option<Text>,
 ) -> Result<(), AllocError>
-    ensures { OnOk result (claims.new.items ≡ claims.old.items ++ claim_to target.now name) }
+    ensures { OnOk result (claims.new.items ≡ claims.old.items ++ claim_to (claimant target.now) name) }
 {
     match name {
         Some(name) => push_named(alloc, claims, target, name),
@@ -233,7 +233,7 @@ fn add_class(
     class: Class,
     targets: &[Claimant<'_>],
 ) -> Result<(), AllocError>
-    ensures { OnOk result (claims.new.items ≡ claims.old.items ++ claims_in (is_one_of repeated.now.executables) (is_one_of repeated.now.targets) targets.now class) }
+    ensures { OnOk result (claims.new.items ≡ claims.old.items ++ claims_in (is_one_of repeated.now.executables) (is_one_of repeated.now.targets) (map claimant targets.now) class) }
 {
     for target in targets {
         let name = name_in(alloc, repeated, class, target)?;
@@ -250,7 +250,7 @@ fn add_classes(
     classes: &[Class],
     targets: &[Claimant<'_>],
 ) -> Result<(), AllocError>
-    ensures { OnOk result (claims.new.items ≡ claims.old.items ++ flat_map (claims_in (is_one_of repeated.now.executables) (is_one_of repeated.now.targets) targets.now) classes.now) }
+    ensures { OnOk result (claims.new.items ≡ claims.old.items ++ flat_map (claims_in (is_one_of repeated.now.executables) (is_one_of repeated.now.targets) (map claimant targets.now)) classes.now) }
 {
     for class in classes {
         add_class(alloc, claims, repeated, *class, targets)?;
@@ -262,7 +262,7 @@ fn add_classes(
 // has it.
 #[tactic(auto, using(crate::proofs::Claimed::claims_are))]
 pub(crate) fn claims_of(alloc: Global, targets: &[Claimant<'_>]) -> Result<Vec<Claim>, AllocError>
-    ensures { IfOk result (λ claims. claims.items ≡ claims_of targets.now) }
+    ensures { IfOk result (λ claims. claims.items ≡ claims_of (map claimant targets.now)) }
 {
     let repeated = repeated_names(alloc, targets)?;
     let mut claims = Vec::new(alloc);

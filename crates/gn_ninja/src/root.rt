@@ -2,9 +2,9 @@
 
 ghost use Rattle.std.specs.Prelude.{◌≡◌, OnOk, map};
 ghost use Rattle.gn_ninja.specs.Format.{with_block, with_blocks};
-ghost use Rattle.gn_ninja.specs.Claims.{claims_of};
+ghost use Rattle.gn_ninja.specs.Claims.{claimant, claims_of};
 ghost use Rattle.gn_ninja.specs.Taken.{taken_by};
-ghost use Rattle.gn_ninja.specs.Root.{version_block, pool_block, all_block, default_name, root_blocks};
+ghost use Rattle.gn_ninja.specs.Root.{version_block, pool_block, all_block, default_name, root_of, root_blocks};
 
 use crate::blocks::{append_bindings, append_build, append_default, append_pool, append_subninjas};
 use crate::claims::{Claimant, claims_of};
@@ -112,7 +112,7 @@ fn append_blocks(
     taken: &Names,
     claims: &[Claim],
 ) -> Result<(), AllocError>
-    ensures { OnOk result (text.new.items ≡ with_blocks text.old.items (root_blocks root.now taken.now claims.now)) }
+    ensures { OnOk result (text.new.items ≡ with_blocks text.old.items (root_blocks (root_of root.now) taken.now claims.now)) }
 {
     append_version(alloc, text)?;
     append_pools(alloc, text, root.pools.as_slice())?;
@@ -132,7 +132,7 @@ pub fn append_root(
     targets: &[&Written],
     claimants: &[Claimant<'_>],
 ) -> Result<(), AllocError>
-    ensures { OnOk result (text.new.items ≡ with_blocks text.old.items (root_blocks root.now (taken_by targets.now) (claims_of claimants.now))) }
+    ensures { OnOk result (text.new.items ≡ with_blocks text.old.items (root_blocks (root_of root.now) (taken_by (map (λ t. t.now) targets.now)) (claims_of (map claimant claimants.now)))) }
 {
     let taken = taken_by(alloc, targets)?;
     let claims = claims_of(alloc, claimants)?;

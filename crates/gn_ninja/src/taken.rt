@@ -33,7 +33,7 @@ fn take_made(alloc: Global, taken: &mut Names, target: &Written) -> Result<(), A
 // The names that are taken: `all`, and what build lines make.
 
 pub(crate) fn taken_by(alloc: Global, targets: &[&Written]) -> Result<Names, AllocError>
-    ensures { IfOk result (λ taken. taken ≡ taken_by targets.now) }
+    ensures { IfOk result (λ taken. taken ≡ taken_by (map (λ t. t.now) targets.now)) }
 {
     let mut taken = Names::new(alloc);
     taken.intern(b"all")?;

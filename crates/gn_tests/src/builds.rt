@@ -45,13 +45,13 @@ const DOTFILES: &str = builds! {
     "ls out",
         "//.gn": "buildconfig = \"//d/c.gn\"\nsecondary_source = \"//s\"",
         "//s/d/c.gn": "set_default_toolchain(\":t\")\nprint(target_gen_dir)",
-        "//s/d/BUILD.gn": "print(target_gen_dir)",
+        "//s/d/BUILD.gn": "print(target_gen_dir)\ntoolchain(\"t\") {\n}",
         "//BUILD.gn": "print(default_toolchain)",
         => 2 0 "//out/gen/d\n//d:t\n//out/gen/d\n";
     "ls out",
         "//.gn": "buildconfig = \"//d/c.gn\"\nsecondary_source = \"//s\"",
         "//d/c.gn": "set_default_toolchain(\":t\")",
-        "//d/BUILD.gn": "",
+        "//d/BUILD.gn": "toolchain(\"t\") {\n}",
         "//s/d/c.gn": "x = y",
         "//BUILD.gn": "",
         => 2 0 "";
@@ -78,7 +78,7 @@ const DOTFILES: &str = builds! {
         "//e.gni": "print(4)",
         "//z.gni": "print(5)",
         "//a.gni": "print(6)",
-        "//BUILD.gn": "print(7)\nimport(\"//a.gni\")",
+        "//BUILD.gn": "print(7)\nimport(\"//a.gni\")\ntoolchain(\"t\") {\n}",
         => 1 0 "1\n2\n3\n4\n5\n6\n7\n";
 };
 
@@ -90,11 +90,11 @@ const CONFIGURATIONS: &str = builds! {
         => 0 1 "ERROR at //b.gn:1:1: \"set_default_toolchain\" is missing.\n";
     "ls out",
         "//b.gn": "set_default_toolchain(\"//a:b(//c:d)\")\nset_default_toolchain(\":e\")\nprint(current_toolchain)",
-        "//BUILD.gn": "print(current_toolchain, default_toolchain)\ngroup(\"g\") {\n}",
+        "//BUILD.gn": "print(current_toolchain, default_toolchain)\ngroup(\"g\") {\n}\ntoolchain(\"e\") {\n  tool(\"stamp\") {\n    command = \"touch {{output}}\"\n  }\n}",
         => 1 0 "\n//:e //:e\n//:g\n";
     "ls out //:g(//a:b)",
         "//b.gn": "set_default_toolchain(\"//a:b(//c:d)\")",
-        "//a/BUILD.gn": "",
+        "//a/BUILD.gn": "toolchain(\"b\") {\n  tool(\"stamp\") {\n    command = \"touch {{output}}\"\n  }\n}",
         "//BUILD.gn": "print(get_label_info(\":g\", \"label_with_toolchain\"), root_out_dir)\ngroup(\"g\") {\n}",
         => 2 0 "//:g(//a:b) //out\n//:g\n";
     "ls out",
@@ -112,7 +112,7 @@ const CONFIGURATIONS: &str = builds! {
     "ls out",
         "//b.gn": "set_default_toolchain(\"//:t\")\nx = [ 1 ]\n_y = 2\ntemplate(\"t\") {\n  print(target_name, x)\n}\nset_defaults(\"t\") {\n  d = 1\n}",
         "//a.gni": "print(x)\nx += [ 2 ]",
-        "//BUILD.gn": "import(\"//a.gni\")\nprint(x, _y)\nt(\"n\") {\n  print(d)\n}",
+        "//BUILD.gn": "import(\"//a.gni\")\nprint(x, _y)\nt(\"n\") {\n  print(d)\n}\ntoolchain(\"t\") {\n}",
         => 1 0 "[1]\n[1, 2] 2\n1\nn [1]\n";
     "ls out",
         "//b.gn": "set_default_toolchain(\"//:t\")\ngroup(\"g\") {\n}",
@@ -121,13 +121,13 @@ const CONFIGURATIONS: &str = builds! {
     // Nothing that it sets has to be read.
     "ls out",
         "//b.gn": "set_default_toolchain(\"//:t\")\nx = 1",
-        "//BUILD.gn": "",
+        "//BUILD.gn": "toolchain(\"t\") {\n}",
         => 1 0 "";
     // Its imports are early: they see the built-in variables alone, and are kept apart.
     "ls out",
         "//b.gn": "set_default_toolchain(\"//:t\")\nx = 1\nimport(\"//a.gni\")",
         "//a.gni": "print(defined(x), host_os, root_build_dir)",
-        "//BUILD.gn": "import(\"//a.gni\")",
+        "//BUILD.gn": "import(\"//a.gni\")\ntoolchain(\"t\") {\n}",
         => 1 0 "false linux //out\ntrue linux //out\n";
     "ls out",
         "//b.gn": "import(\"//b.gn\")\nset_default_toolchain(\"//:t\")",
@@ -183,7 +183,7 @@ const ARGUMENTS: &str = builds! {
     "ls out",
         "//out/args.gn": "z = 1\nhost_os = \"h\"\nroot_out_dir = 1\na = 1\nx = 2",
         "//b.gn": "set_default_toolchain(\"//:t\")\ndeclare_args() {\n  x = 1\n}",
-        "//BUILD.gn": "print(x, host_os, root_out_dir)\ngroup(\"g\") {\n}",
+        "//BUILD.gn": "print(x, host_os, root_out_dir)\ngroup(\"g\") {\n}\ntoolchain(\"t\") {\n  tool(\"stamp\") {\n    command = \"touch {{output}}\"\n  }\n}",
         => 1 0 "2 h //out\nWARNING: The build argument \"a\" has no effect.\nWARNING: The build argument \"z\" has no effect.\n//:g\n";
     // It can't be read in its block.
     "ls out",
@@ -199,11 +199,11 @@ const ARGUMENTS: &str = builds! {
     "ls out --args=x=2",
         "//b.gn": "set_default_toolchain(\"//:t\")\nimport(\"//a.gni\")",
         "//a.gni": "declare_args() {\n  x = 1\n}",
-        "//BUILD.gn": "import(\"//a.gni\")\nprint(x)",
+        "//BUILD.gn": "import(\"//a.gni\")\nprint(x)\ntoolchain(\"t\") {\n}",
         => 1 0 "2\n";
     // Faults of the build come first, then those of the pattern.
     "ls out b",
-        "//BUILD.gn": "declare_args() {\n  x = 1\n}",
+        "//BUILD.gn": "declare_args() {\n  x = 1\n}\ntoolchain(\"t\") {\n}",
         "//b.gn": "set_default_toolchain(\"//:t\")\ndeclare_args() {\n  x = 1\n}",
         => 1 1 "ERROR at //b.gn:3:5: Duplicate build argument \"x\".\n";
     "ls out",

@@ -38,9 +38,9 @@ fn put(tree: &mut Tree, file: &str) -> Result<(), AllocError> {
     }
 }
 
-// The build file that defines the default toolchain.
+// The build file that defines the default toolchain, with a tool for each kind of target.
 const TOOLCHAIN: &[u8] =
-    b"toolchain(\"t\") {\n  tool(\"stamp\") {\n    command = \"touch {{output}}\"\n  }\n}\n";
+    b"toolchain(\"t\") {\n  tool(\"cc\") {\n    command = \"cc {{source}} {{output}}\"\n    outputs = [ \"{{source_out_dir}}/{{source_name_part}}.o\" ]\n  }\n  tool(\"cxx\") {\n    command = \"cxx {{source}} {{output}}\"\n    outputs = [ \"{{source_out_dir}}/{{source_name_part}}.o\" ]\n  }\n  tool(\"alink\") {\n    command = \"ar {{output}}\"\n    outputs = [ \"{{target_out_dir}}/{{target_output_name}}.a\" ]\n  }\n  tool(\"solink\") {\n    command = \"ld {{output}}\"\n    outputs = [ \"{{root_out_dir}}/{{target_output_name}}.so\" ]\n  }\n  tool(\"solink_module\") {\n    command = \"ld {{output}}\"\n    outputs = [ \"{{root_out_dir}}/{{target_output_name}}.so\" ]\n  }\n  tool(\"link\") {\n    command = \"ld {{output}}\"\n    outputs = [ \"{{root_out_dir}}/{{target_output_name}}\" ]\n  }\n  tool(\"stamp\") {\n    command = \"touch {{output}}\"\n  }\n  tool(\"copy\") {\n    command = \"cp {{source}} {{output}}\"\n  }\n}\n";
 
 /// A tree with a dotfile, a build configuration that names its default toolchain and nothing else, and the build file that
 /// defines this toolchain.

@@ -1,9 +1,7 @@
 -- What a run over one source has said and read.
-use Rattle.std.specs.declared.sync.Arc.{Arc}
-use Rattle.std.specs.declared.alloc.Global.{Global}
 use Rattle.std.proofs.Common.{◌≡◌, ℕ, ◌≤◌, List, [], ◌∷◌, ◌++◌, refl, sym, ap, ◌∙◌, subst, append_assoc, append-nil, codes, inl, ⊎_elim, arith}
 use Rattle.std.proofs.Math.Seq.{drop-append_seam}
-use Rattle.std.specs.Prelude.{Option, None, Some, Result, Ok, Err, IfOk, IsSome, true}
+use Rattle.std.specs.Prelude.{Option, None, Some, Result, Ok, Err, IfOk, IsSome, true, decimal}
 use Rattle.std.specs.List.{IsDistinct}
 use Rattle.std.specs.declared.cmp.Ordering.TheVariants.{Equal}
 use Rattle.std.specs.Ordering.{nat_cmp}
@@ -20,14 +18,15 @@ use Rattle.gn_builds.specs.Driving.{FailsAt}
 use Rattle.gn_top.specs.declared.answered.Answered.{Answered}
 use Rattle.gn_top.specs.declared.answered.RunStop.{RunStop}
 use Rattle.gn_top.specs.declared.answered.RunStop.TheVariants.{CannotRead, Memory}
-use Rattle.gn_top.specs.declared.building.Build.{Build as BuildCode}
+use Rattle.gn_top.specs.declared.faultless.Faultless.{Faultless}
 use Rattle.gn_top.specs.declared.building.BuildEnd.{BuildEnd}
 use Rattle.gn_top.specs.declared.building.BuildEnd.TheVariants as build_end
 use Rattle.gn_top.specs.declared.building.Failure.{Failure as FailureCode}
-use Rattle.gn_top.specs.Stages.{Build}
-use Rattle.gn_top.specs.Said.{Said, build_said, loaded_said, pattern_asked, warning}
+use Rattle.gn_top.specs.Stages.{Request, Build}
+use Rattle.gn_top.specs.Texts.{done_line}
+use Rattle.gn_top.specs.Said.{Said, Wanted, Labels, Files, build_said, wanted_said, loaded_said, pattern_asked, warning}
 use Rattle.gn_top.specs.Steps.{IsSaying, IfCannotRead}
-use Rattle.gn_top.specs.Building.{shared_view, SaysEnd, SaysFault, ReadsOf}
+use Rattle.gn_top.specs.Building.{faultless_view, SaysEnd, SaysFault, ReadsOf}
 
 -- a source that tells its tree is all that tells it
 pub told_by_one : (result : Result Answered RunStop) (before : SourceState) (meaning : Tree → Said) → IfOk result (λ a. (tree : Tree) → before.tree ≡ Some tree → IsSaying a (meaning tree))
@@ -113,28 +112,33 @@ module _ (before after : SourceState) where
 
 -- What is said of the end of a build
 
-pub built_says : (a : Answered) (pattern : Option (List ℕ)) (build : Arc BuildCode Global) → IsSaying a (build_said (pattern_asked pattern) (shared_view build)) → SaysEnd a pattern (build_end.Built build)
-built_says a pattern build says meaning is = subst (λ (m : Result Build Failure). IsSaying a (loaded_said pattern m)) (sym is) says
+module _ (wanted : Wanted) (request : Request) where
+  pub built_says : (a : Answered) (build : Faultless) → IsSaying a (wanted_said wanted request (faultless_view build)) → SaysEnd a wanted request (build_end.Built build)
+  built_says a build says meaning is = subst (λ (m : Result Build Failure). IsSaying a (loaded_said wanted request m)) (sym is) says
 
-pub failed_says : (a : Answered) (pattern : Option (List ℕ)) (failure : FailureCode) → SaysFault a failure.fault failure.units → SaysEnd a pattern (build_end.Failed failure)
-failed_says a pattern failure says meaning (units, is, count) = subst (λ (m : Result Build Failure). IsSaying a (loaded_said pattern m)) (sym is) (says units count)
+  pub failed_says : (a : Answered) (failure : FailureCode) → SaysFault a failure.fault failure.units → SaysEnd a wanted request (build_end.Failed failure)
+  failed_says a failure says meaning (units, is, count) = subst (λ (m : Result Build Failure). IsSaying a (loaded_said wanted request m)) (sym is) (says units count)
 
-pub built_ends : {E : Type 0} (r : Result Answered E) (pattern : Option (List ℕ)) (end : BuildEnd) (build : Arc BuildCode Global) → end ≡ build_end.Built build → IfOk r (λ a. IsSaying a (build_said (pattern_asked pattern) (shared_view build))) → IfOk r (λ a. SaysEnd a pattern end)
-built_ends (Ok a) pattern end build is says = subst (λ (e : BuildEnd). SaysEnd a pattern e) (sym is) (built_says a pattern build says)
-built_ends (Err e) pattern end build is says = tt
+  pub built_ends : {E : Type 0} (r : Result Answered E) (end : BuildEnd) (build : Faultless) → end ≡ build_end.Built build → IfOk r (λ a. IsSaying a (wanted_said wanted request (faultless_view build))) → IfOk r (λ a. SaysEnd a wanted request end)
+  built_ends (Ok a) end build is says = subst (λ (e : BuildEnd). SaysEnd a wanted request e) (sym is) (built_says a build says)
+  built_ends (Err e) end build is says = tt
 
-pub failed_ends : {E : Type 0} (r : Result Answered E) (pattern : Option (List ℕ)) (end : BuildEnd) (failure : FailureCode) → end ≡ build_end.Failed failure → IfOk r (λ a. SaysFault a failure.fault failure.units) → IfOk r (λ a. SaysEnd a pattern end)
-failed_ends (Ok a) pattern end failure is says = subst (λ (e : BuildEnd). SaysEnd a pattern e) (sym is) (failed_says a pattern failure says)
-failed_ends (Err e) pattern end failure is says = tt
+  pub failed_ends : {E : Type 0} (r : Result Answered E) (end : BuildEnd) (failure : FailureCode) → end ≡ build_end.Failed failure → IfOk r (λ a. SaysFault a failure.fault failure.units) → IfOk r (λ a. SaysEnd a wanted request end)
+  failed_ends (Ok a) end failure is says = subst (λ (e : BuildEnd). SaysEnd a wanted request e) (sym is) (failed_says a failure says)
+  failed_ends (Err e) end failure is says = tt
 
 -- whether a pattern is asked for or not
 build_range : (a : Answered) (pattern : Result (Option Pattern) PatternFault) (build : Build) → IsSaying a (build_said pattern build) → a.status ≤ 1
 build_range a (Ok pattern) build says = let is = says.status in omega (arith, is)
 build_range a (Err fault) build says = let is = says.status in omega (arith, is)
 
-pub end_range : (a : Answered) (pattern : Option (List ℕ)) (end : BuildEnd) → SaysEnd a pattern end → a.status ≤ 1
-end_range a pattern (build_end.Built build) says = build_range a (pattern_asked pattern) (shared_view build) (says (Ok (shared_view build)) refl)
-end_range a pattern (build_end.Failed failure) says =
+wanted_range : (a : Answered) (wanted : Wanted) (request : Request) (build : Build) → IsSaying a (wanted_said wanted request build) → a.status ≤ 1
+wanted_range a (Labels pattern) request build says = build_range a (pattern_asked pattern) build says
+wanted_range a Files request build says = let is = says.status in omega (arith, is)
+
+pub end_range : (a : Answered) (wanted : Wanted) (request : Request) (end : BuildEnd) → SaysEnd a wanted request end → a.status ≤ 1
+end_range a wanted request (build_end.Built build) says = wanted_range a wanted request (faultless_view build) (says (Ok (faultless_view build)) refl)
+end_range a wanted request (build_end.Failed failure) says =
     let is = (says (Err (record { fault = failure.fault; units = Exactly failure.units })) (Exactly failure.units, refl, refl)).status in omega (arith, is)
 
 -- The warning of an argument
@@ -149,6 +153,30 @@ warned start one two three all name first second third last =
     ∙ ap (λ (x : List ℕ). x ++ 10 ∷ [])
     (third ∙ ap (λ (x : List ℕ). x ++ codes "\" has no effect.") (second ∙ ap (λ (x : List ℕ). x ++ name) first))
     ∙ all_joined start (codes "WARNING: The build argument \"") name (codes "\" has no effect.") (10 ∷ [])
+
+-- The last line of a build
+
+three_joined : (a d t m f l : List ℕ) → ((a ++ (d ++ t)) ++ (m ++ f)) ++ l ≡ a ++ (d ++ (t ++ (m ++ (f ++ l))))
+three_joined a d t m f l =
+    append_assoc (a ++ (d ++ t)) (m ++ f) l ∙ append_assoc a (d ++ t) ((m ++ f) ++ l)
+    ∙ ap (λ (x : List ℕ). a ++ x) (append_assoc d t ((m ++ f) ++ l) ∙ ap (λ (x : List ℕ). d ++ (t ++ x)) (append_assoc m f l))
+
+-- a newline at the end of them all
+line_behind : (targets files : ℕ) → codes "Done. Made " ++ (decimal targets ++ (codes " targets from " ++ (decimal files ++ (codes " files" ++ 10 ∷ [])))) ≡ done_line targets files
+unfolding done_line
+line_behind targets files = sym (
+    append_assoc (codes "Done. Made ") (decimal targets ++ (codes " targets from " ++ (decimal files ++ codes " files"))) (10 ∷ [])
+    ∙ ap (λ (x : List ℕ). codes "Done. Made " ++ x) (
+    append_assoc (decimal targets) (codes " targets from " ++ (decimal files ++ codes " files")) (10 ∷ [])
+    ∙ ap (λ (x : List ℕ). decimal targets ++ x) (
+    append_assoc (codes " targets from ") (decimal files ++ codes " files") (10 ∷ [])
+    ∙ ap (λ (x : List ℕ). codes " targets from " ++ x) (append_assoc (decimal files) (codes " files") (10 ∷ [])))))
+
+pub done_told : (start one two all : List ℕ) (targets files : ℕ) → one ≡ start ++ (codes "Done. Made " ++ decimal targets) → two ≡ one ++ (codes " targets from " ++ decimal files) → all ≡ two ++ (codes " files" ++ 10 ∷ []) → all ≡ start ++ done_line targets files
+unfolding done_line
+done_told start one two all targets files first second third =
+    third ∙ ap (λ (x : List ℕ). x ++ (codes " files" ++ 10 ∷ [])) (second ∙ ap (λ (x : List ℕ). x ++ (codes " targets from " ++ decimal files)) first)
+    ∙ three_joined start (codes "Done. Made ") (decimal targets) (codes " targets from ") (decimal files) ((codes " files" ++ 10 ∷ [])) ∙ ap (λ (x : List ℕ). start ++ x) (line_behind targets files)
 
 -- How many build files are loaded
 

@@ -4,6 +4,6 @@ pub mod FirstLemmas
 pub mod JoinedReads
 pub mod KnownPaths
 pub mod PartReads
-pub mod RepeatedLemmas
 pub mod RunLemmas
 pub mod StageLemmas
+pub mod NinjaLemmas

@@ -1,38 +1,92 @@
 -- How the end of a run follows from its steps.
-use Rattle.std.proofs.Common.{◌≡◌, ◌⊎◌, inl, inr, ⊎_elim, ℕ, ◌<◌, ◌≤◌, ◌+◌, List, [], ◌∷◌, ◌++◌, take, refl, sym, ap, ◌∙◌, arith, append-nil, map, length, drop}
+use Rattle.std.proofs.Common.{◌≡◌, ◌⊎◌, inl, inr, ⊎_elim, ℕ, zero, suc, ◌<◌, ◌≤◌, ◌+◌, List, [], ◌∷◌, ◌++◌, take, refl, sym, ap, ◌∙◌, subst, arith, append-nil, append_assoc, map, length, drop}
 use Rattle.std.specs.Prelude.{Option, None, Some, option_map}
-use Rattle.std.proofs.Math.Seq.{drop-length}
+use Rattle.std.proofs.Math.Seq.{drop-length, take-length}
 use Rattle.std.specs.Prelude.{slice_set, slice_index_or}
-use Rattle.gn_outside.specs.States.{SourceRead, SourceState, SinkState, PutFile, SaidPiece, Put, piece_of, paths_of}
-use Rattle.gn_top.specs.Said.{Said}
+use Rattle.gn_outside.specs.States.{SourceRead, SourceState, SinkState, SinkEvent, PutFile, SaidPiece, Put, piece_of, paths_of}
+use Rattle.gn_top.specs.Said.{Said, usage_said}
+use Rattle.gn_top.specs.Steps.{IsSaying, SaysUnder, TellsUnder}
+use Rattle.gn_top.specs.declared.answered.Answered.{Answered}
 use Rattle.gn_outside.specs.Lists.{EachPair, SomePair, Extends}
 use Rattle.gn_outside.specs.Sources.{AllTellReads, total_faults, FailedAt, IsLeastFailure, reads_since, joined_reads, ReadsOn}
-use Rattle.gn_top.specs.Texts.{cannot_read_line}
-use Rattle.gn_top.specs.Run.{EndsAs, SaysPart, TellsPart, IsCutShort, CutsFailure, CannotRead, EndsWithUsage}
+use Rattle.gn_top.specs.Texts.{usage_line, cannot_read_line}
+use Rattle.gn_top.specs.Run.{EndsAs, SaysPart, TellsPartOf, TellsPart, IsCutShort, CutsFailure, CannotRead, EndsWithUsage}
 
 pub nothing_more : {X : Type 0} (before after : Option (List X)) → after ≡ before → Extends before after []
 nothing_more None after same = same
 nothing_more (Some xs) after same = same ∙ ap (λ (ys : List _). Some ys) (sym (append-nil xs))
 
--- a meaning without files tells its text alone
-pub ends_as : (meaning : Said) (text : List ℕ) (status wanted : ℕ) (sink after : SinkState) → text ≡ meaning.text → meaning.files ≡ [] → wanted ≡ meaning.status → status ≡ wanted
-    → Extends sink.events after.events (piece_of text) → EndsAs meaning sink after status
-ends_as meaning text status wanted sink after same none at under told = record {
+-- a meaning tells its files and then its text
+pub ends_as : (meaning : Said) (files : List PutFile) (text : List ℕ) (status wanted : ℕ) (sink after : SinkState) → text ≡ meaning.text → files ≡ meaning.files → wanted ≡ meaning.status → status ≡ wanted
+    → Extends sink.events after.events (map Put files ++ piece_of text) → EndsAs meaning sink after status
+ends_as meaning files text status wanted sink after same put at under told = record {
   same_status = under ∙ at;
-  events = told ∙ ap (λ (t : List ℕ). option_map (λ xs. xs ++ piece_of t) sink.events) same
-      ∙ ap (λ (files : List PutFile). option_map (λ xs. xs ++ (map Put files ++ piece_of meaning.text)) sink.events) (sym none);
+  events = told ∙ ap (λ (t : List ℕ). option_map (λ xs. xs ++ (map Put files ++ piece_of t)) sink.events) same
+      ∙ ap (λ (fs : List PutFile). option_map (λ xs. xs ++ (map Put fs ++ piece_of meaning.text)) sink.events) put;
 }
 
-pub cut_answer : (meaning : Said) (text : List ℕ) (sources now : List SourceState) (sink after : SinkState) → text ≡ meaning.text → meaning.files ≡ [] → SaysPart sink after text
-    → IsCutShort meaning sources now sink after
-cut_answer meaning text sources now sink after same none (inl nothing) = record { told = inl (inl (0, nothing_more sink.events after.events nothing)) }
-cut_answer meaning text sources now sink after same none (inr (n, part)) = record {
-  told = inl (inr (
-    n,
-    part ∙ ap (λ (t : List ℕ). option_map (λ xs. xs ++ SaidPiece (take n t) ∷ []) sink.events) same
-        ∙ ap (λ (files : List PutFile). option_map (λ xs. xs ++ (map Put files ++ SaidPiece (take n meaning.text) ∷ [])) sink.events) (sym none),
-  ));
+pub cut_answer : (meaning : Said) (files : List PutFile) (text : List ℕ) (sources now : List SourceState) (sink after : SinkState) → text ≡ meaning.text → files ≡ meaning.files
+    → TellsPartOf files text sink after → IsCutShort meaning sources now sink after
+cut_answer meaning files text sources now sink after same put part = record {
+  told = inl (subst (λ (fs : List PutFile). TellsPartOf fs meaning.text sink after) put (subst (λ (t : List ℕ). TellsPartOf files t sink after) same part));
 }
+
+-- Files, and then a text
+
+extends_more : {X : Type 0} (before after last : Option (List X)) (xs ys : List X) → Extends before after xs → Extends after last ys → Extends before last (xs ++ ys)
+extends_more None after last xs ys first second = second ∙ ap (λ (o : Option (List _)). option_map (λ zs. zs ++ ys) o) first
+extends_more (Some zs) after last xs ys first second = second ∙ ap (λ (o : Option (List _)). option_map (λ zs. zs ++ ys) o) first ∙ ap (λ (ws : List _). Some ws) (append_assoc zs xs ys)
+
+part_behind : (before mid after : SinkState) (files : List PutFile) (text : List ℕ) → Extends before.events mid.events (map Put files) → SaysPart mid after text → TellsPartOf files text before after
+part_behind before mid after files text put (inl nothing) = inl (length files, nothing ∙ put ∙ ap (λ (fs : List PutFile). option_map (λ xs. xs ++ map Put fs) before.events) (sym (take-length files)))
+part_behind before mid after files text put (inr (n, part)) = inr (n, extends_more before.events mid.events after.events (map Put files) (SaidPiece (take n text) ∷ []) put part)
+
+-- all files were put before the text
+pub told_behind : (before mid after : SinkState) (files : List PutFile) (text : List ℕ) (wanted status : ℕ) → Extends before.events mid.events (map Put files) → mid.faults ≡ before.faults
+    → SaysUnder mid after text wanted status → TellsUnder before after files text wanted status
+told_behind before mid after files text wanted status put same says = record {
+  range = says.range;
+  whole = λ few. let whole = says.whole few in (whole.0, extends_more before.events mid.events after.events (map Put files) (piece_of text) put whole.1, whole.2 ∙ same);
+  failed = λ four. subst (λ (n : ℕ). n < after.faults) same (says.failed four);
+  part = λ stopped. part_behind before mid after files text put (says.part stopped);
+}
+
+-- some couldn't be put
+pub not_put : (before after : SinkState) (files : List PutFile) (text : List ℕ) (wanted status : ℕ) → 4 ≤ status → status ≤ 5 → (n : ℕ) × Extends before.events after.events (map Put (take n files))
+    → (status ≡ 4 → before.faults < after.faults) → TellsUnder before after files text wanted status
+not_put before after files text wanted status stopped range part failed = record {
+  range = range;
+  whole = λ few. absurd (omega (arith, few, stopped));
+  failed = failed;
+  part = λ _. inl part;
+}
+
+-- The usage line
+
+as_before : {X : Type 0} (events : Option (List X)) → option_map (λ xs. xs ++ []) events ≡ events
+as_before None = refl
+as_before (Some xs) = ap (λ (ys : List _). Some ys) (append-nil xs)
+
+none_of_none : (n : ℕ) → map Put (take n []) ≡ []
+none_of_none zero = refl
+none_of_none (suc n) = refl
+
+usage_part : (before after : SinkState) (text : List ℕ) → TellsPartOf [] text before after → SaysPart before after text
+usage_part before after text (inl (n, part)) = inl (part ∙ ap (λ (es : List SinkEvent). option_map (λ xs. xs ++ es) before.events) (none_of_none n) ∙ as_before before.events)
+usage_part before after text (inr (n, part)) = inr (n, part)
+
+-- an answer that is the usage line was told
+pub ends_with_usage : (s t : SourceState) (sink after : SinkState) (a : Answered) (status : ℕ) → t ≡ s → IsSaying a usage_said → TellsUnder sink after a.files a.text.items a.status status
+    → EndsWithUsage (s ∷ []) (t ∷ []) sink after status a.units
+ends_with_usage s t sink after a status same says told =
+    let plain : TellsUnder sink after [] usage_line a.status status =
+    subst (λ (fs : List PutFile). TellsUnder sink after fs usage_line a.status status) says.files (subst (λ (text : List ℕ). TellsUnder sink after a.files text a.status status) says.text told) in
+    record {
+      nothing_read = ap (λ (u : SourceState). u ∷ []) same;
+      no_units = says.units;
+      whole = λ few. let whole = plain.whole few in (whole.0 ∙ says.status, whole.1);
+      part = λ stopped. usage_part sink after usage_line (plain.part stopped);
+    }
 
 -- nothing has been told
 pub cut_at_once : (meaning : Said) (sources now : List SourceState) (sink : SinkState) → IsCutShort meaning sources now sink sink

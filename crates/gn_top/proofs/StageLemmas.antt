@@ -20,7 +20,7 @@ use Rattle.gn_load.specs.declared.built.Built.{Built}
 use Rattle.gn_load.specs.declared.plain.LoadEnd.{LoadEnd}
 use Rattle.gn_load.specs.declared.plain.LoadEnd.TheVariants as load_end
 use Rattle.gn_top.specs.Hosts.{HostTexts}
-use Rattle.gn_top.specs.Stages.{Request, First, Build, first_said, first_paths, configuration_base, files_behind, without_fault, graph_judged, behind_loading, behind_first, loaded, IsAskedBehind, IsReadFor}
+use Rattle.gn_top.specs.Stages.{Request, First, Build, first_said, first_paths, configuration_base, files_behind, surroundings_of, without_fault, graph_judged, behind_loading, behind_first, loaded, IsAskedBehind, IsReadFor}
 use Rattle.gn_top.specs.GraphFaults.{graph_fault}
 use Rattle.gn_top.specs.Steps.{IfCannotRead, CountsFault}
 use Rattle.gn_top.specs.declared.answered.RunStop.{RunStop}
@@ -43,18 +43,19 @@ module _ (host : HostTexts) (request : Request) (tree : Tree) (first : First) wh
   files = files_behind host request tree first
 
   -- a build that was loaded
-  pub built_is : (built : Built) (units : ℕ) (end : BuildEnd) → IsEndOf base (first_paths host request tree) tree (load_end.Built built) units
-      → IsBuild end (graph_judged (record { first = first; loaded = build_of built; files = units })) → IsBuild end (behind_first host request tree (Ok first))
-  built_is built units end is judged =
-      subst (λ (r : Result Loaded Failure). IsBuild end (behind_loading first files r)) (sym is.0)
-      (subst (λ (n : ℕ). IsBuild end (graph_judged (record { first = first; loaded = build_of built; files = n }))) is.1 judged)
+  pub built_is : (directory : List ℕ) (built : Built) (units : ℕ) (end : BuildEnd) → directory ≡ request.directory → IsEndOf base (first_paths host request tree) tree (load_end.Built built) units
+      → IsBuild end (graph_judged (record { directory = directory; first = first; loaded = build_of built; files = units })) → IsBuild end (behind_first host request tree (Ok first))
+  built_is directory built units end same is judged =
+      subst (λ (r : Result Loaded Failure). IsBuild end (behind_loading request.directory first files r)) (sym is.0)
+      (subst (λ (n : ℕ). IsBuild end (graph_judged (record { directory = request.directory; first = first; loaded = build_of built; files = n }))) is.1
+      (subst (λ (d : List ℕ). IsBuild end (graph_judged (record { directory = d; first = first; loaded = build_of built; files = units }))) same judged))
 
   -- its error
   pub wrong_is : (fault : Fault) (units : ℕ) → IsEndOf base (first_paths host request tree) tree (load_end.Wrong fault) units
       → IsBuild (build_end.Failed (record { fault = fault; units = units })) (behind_first host request tree (Ok first))
   wrong_is fault units (failure, is, same, count) = (
     failure.units,
-    ap (behind_loading first files) is ∙ ap (λ f. Err (record { fault = f; units = failure.units })) same,
+    ap (behind_loading request.directory first files) is ∙ ap (λ f. Err (record { fault = f; units = failure.units })) same,
     count,
   )
 
@@ -75,11 +76,11 @@ known_same paths known knows path = (λ one. elim ((knows path).0 one) [ inl non
 
 -- The third stage
 
-pub judged_fault : (build : Build) (fault : Fault) (units : ℕ) → graph_fault build.loaded ≡ Some fault → units ≡ build.files
+pub judged_fault : (build : Build) (fault : Fault) (units : ℕ) → graph_fault (surroundings_of build) build.loaded ≡ Some fault → units ≡ build.files
     → IsBuild (build_end.Failed (record { fault = fault; units = units })) (graph_judged build)
 judged_fault build fault units is all = (Exactly build.files, ap (without_fault build) is, all)
 
-pub judged_right : (build : Build) → graph_fault build.loaded ≡ None → graph_judged build ≡ Ok build
+pub judged_right : (build : Build) → graph_fault (surroundings_of build) build.loaded ≡ None → graph_judged build ≡ Ok build
 judged_right build is = ap (without_fault build) is
 
 -- The meaning of a build behind its first stage

@@ -1,8 +1,5 @@
 -- What is made of a build, as its meaning sees it.
 use Rattle.std.specs.Prelude.{◌≡◌, ◌⊎◌, ◌↔◌, ℕ, List, [], ◌∷◌, ◌++◌, Option, option_map, Some, Result, Ok, Err}
-use Rattle.std.specs.declared.sync.Arc.{Arc}
-use Rattle.std.specs.declared.alloc.Global.{Global}
-use Rattle.std.specs.Arc.{arc_value}
 use Rattle.gn_outside.specs.Tree.{Tree}
 use Rattle.gn_outside.specs.States.{SourceRead, SourceState, paths_of}
 use Rattle.gn_outside.specs.Lists.{AllDiffer, Each, OneOf}
@@ -16,15 +13,17 @@ use Rattle.gn_executions.specs.Dotfile.{DotfileState}
 use Rattle.gn_unit.specs.Alone.{dotfile_state}
 use Rattle.gn_projects.specs.Loaded.{UnitCount, Failure, IsCount}
 use Rattle.gn_builds.specs.Driving.{FailsAt}
-use Rattle.gn_load.specs.Ends.{build_of}
 use Rattle.gn_load.specs.Setups.{given_base}
 use Rattle.gn_load.specs.declared.answer.FileContent.{FileContent}
 use Rattle.gn_load.specs.declared.plain.LoadEnd.{LoadEnd}
 use Rattle.gn_load.specs.declared.plain.LoadEnd.TheVariants as load_end
 use Rattle.gn_top.specs.Hosts.{HostTexts}
 use Rattle.gn_top.specs.Stages.{Request, First, Build, IsReadFor, configuration_base}
-use Rattle.gn_top.specs.Said.{failure_said, loaded_said}
+use Rattle.gn_top.specs.Said.{failure_said, Wanted, Labels, Files, loaded_said}
+use Rattle.gn_top.specs.declared.answer.Wanted.{Wanted as WantedCode}
+use Rattle.gn_top.specs.declared.answer.Wanted.TheVariants as wanted
 use Rattle.gn_top.specs.Steps.{IsSaying, IfCannotRead, CountsFault}
+pub use Rattle.gn_top.specs.Views.{started_view, build_view, shared_view}
 use Rattle.gn_top.specs.declared.answered.Answered.{Answered}
 use Rattle.gn_top.specs.declared.answered.RunStop.{RunStop}
 use Rattle.gn_top.specs.declared.answered.RunStop.TheVariants.{CannotRead, Memory}
@@ -38,7 +37,7 @@ use Rattle.gn_top.specs.declared.first.ArgumentsEnd.TheVariants as arguments_end
 use Rattle.gn_top.specs.declared.first.FirstEnd.{FirstEnd}
 use Rattle.gn_top.specs.declared.first.FirstEnd.TheVariants as first_end
 use Rattle.gn_top.specs.declared.building.Started.{Started}
-use Rattle.gn_top.specs.declared.building.Build.{Build as BuildCode}
+use Rattle.gn_top.specs.declared.faultless.Faultless.{Faultless}
 use Rattle.gn_top.specs.declared.building.BuildEnd.{BuildEnd}
 use Rattle.gn_top.specs.declared.building.BuildEnd.TheVariants as build_end
 
@@ -51,21 +50,14 @@ outer_view outer = record { os = outer.names.os; cpu = outer.names.cpu; root = o
 abbrev pub first_view : FirstCode → First
 first_view first = record { dotfile = dotfile_state first.dotfile; arguments = first.arguments; prints = first.dotfile.prints ++ first.prints }
 
--- the same by what a build is loaded from
-abbrev pub started_view : Started → First
-started_view start = record { dotfile = dotfile_state start.setup.dotfile; arguments = start.setup.arguments; prints = start.setup.dotfile.prints ++ start.prints }
-
 -- a build is loaded from what its first stage has left, and from what was read for that
 pub record IsStarted (host : HostTexts) (request : Request) (first : First) (known : List (List ℕ × FileContent)) (start : Started) : Type 0 where
   pub view : started_view start ≡ first
   pub base : given_base start.setup ≡ configuration_base host request first
   pub read : start.setup.known.entries ≡ known
 
-abbrev pub build_view : BuildCode → Build
-build_view build = record { first = started_view build.start; loaded = build_of build.loaded; files = build.files }
-
-abbrev pub shared_view : Arc BuildCode Global → Build
-shared_view build = build_view (arc_value build)
+abbrev pub faultless_view : Faultless → Build
+faultless_view build = shared_view build.build
 
 -- the first stage has ended as it means
 abbrev pub IsFirst : FirstEnd → Result First Fault → Type 0
@@ -87,7 +79,7 @@ AreArgumentsEnd (arguments_end.Failed fault) meaning = meaning ≡ Err fault
 
 -- a build has ended as it means
 abbrev pub IsBuild : BuildEnd → Result Build Failure → Type 0
-IsBuild (build_end.Built build) meaning = meaning ≡ Ok (shared_view build)
+IsBuild (build_end.Built build) meaning = meaning ≡ Ok (faultless_view build)
 IsBuild (build_end.Failed failure) meaning =
     (units : UnitCount) × (meaning ≡ Err (record { fault = failure.fault; units = units })) × IsCount failure.units units
 
@@ -139,9 +131,14 @@ StopsAs (load_end.Wrong fault) result = IfCannotRead result (λ path. ⊥)
 StopsAs (load_end.Failed path) result = result ≡ Err (CannotRead path)
 StopsAs load_end.Memory result = result ≡ Err Memory
 
+-- what is wanted of a build
+abbrev pub wanted_view : WantedCode → Wanted
+wanted_view (wanted.Labels pattern) = Labels (option_map (λ t. t.now) pattern)
+wanted_view wanted.Files = Files
+
 -- an answer says what a build means that has ended so
-abbrev pub SaysEnd : Answered → Option (List ℕ) → BuildEnd → Type 0
-SaysEnd answered pattern end = (meaning : Result Build Failure) → IsBuild end meaning → IsSaying answered (loaded_said pattern meaning)
+abbrev pub SaysEnd : Answered → Wanted → Request → BuildEnd → Type 0
+SaysEnd answered w request end = (meaning : Result Build Failure) → IsBuild end meaning → IsSaying answered (loaded_said w request meaning)
 
 -- it says this fault, once so many build files are loaded
 abbrev pub SaysFault : Answered → Fault → ℕ → Type 0

@@ -1,11 +1,11 @@
 -- A command line that was read, as its meaning.
 use Rattle.std.specs.Prelude.{map, option_map}
 use Rattle.gn_top.specs.declared.words.Command.{Command as ReadCommand}
-use Rattle.gn_top.specs.declared.words.Command.TheVariants.{Ls as ReadLs}
+use Rattle.gn_top.specs.declared.words.Command.TheVariants.{Ls as ReadLs, Gen as ReadGen}
 use Rattle.gn_top.specs.declared.words.Line.{Line as ReadLine}
 use Rattle.gn_top.specs.declared.words.Read.{Read}
 use Rattle.gn_top.specs.declared.switches.Options.{Options as ReadOptions}
-use Rattle.gn_top.specs.Words.{Options, WordsRead, Command, Ls, Line}
+use Rattle.gn_top.specs.Words.{Options, WordsRead, Command, Ls, Gen, Line}
 
 abbrev pub options_view : ReadOptions → Options
 options_view options = record { threads = options.threads; arguments = option_map (λ t. t.now) options.arguments }
@@ -15,6 +15,7 @@ read_view read = record { plain = map (λ w. w.now) read.plain.items; options = 
 
 abbrev pub command_view : ReadCommand → Command
 command_view (ReadLs directory pattern) = Ls directory (option_map (λ t. t.now) pattern)
+command_view (ReadGen directory) = Gen directory
 
 abbrev pub line_view : ReadLine → Line
 line_view line = record { command = command_view line.command; options = options_view line.options }

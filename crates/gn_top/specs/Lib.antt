@@ -3,11 +3,12 @@ pub mod Words
 pub mod Commands
 pub mod Texts
 pub mod Labels
-pub mod Repeated
 pub mod GraphFaults
 pub mod Hosts
 pub mod Stages
+pub mod Files
 pub mod Said
+pub mod Views
 pub mod Run
 pub mod Steps
 pub mod Building

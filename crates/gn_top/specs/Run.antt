@@ -1,6 +1,6 @@
 -- What a whole run does to its sources and its sink.
 use Rattle.std.specs.Prelude.{◌≡◌, ◌⊎◌, ℕ, ◌<◌, ◌≤◌, List, [], ◌∷◌, ◌++◌, map, take}
-use Rattle.gn_outside.specs.States.{SourceState, SinkState, SinkEvent, SaidPiece, Put, piece_of}
+use Rattle.gn_outside.specs.States.{SourceState, SinkState, SinkEvent, PutFile, SaidPiece, Put, piece_of}
 use Rattle.gn_outside.specs.Lists.{EachPair, Extends}
 use Rattle.gn_outside.specs.Sources.{AllTellReads, total_faults, FailedAt, IsLeastFailure}
 use Rattle.gn_top.specs.Texts.{usage_line, cannot_read_line}
@@ -20,10 +20,14 @@ pub record EndsAs (meaning : Said) (before after : SinkState) (status : ℕ) : T
 abbrev pub SaysPart : SinkState → SinkState → List ℕ → Type 0
 SaysPart before after text = (after.events ≡ before.events) ⊎ ((n : ℕ) × Extends before.events after.events (SaidPiece (take n text) ∷ []))
 
--- a first part of what this meaning tells: the first of its files, or all of them and then a first part of its text
+-- a first part of files and of the text behind them: the first of the files, or all of them and then a first part of the text
+abbrev pub TellsPartOf : List PutFile → List ℕ → SinkState → SinkState → Type 0
+TellsPartOf files text before after = ((n : ℕ) × Extends before.events after.events (map Put (take n files)))
+    ⊎ ((n : ℕ) × Extends before.events after.events (map Put files ++ SaidPiece (take n text) ∷ []))
+
+-- a first part of what this meaning tells
 abbrev pub TellsPart : Said → SinkState → SinkState → Type 0
-TellsPart meaning before after = ((n : ℕ) × Extends before.events after.events (map Put (take n meaning.files)))
-    ⊎ ((n : ℕ) × Extends before.events after.events (map Put meaning.files ++ SaidPiece (take n meaning.text) ∷ []))
+TellsPart meaning before after = TellsPartOf meaning.files meaning.text before after
 
 -- no source has failed, and no write
 pub record NoFault (sources now : List SourceState) (sink after : SinkState) : Type 0 where

@@ -1,5 +1,5 @@
 -- The sequential meaning of a command line over a tree.
-use Rattle.std.specs.Prelude.{ℕ, List, [], ◌++◌, Option, None, Some, Result, Ok, Err, map, string_bytes, codes}
+use Rattle.std.specs.Prelude.{ℕ, List, [], ◌++◌, Option, None, Some, Result, Ok, Err, length, map, string_bytes, codes}
 use Rattle.std.specs.List.{flat_map}
 use Rattle.std.specs.declared.string.String.{String}
 use Rattle.std.specs.declared.alloc.Global.{Global}
@@ -16,13 +16,14 @@ use Rattle.gn_labels.specs.Patterns.{pattern_read}
 use Rattle.gn_faults.specs.declared.fault.Fault.{Fault}
 use Rattle.gn_faults.specs.Printed.{printed}
 use Rattle.gn_top.specs.Exported.{Exported}
-use Rattle.gn_top.specs.Words.{Options, Command, Ls, Line, line_said}
-use Rattle.gn_top.specs.Texts.{line, usage_line}
+use Rattle.gn_top.specs.Words.{Options, Command, Ls, Gen, Line, line_said}
+use Rattle.gn_top.specs.Texts.{line, usage_line, done_line}
 use Rattle.gn_items.specs.declared.declaration.Declaration.{Declaration}
 use Rattle.gn_args.specs.Arguments.{unused_names}
 use Rattle.gn_projects.specs.Loaded.{UnitCount, Exactly, Failure, lines_of_build, declared_by_build}
 use Rattle.gn_top.specs.Stages.{Request, Build, loaded, IsReadFor}
 use Rattle.gn_top.specs.Labels.{listing}
+use Rattle.gn_top.specs.Files.{files_put}
 use Rattle.gn_top.specs.Hosts.{HostTexts}
 
 -- a status, a text, the files in the order in which they are put, and the number of build files loaded
@@ -67,6 +68,13 @@ answer_text pattern build = lines_of build ++ (warnings_of build ++ listing buil
 abbrev pub answer_said : Option Pattern → Build → Said
 answer_said pattern build = record { status = 0; text = answer_text pattern build; files = []; units = Exactly build.files }
 
+-- the files of a build that is made from a request were put, and so many targets were generated
+abbrev pub gen_text : Build → List ℕ
+gen_text build = lines_of build ++ (warnings_of build ++ done_line (length build.loaded.generated) (length build.loaded.loaded))
+
+abbrev pub gen_said : Request → Build → Said
+gen_said request build = record { status = 0; text = gen_text build; files = files_put request build; units = Exactly build.files }
+
 -- the pattern of a command, if it has one: what its text means at the source root
 abbrev pub pattern_meant : Result Pattern PatternFault → Result (Option Pattern) PatternFault
 pattern_meant (Ok pattern) = Ok (Some pattern)
@@ -90,10 +98,22 @@ abbrev pub build_said : Result (Option Pattern) PatternFault → Build → Said
 build_said (Ok pattern) build = answer_said pattern build
 build_said (Err fault) build = failure_said (record { fault = question_fault fault; units = Exactly build.files })
 
+-- what is wanted of a build: the labels of its targets, of those that a pattern matches, if there is one; or its files
+pub data Wanted : Type 0 where
+  Labels : (pattern : Option (List ℕ)) → Wanted
+  Files : Wanted
+
+abbrev pub wanted_said : Wanted → Request → Build → Said
+wanted_said (Labels pattern) request build = build_said (pattern_asked pattern) build
+wanted_said Files request build = gen_said request build
+
 -- what is said of what a build leaves, or of its error, which comes first
-abbrev pub loaded_said : Option (List ℕ) → Result Build Failure → Said
-loaded_said pattern (Ok build) = build_said (pattern_asked pattern) build
-loaded_said pattern (Err failure) = failure_said failure
+abbrev pub loaded_said : Wanted → Request → Result Build Failure → Said
+loaded_said wanted request (Ok build) = wanted_said wanted request build
+loaded_said wanted request (Err failure) = failure_said failure
+
+abbrev pub request_said : Wanted → Request → HostTexts → Tree → Said
+request_said wanted request host tree = loaded_said wanted request (loaded host request tree)
 
 -- what a build is made from, by a command and the switches of its line
 abbrev pub request_of : List ℕ → Options → Request
@@ -101,7 +121,8 @@ request_of directory options = record { directory = directory; arguments = optio
 
 -- what a command says over a tree. The number of workers doesn't count
 abbrev pub command_said : Command → Options → HostTexts → Tree → Said
-command_said (Ls directory pattern) options host tree = loaded_said pattern (loaded host (request_of directory options) tree)
+command_said (Ls directory pattern) options host tree = request_said (Labels pattern) (request_of directory options) host tree
+command_said (Gen directory) options host tree = request_said Files (request_of directory options) host tree
 
 abbrev pub line_means : Option Line → HostTexts → Tree → Said
 line_means None host tree = usage_said
@@ -114,6 +135,7 @@ said words host exporters tree = line_means (line_said words) host tree
 -- the paths that a command reads
 abbrev pub command_asks : Command → Options → HostTexts → Tree → List ℕ → Type 0
 command_asks (Ls directory pattern) options host tree = IsReadFor host (request_of directory options) tree
+command_asks (Gen directory) options host tree = IsReadFor host (request_of directory options) tree
 
 abbrev pub line_asks : Option Line → HostTexts → Tree → List ℕ → Type 0
 line_asks None host tree = λ path. ⊥

@@ -21,6 +21,7 @@ use Rattle.gn_projects.specs.Worlds.{world_of}
 use Rattle.gn_projects.specs.Errors.{too_large}
 use Rattle.gn_projects.specs.Loaded.{Build as Loaded, UnitCount, Exactly, Failure, declared_by_build, files_reached, IsAskedFor, loaded as build_loaded}
 use Rattle.gn_top.specs.Hosts.{HostTexts}
+use Rattle.gn_toolchains.specs.Toolchains.{Surroundings}
 use Rattle.gn_top.specs.GraphFaults.{graph_fault}
 
 -- what a build is made from: its build directory, and the build arguments that the command line gives, if it does
@@ -130,8 +131,9 @@ configuration_base host request first =
 abbrev pub files_behind : HostTexts → Request → Tree → First → Files
 files_behind host request tree first = files_of (configuration_base host request first) tree
 
--- what a build leaves, and how many build files are loaded for it
+-- what a build leaves, its build directory, and how many build files are loaded for it
 pub record Build : Type 0 where
+  pub directory : List ℕ
   pub first : First
   pub loaded : Loaded
   pub files : ℕ
@@ -142,25 +144,30 @@ build_failed fault units = Err (record { fault = fault; units = units })
 
 -- The third stage: the graph has no fault
 
+-- what never changes in a build
+abbrev pub surroundings_of : Build → Surroundings
+surroundings_of build = record { build = build.directory; default = build.loaded.default; program = build.first.dotfile.executable }
+
 abbrev pub without_fault : Build → Option Fault → Result Build Failure
 without_fault build None = Ok build
 without_fault build (Some fault) = build_failed fault (Exactly build.files)
 
 abbrev pub graph_judged : Build → Result Build Failure
-graph_judged build = without_fault build (graph_fault build.loaded)
+graph_judged build = without_fault build (graph_fault (surroundings_of build) build.loaded)
 
 -- All stages
 
-abbrev pub behind_loading : First → Files → Result Loaded Failure → Result Build Failure
-behind_loading first files (Ok build) = graph_judged (record { first = first; loaded = build; files = files_reached (world_of files) })
-behind_loading first files (Err failure) = Err failure
+abbrev pub behind_loading : List ℕ → First → Files → Result Loaded Failure → Result Build Failure
+behind_loading directory first files (Ok build) =
+    graph_judged (record { directory = directory; first = first; loaded = build; files = files_reached (world_of files) })
+behind_loading directory first files (Err failure) = Err failure
 
--- all that is loaded, where these paths were read before
-abbrev pub loaded_from : First → Files → List (List ℕ) → Result Build Failure
-loaded_from first files known = behind_loading first files (build_loaded known files)
+-- all that is loaded in a build directory, where these paths were read before
+abbrev pub loaded_from : List ℕ → First → Files → List (List ℕ) → Result Build Failure
+loaded_from directory first files known = behind_loading directory first files (build_loaded known files)
 
 abbrev pub behind_first : HostTexts → Request → Tree → Result First Fault → Result Build Failure
-behind_first host request tree (Ok first) = loaded_from first (files_behind host request tree first) (first_paths host request tree)
+behind_first host request tree (Ok first) = loaded_from request.directory first (files_behind host request tree first) (first_paths host request tree)
 behind_first host request tree (Err fault) = build_failed fault (Exactly 0)
 
 -- what a build leaves, or its error: the lowest stage that has one

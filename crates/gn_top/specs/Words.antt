@@ -81,12 +81,17 @@ with_switch switch None options = None
 
 -- the commands by their names
 unfoldable pub command_named : List ℕ → Option CommandName
-command_named word = if bytes_eq word (codes "ls") then Some name.Ls else None
+command_named word =
+    if bytes_eq word (codes "ls") then Some name.Ls
+    else if bytes_eq word (codes "gen") then Some name.Gen
+    else None
 
 -- which switches a command takes
 unfoldable pub takes : CommandName → Switch → Bool
 takes name.Ls Threads = true
 takes name.Ls Arguments = true
+takes name.Gen Threads = true
+takes name.Gen Arguments = true
 
 -- a switch of a command, by the name and the value that it says
 abbrev pub switch_taken : CommandName → Option Switch → Option (List ℕ) → Options → Option Options
@@ -119,6 +124,7 @@ words_read command (w ∷ ws) read = option_and_then (words_read command ws) (wo
 -- what a command asks for
 pub data Command : Type 0 where
   Ls : (directory : List ℕ) (pattern : Option (List ℕ)) → Command
+  Gen : (directory : List ℕ) → Command
 
 -- the build directory that a word names: a path of the source tree, from its root and not the root itself
 abbrev pub build_directory : Result (List ℕ) PathFault → Option (List ℕ)
@@ -132,11 +138,17 @@ directory_named word = build_directory (path_meant (codes "//") word)
 abbrev pub ls_of : Option (List ℕ) → Option (List ℕ) → Option Command
 ls_of directory pattern = option_map (λ found. Ls found pattern) directory
 
+-- `gen DIR`: the files of a build
+abbrev pub gen_of : Option (List ℕ) → Option Command
+gen_of directory = option_map (λ found. Gen found) directory
+
 -- the form of the plain words behind a command
 unfoldable pub form_of : CommandName → List (List ℕ) → Option Command
 form_of name.Ls (directory ∷ []) = ls_of (directory_named directory) None
 form_of name.Ls (directory ∷ pattern ∷ []) = ls_of (directory_named directory) (Some pattern)
 form_of name.Ls _ = None
+form_of name.Gen (directory ∷ []) = gen_of (directory_named directory)
+form_of name.Gen _ = None
 
 -- what a whole line says
 pub record Line : Type 0 where

@@ -7,14 +7,16 @@ ghost use Rattle.gn_outside.specs.Sources.{AllTell, AllTellReads, ReadsOn, IsLea
 ghost use Rattle.gn_builds.specs.Driving.{FailsAt};
 ghost use Rattle.gn_top.specs.Words.{AreShort, HasNoForm};
 ghost use Rattle.gn_top.specs.Hosts.{host_texts};
-ghost use Rattle.gn_top.specs.Stages.{loaded};
-ghost use Rattle.gn_top.specs.Said.{said, asked, texts, lines_of, warning, declared_names, warnings_of, answer_said, line_means, line_asks, pattern_asked, pattern_code, question_fault, build_said, loaded_said};
+ghost use Rattle.gn_top.specs.Said.{said, asked, texts, lines_of, warning, declared_names, warnings_of, answer_said, gen_text, gen_said, line_means, line_asks, pattern_asked, pattern_code, question_fault, build_said, wanted_said, request_said};
 ghost use Rattle.gn_top.specs.Steps.{IsSaying, IfCannotRead, CountsFault, AnswersUsage};
-ghost use Rattle.gn_top.specs.Building.{request_view, outer_view, build_view, SaysFault, SaysEnd, ReadsOf, ReadsBuild};
+ghost use Rattle.gn_top.specs.Building.{request_view, outer_view, build_view, faultless_view, wanted_view, SaysFault, SaysEnd, ReadsOf, ReadsBuild};
 ghost use Rattle.gn_top.specs.Commands.{line_view};
 
 use crate::answered::{Answered, RunStop};
 use crate::building::{Build, BuildEnd, make_build};
+use crate::done::append_done;
+use crate::faultless::Faultless;
+use crate::files::files_put;
 use crate::first::{Outer, Request};
 use crate::host::Host;
 use crate::labels::append_labels;
@@ -25,9 +27,19 @@ use gn_executions::HostNames;
 use gn_faults::{Code, Fault, Stage};
 use gn_items::Declaration;
 use gn_labels::{Pattern, PatternFault, pattern_meant};
+use gn_out_files::OutFiles;
 use gn_outside::Source;
 use gn_paths::{Path, PathFault, Text, Texts};
 use std::alloc::{AllocError, Global};
+
+/// What is wanted of a build.
+#[derive(Clone, Copy)]
+pub(crate) enum Wanted<'a> {
+    /// The labels of its targets, of those that a pattern matches, if there is one.
+    Labels(Option<&'a [u8]>),
+    /// Its files.
+    Files,
+}
 
 // The line of a fault, once so many build files are loaded.
 fn fault_answer(alloc: Global, fault: &Fault, units: u64) -> Result<Answered, AllocError>
@@ -37,6 +49,7 @@ fn fault_answer(alloc: Global, fault: &Fault, units: u64) -> Result<Answered, Al
     Ok(Answered {
         status: 1,
         text: text.into_vec(),
+        files: OutFiles::new(alloc),
         units,
     })
 }
@@ -124,7 +137,37 @@ fn listed_answer(
     Ok(Answered {
         status: 0,
         text,
+        files: OutFiles::new(alloc),
         units: build.files,
+    })
+}
+
+// The lines printed, the warnings, and how many targets are generated from how many build files.
+fn gen_text(alloc: Global, build: &Build) -> Result<Vec<u8>, AllocError>
+    ensures { IfOk result (λ text. text.items ≡ gen_text (build_view build.now)) }
+{
+    let mut text = Vec::new(alloc);
+    append_printed(&mut text, build)?;
+    append_warnings(alloc, &mut text, build)?;
+    append_done(alloc, &mut text, build)?;
+    Ok(text)
+}
+
+// The files of a build, and the text behind them.
+fn gen_answer(
+    alloc: Global,
+    request: &Request<'_>,
+    build: &Faultless,
+) -> Result<Answered, AllocError>
+    ensures { IfOk result (λ a. IsSaying a (gen_said (request_view request.now) (faultless_view build.now))) }
+{
+    let text = gen_text(alloc, &build.build)?;
+    let files = files_put(alloc, request, build)?;
+    Ok(Answered {
+        status: 0,
+        text,
+        files,
+        units: build.build.files,
     })
 }
 
@@ -182,12 +225,32 @@ fn build_answer(
     }
 }
 
+// The answer for a build of which this is wanted.
+fn wanted_answer(
+    alloc: Global,
+    wanted: Wanted<'_>,
+    request: &Request<'_>,
+    build: &Faultless,
+) -> Result<Answered, AllocError>
+    ensures { IfOk result (λ a. IsSaying a (wanted_said (wanted_view wanted.entry) (request_view request.now) (faultless_view build.now))) }
+{
+    match wanted {
+        Wanted::Labels(pattern) => build_answer(alloc, pattern, &build.build),
+        Wanted::Files => gen_answer(alloc, request, build),
+    }
+}
+
 // The answer for a build, or for its fault.
-fn end_answer(alloc: Global, pattern: Option<&[u8]>, end: &BuildEnd) -> Result<Answered, AllocError>
-    ensures { IfOk result (λ a. SaysEnd a (option_map (λ t. t.now) pattern.entry) end.now) }
+fn end_answer(
+    alloc: Global,
+    wanted: Wanted<'_>,
+    request: &Request<'_>,
+    end: &BuildEnd,
+) -> Result<Answered, AllocError>
+    ensures { IfOk result (λ a. SaysEnd a (wanted_view wanted.entry) (request_view request.now) end.now) }
 {
     match end {
-        BuildEnd::Built(build) => build_answer(alloc, pattern, build),
+        BuildEnd::Built(build) => wanted_answer(alloc, wanted, request, build),
         BuildEnd::Failed(failure) => fault_answer(alloc, &failure.fault, failure.units),
     }
 }
@@ -209,12 +272,12 @@ fn outer_of(alloc: Global, host: &Host) -> Result<Outer, AllocError>
 fn read_build<S: Source>(
     alloc: Global,
     host: &Host,
-    pattern: Option<&[u8]>,
+    wanted: Wanted<'_>,
     request: &Request<'_>,
     source: &mut S,
 ) -> Result<Answered, RunStop>
     requires { AreShort (request_view request.now).arguments }
-    ensures meaning { IfOk result (λ a. (tree : Tree) → (S.state source.old).tree ≡ Some tree → IsSaying a (loaded_said (option_map (λ t. t.now) pattern.entry) (loaded (host_texts host.now) (request_view request.now) tree))) }
+    ensures meaning { IfOk result (λ a. (tree : Tree) → (S.state source.old).tree ≡ Some tree → IsSaying a (request_said (wanted_view wanted.entry) (request_view request.now) (host_texts host.now) tree)) }
     ensures range { IfOk result (λ a. a.status ≤ 1) }
     ensures reads { ReadsBuild (host_texts host.now) (request_view request.now) (S.state source.old) (S.state source.new) }
     ensures faults { CountsFault (S.state source.old).faults (S.state source.new).faults result }
@@ -222,7 +285,7 @@ fn read_build<S: Source>(
 {
     let outer = outer_of(alloc, host)?;
     let end = make_build(alloc, &outer, request, source)?;
-    Ok(end_answer(alloc, pattern, &end)?)
+    Ok(end_answer(alloc, wanted, request, &end)?)
 }
 
 // What a line says over the source's tree.
@@ -246,7 +309,14 @@ fn line_answer<S: Source>(
                 directory,
                 arguments,
             };
-            read_build(alloc, host, pattern, &request, source)
+            read_build(alloc, host, Wanted::Labels(pattern), &request, source)
+        }
+        Command::Gen { directory } => {
+            let request = Request {
+                directory,
+                arguments,
+            };
+            read_build(alloc, host, Wanted::Files, &request, source)
         }
     }
 }
@@ -276,6 +346,7 @@ pub fn answer<S: Source>(
         None => Ok(Answered {
             status: 2,
             text: USAGE.as_bytes().to_vec(alloc)?,
+            files: OutFiles::new(alloc),
             units: 0,
         }),
         Some(line) => line_answer(alloc, line, host, source),

@@ -1,4 +1,5 @@
 // What a run is to say, or why there is nothing to say.
+use gn_out_files::OutFiles;
 use gn_paths::Path;
 use std::alloc::AllocError;
 
@@ -9,6 +10,8 @@ pub struct Answered {
     pub status: u8,
     /// What is said.
     pub text: Vec<u8>,
+    /// The files that are put before.
+    pub files: OutFiles,
     /// The number of build files that were loaded.
     pub units: u64,
 }

@@ -1,6 +1,6 @@
 // A whole build, stage by stage: the dotfile and the build arguments, all that is loaded behind these, and the build arguments that this declares.
 
-ghost use Rattle.std.specs.Prelude.{◌≡◌, [], IfOk, Ok, Some};
+ghost use Rattle.std.specs.Prelude.{◌≡◌, [], IfOk, Ok, Some, None};
 ghost use Rattle.gn_outside.specs.Tree.{Tree};
 ghost use Rattle.gn_builds.specs.Driving.{FailsAt};
 ghost use Rattle.gn_builds.specs.Rest.{ReadsAsked};
@@ -11,10 +11,12 @@ ghost use Rattle.gn_load.specs.Turns.{known_paths};
 ghost use Rattle.gn_top.specs.Words.{AreShort};
 ghost use Rattle.gn_top.specs.Steps.{IfCannotRead, CountsFault};
 ghost use Rattle.gn_top.specs.Hosts.{HostTexts};
-ghost use Rattle.gn_top.specs.Stages.{Request as Asked, first_paths, configuration_base, graph_judged, behind_first, loaded};
-ghost use Rattle.gn_top.specs.Building.{request_view, outer_view, first_view, started_view, shared_view, IsStarted, IsBuild, StopsAs, ReadsBuild, KnowsAlso};
+ghost use Rattle.gn_toolchains.specs.Frames.{surroundings as given};
+ghost use Rattle.gn_top.specs.Stages.{Request as Asked, first_paths, configuration_base, surroundings_of, graph_judged, behind_first, loaded};
+ghost use Rattle.gn_top.specs.Building.{request_view, outer_view, first_view, started_view, build_view, shared_view, IsStarted, IsBuild, StopsAs, ReadsBuild, KnowsAlso};
 
 use crate::answered::RunStop;
+use crate::faultless::Faultless;
 use crate::first::{First, FirstEnd, Outer, Request, run_first};
 use crate::graph_faults::graph_fault;
 use gn_executions::HostNames;
@@ -22,6 +24,7 @@ use gn_faults::Fault;
 use gn_load::{Built, Given, Known, LoadEnd, Plain, Setup, load_plain};
 use gn_outside::Source;
 use gn_paths::{Path, Text, Texts};
+use gn_toolchains::Surroundings;
 use std::alloc::{AllocError, Global};
 use std::collections::BTreeMap;
 use std::sync::Arc;
@@ -49,10 +52,10 @@ pub(crate) struct Failure {
     pub(crate) units: u64,
 }
 
-/// A build, or its first fault. The build is shared, so that a call that passes it on doesn't let all of its parts go.
+/// A build, or its first fault.
 #[derive(Drop)]
 pub(crate) enum BuildEnd {
-    Built(Arc<Build>),
+    Built(Faultless),
     Failed(Failure),
 }
 
@@ -97,16 +100,28 @@ fn start_of(
     })
 }
 
+/// What never changes in a build.
+pub(crate) fn surroundings_of(build: &Build) -> Surroundings<'_>
+    ensures { given result ≡ surroundings_of (build_view build.now) }
+{
+    let setup = build.start.setup.given();
+    Surroundings {
+        build: &setup.build_directory,
+        default: build.loaded.default(),
+        program: &setup.dotfile.executable,
+    }
+}
+
 // The third stage: a build, unless it has a fault of its graph.
 fn judge_build(alloc: Global, build: Arc<Build>) -> Result<BuildEnd, AllocError>
     ensures { IfOk result (λ end. IsBuild end (graph_judged (shared_view build))) }
 {
     let judged: &Build = &build;
     let units = judged.files;
-    let fault = graph_fault(alloc, &judged.loaded)?;
+    let fault = graph_fault(alloc, surroundings_of(judged), &judged.loaded)?;
     match fault {
         Some(fault) => Ok(BuildEnd::Failed(Failure { fault, units })),
-        None => Ok(BuildEnd::Built(build)),
+        None => Ok(BuildEnd::Built(Faultless { build })),
     }
 }
 
@@ -117,7 +132,7 @@ fn end_build(
     built: Built,
     files: u64,
 ) -> Result<BuildEnd, AllocError>
-    ensures { IfOk result (λ end. IsBuild end (graph_judged (record { first = started_view start; loaded = build_of built; files = files }))) }
+    ensures { IfOk result (λ end. IsBuild end (graph_judged (record { directory = start.setup.build_directory; first = started_view start; loaded = build_of built; files = files }))) }
 {
     let build = Build {
         start,
@@ -129,7 +144,7 @@ fn end_build(
 
 // What is made of a build that was loaded behind the first stage.
 fn behind_loading(alloc: Global, start: Started, plain: Plain) -> Result<BuildEnd, RunStop>
-    ensures meaning { IfOk result (λ end. (tree : Tree) (host : HostTexts) (request : Asked) →
+    ensures meaning { IfOk result (λ end. (tree : Tree) (host : HostTexts) (request : Asked) → start.setup.build_directory ≡ request.directory →
         IsEndOf (configuration_base host request (started_view start)) (first_paths host request tree) tree plain.end plain.units →
         IsBuild end (behind_first host request tree (Ok (started_view start)))) }
     ensures stops { StopsAs plain.end result }

@@ -116,9 +116,9 @@ fn dotfile_path(alloc: Global) -> Result<Path, AllocError>
     path_in(alloc, &Path::root(alloc)?, b".gn")
 }
 
-// The path of the file of a build directory that keeps its build arguments.
+/// The path of the file of a build directory that keeps its build arguments.
 #[tactic(auto, unfolding(crate::specs::Stages::arguments_path))]
-fn arguments_path(alloc: Global, directory: &Path) -> Result<Path, AllocError>
+pub(crate) fn arguments_path(alloc: Global, directory: &Path) -> Result<Path, AllocError>
     ensures { IfOk result (λ p. p ≡ arguments_path directory.now) }
 {
     path_in(alloc, directory, b"args.gn")

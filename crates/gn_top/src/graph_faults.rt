@@ -1,44 +1,204 @@
-// The faults of the graph of a build: of build arguments that are declared twice, and then those of its targets.
+// The faults of the graph of a build: those of its files, and then those of its targets.
 
-ghost use Rattle.std.specs.Prelude.{◌≡◌, IfOk};
-ghost use Rattle.gn_projects.specs.Loaded.{declared_by_build, items_of_build};
+ghost use Rattle.std.specs.Prelude.{◌≡◌, [], IfOk, map, option_map};
+ghost use Rattle.gn_labelled.specs.Index.{lent};
+ghost use Rattle.gn_projects.specs.Loaded.{declared_by_build, items_of_build, default_named};
 ghost use Rattle.gn_build_faults.specs.Faults.{target_fault as told_of_targets};
+ghost use Rattle.gn_build_faults.specs.Reaching.{targets_of as targets_meant};
 ghost use Rattle.gn_load.specs.Ends.{build_of};
-ghost use Rattle.gn_top.specs.Repeated.{repeated_fault as least_repeated};
-ghost use Rattle.gn_top.specs.GraphFaults.{graph_fault};
+ghost use Rattle.gn_load.specs.Files.{files_of};
+ghost use Rattle.gn_file_faults.specs.Faults.{file_fault as least_of_files};
+ghost use Rattle.gn_file_faults.specs.Writes.{execution_of};
+ghost use Rattle.gn_toolchains.specs.Frames.{surroundings as given};
+ghost use Rattle.gn_top.specs.GraphFaults.{defines, is_defined, execution_in, fault_of_files as files_fault_meant, label_fault as label_fault_meant, graph_fault};
 
-use crate::repeated::repeated_fault;
-use gn_build_faults::target_fault;
+use gn_build_faults::{target_fault, targets_of};
 use gn_faults::Fault;
-use gn_load::Built;
+use gn_file_faults::{FileFacts, FilesWritten, file_fault};
+use gn_items::{Declaration, DefaultToolchain, Item, ItemKind};
+use gn_labels::Label;
+use gn_load::{Built, WrittenFiles};
+use gn_paths::{Path, Text};
+use gn_toolchains::Surroundings;
+use indexmap::IndexSet;
 use std::alloc::{AllocError, Global};
 
-// The least fault of a build argument that is declared twice, if there is one.
-fn argument_fault(alloc: Global, built: &Built) -> Result<Option<Fault>, AllocError>
-    ensures { IfOk result (λ fault. fault ≡ least_repeated (declared_by_build (build_of built.now))) }
+// Whether an item defines the default toolchain as it is named.
+fn defines(default: &Text, named: &DefaultToolchain, item: &Item) -> bool
+    ensures { result ≡ defines default.now named.now item.now }
 {
-    repeated_fault(alloc, &built.declarations(alloc)?)
+    matches!(item.kind, ItemKind::Toolchain)
+        && (item.label.toolchain == *default
+            && (item.label.dir == named.label.dir && item.label.name == named.label.name))
 }
 
-// The fault that is told of the targets, if there is one.
-fn label_fault(alloc: Global, built: &Built) -> Result<Option<Fault>, AllocError>
-    ensures { IfOk result (λ fault. fault ≡ told_of_targets (build_of built.now).default (items_of_build (build_of built.now)) (build_of built.now).generated) }
+// Whether an item defines the default toolchain, if one is named.
+fn is_defined(default: &Text, items: &[&Item], named: Option<&DefaultToolchain>) -> bool
+    ensures { result ≡ is_defined default.now (lent items.now) (option_map (λ d. d.now) named.entry) }
 {
-    target_fault(
+    let Some(named) = named else {
+        return false;
+    };
+    for item in items {
+        if defines(default, named, item) {
+            return true;
+        }
+    }
+    false
+}
+
+// The executions of a build with the files that they have written.
+fn executions_of<'a>(
+    alloc: Global,
+    written: &[WrittenFiles<'a>],
+) -> Result<Vec<FilesWritten<'a>>, AllocError>
+    ensures { IfOk result (λ es. map execution_of es.items ≡ map execution_in (files_of written.now)) }
+{
+    let mut executions = Vec::new(alloc);
+    for execution in written {
+        executions.push(FilesWritten {
+            toolchain: execution.toolchain,
+            files: execution.files,
+        })?;
+    }
+    Ok(executions)
+}
+
+// The lists by which the faults of files are told.
+#[derive(Clone, Copy)]
+struct Lists<'a> {
+    declarations: &'a [&'a Declaration],
+    executions: &'a [FilesWritten<'a>],
+    loaded: &'a [&'a Path],
+    imported: &'a [&'a Path],
+}
+
+// The least fault of files by these lists, where targets make these paths.
+fn fault_by<'a>(
+    alloc: Global,
+    lists: Lists<'a>,
+    default: Option<&'a DefaultToolchain>,
+    is_toolchain: bool,
+    made: &'a IndexSet<Text>,
+    build: &'a Path,
+) -> Result<Option<Fault>, AllocError>
+    ensures { IfOk result (λ fault. fault ≡ least_of_files (record {
+      declarations = map (λ d. d.now) lists.entry.declarations.now;
+      default = option_map (λ d. d.now) default.entry;
+      is_toolchain = is_toolchain;
+      executions = map execution_of lists.entry.executions.now;
+      made = made.now.keys;
+      build = build.now;
+      loaded = map (λ p. p.now) lists.entry.loaded.now;
+      imported = map (λ p. p.now) lists.entry.imported.now;
+    })) }
+{
+    file_fault(
         alloc,
-        &built.items(alloc)?,
-        built.default(),
-        built.generated(),
+        &FileFacts {
+            declarations: lists.declarations,
+            default,
+            is_toolchain,
+            executions: lists.executions,
+            made,
+            build,
+            loaded: lists.loaded,
+            imported: lists.imported,
+        },
     )
 }
 
-/// The fault of the graph of a build that was loaded: that of a build argument which is declared twice stands before those of the targets.
-/// None comes exactly where it has none.
-pub(crate) fn graph_fault(alloc: Global, built: &Built) -> Result<Option<Fault>, AllocError>
-    ensures { IfOk result (λ fault. fault ≡ graph_fault (build_of built.now)) }
+// The least fault of the files of a build, if there is one, by its items.
+#[tactic(auto, unfolding(crate::specs::GraphFaults::fault_of_files))]
+fn fault_of_files(
+    alloc: Global,
+    surroundings: Surroundings<'_>,
+    built: &Built,
+    items: &[&Item],
+) -> Result<Option<Fault>, AllocError>
+    requires default { (given surroundings).default ≡ (build_of built.now).default }
+    requires items { lent items.now ≡ items_of_build (build_of built.now) }
+    ensures { IfOk result (λ fault. fault ≡ files_fault_meant (given surroundings.entry) (build_of built.now)) }
 {
-    match argument_fault(alloc, built)? {
+    let declarations = built.declarations(alloc)?;
+    let loaded = built.loaded_files(alloc)?;
+    let imported = built.imported_files(alloc)?;
+    let written = built.written(alloc)?;
+    let executions = executions_of(alloc, written.as_slice())?;
+    let made = IndexSet::new(alloc);
+    let lists = Lists {
+        declarations: declarations.as_slice(),
+        executions: executions.as_slice(),
+        loaded: loaded.as_slice(),
+        imported: imported.as_slice(),
+    };
+    let default = built.default_named();
+    let is_toolchain = is_defined(surroundings.default, items, default);
+    fault_by(
+        alloc,
+        lists,
+        default,
+        is_toolchain,
+        &made,
+        surroundings.build,
+    )
+}
+
+// The fault that is told of targets, if there is one, by the items of a build and the targets that it generates.
+fn told_fault<'a>(
+    alloc: Global,
+    surroundings: Surroundings<'a>,
+    items: &[&'a Item],
+    generated: &[Label],
+) -> Result<Option<Fault>, AllocError>
+    ensures { IfOk result (λ fault. fault ≡ told_of_targets (given surroundings.entry) (lent items.now) (targets_meant (given surroundings.entry).default (lent items.now) generated.now)) }
+{
+    let targets = targets_of(alloc, surroundings.default, items, generated)?;
+    target_fault(alloc, surroundings, items, targets.as_slice())
+}
+
+// The fault that is told of the targets of a build, if there is one, by its items.
+#[tactic(auto, unfolding(crate::specs::GraphFaults::label_fault))]
+fn label_fault<'a>(
+    alloc: Global,
+    surroundings: Surroundings<'a>,
+    built: &Built,
+    items: &[&'a Item],
+) -> Result<Option<Fault>, AllocError>
+    requires default { (given surroundings).default ≡ (build_of built.now).default }
+    requires items { lent items.now ≡ items_of_build (build_of built.now) }
+    ensures { IfOk result (λ fault. fault ≡ label_fault_meant (given surroundings.entry) (build_of built.now)) }
+{
+    told_fault(alloc, surroundings, items, built.generated())
+}
+
+// The fault of the graph of a build, if there is one, by its items.
+fn fault_by_items<'a>(
+    alloc: Global,
+    surroundings: Surroundings<'a>,
+    built: &Built,
+    items: &[&'a Item],
+) -> Result<Option<Fault>, AllocError>
+    requires default { (given surroundings).default ≡ (build_of built.now).default }
+    requires items { lent items.now ≡ items_of_build (build_of built.now) }
+    ensures { IfOk result (λ fault. fault ≡ graph_fault (given surroundings.entry) (build_of built.now)) }
+{
+    match fault_of_files(alloc, surroundings, built, items)? {
         Some(fault) => Ok(Some(fault)),
-        None => label_fault(alloc, built),
+        None => label_fault(alloc, surroundings, built, items),
     }
+}
+
+/// The fault of the graph of a build that was loaded: those of its files stand before those of its targets. None comes exactly where it
+/// has none.
+pub(crate) fn graph_fault<'a>(
+    alloc: Global,
+    surroundings: Surroundings<'a>,
+    built: &'a Built,
+) -> Result<Option<Fault>, AllocError>
+    requires { (given surroundings).default ≡ (build_of built.now).default }
+    ensures { IfOk result (λ fault. fault ≡ graph_fault (given surroundings.entry) (build_of built.now)) }
+{
+    let items = built.items(alloc)?;
+    fault_by_items(alloc, surroundings, built, items.as_slice())
 }

@@ -4,13 +4,16 @@
 mod answer;
 mod answered;
 mod building;
+mod done;
+mod faultless;
+mod files;
 mod first;
 mod graph_faults;
 mod host;
 mod labels;
 mod many;
+mod ninja;
 mod one;
-mod repeated;
 mod switches;
 mod texts;
 mod words;

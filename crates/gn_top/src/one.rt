@@ -8,12 +8,13 @@ ghost use Rattle.gn_top.specs.Words.{HasNoForm};
 ghost use Rattle.gn_top.specs.Said.{said, asked, texts};
 ghost use Rattle.gn_top.specs.Run.{EndsAs, NoFault, EndsWithUsage, CannotRead, IsCutShort, LoadsUnits};
 ghost use Rattle.gn_top.specs.Texts.{cannot_read_line};
-ghost use Rattle.gn_top.specs.Steps.{SaysUnder};
+ghost use Rattle.gn_top.specs.Steps.{SaysUnder, TellsUnder};
 
 use crate::answer::answer;
 use crate::answered::RunStop;
 use crate::host::{Host, One};
 use crate::texts::CANNOT_READ;
+use gn_out_files::OutFiles;
 use gn_outside::{Sink, SinkStop, Source, say_text};
 use gn_paths::Path;
 use std::alloc::{AllocError, Global};
@@ -26,6 +27,18 @@ fn say_under<K: Sink>(sink: &mut K, text: &[u8], status: u8) -> u8
 {
     match say_text(sink, text) {
         Ok(()) => status,
+        Err(SinkStop::Failed) => 4,
+        Err(SinkStop::Memory) => 5,
+    }
+}
+
+// Puts files and then says a text under a status from 0 to 3, unless the sink fails or lacks memory.
+fn tell_under<K: Sink>(sink: &mut K, files: &OutFiles, text: &[u8], status: u8) -> u8
+    requires { status ≤ 3 }
+    ensures { TellsUnder (K.state sink.old) (K.state sink.new) files.now text.now status result }
+{
+    match files.put(sink) {
+        Ok(()) => say_under(sink, text, status),
         Err(SinkStop::Failed) => 4,
         Err(SinkStop::Memory) => 5,
     }
@@ -101,7 +114,7 @@ pub fn run_one<R: Threads + Sync, S: Source, K: Sink>(
 {
     match answer(alloc, words, host, source) {
         Ok(answered) => One {
-            status: say_under(sink, &answered.text, answered.status),
+            status: tell_under(sink, &answered.files, &answered.text, answered.status),
             units: answered.units,
         },
         Err(RunStop::CannotRead(path)) => One {

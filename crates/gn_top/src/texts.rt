@@ -11,3 +11,12 @@ pub const HAS_NO_EFFECT: &str = "\" has no effect.";
 
 /// What stands before the path of a file whose read has failed.
 pub const CANNOT_READ: &str = "gn: cannot read ";
+
+/// What stands before the number of targets that were generated.
+pub const DONE: &str = "Done. Made ";
+
+/// What stands between that number and the number of build files.
+pub const TARGETS_FROM: &str = " targets from ";
+
+/// What stands behind the number of build files.
+pub const FILES: &str = " files\n";

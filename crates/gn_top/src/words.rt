@@ -1,7 +1,7 @@
 // The words of a command line.
 ghost use Rattle.std.specs.Prelude.{◌≡◌, ◌∷◌, if◌then◌else◌, Some, None, IfOk, map, option_map, string_bytes};
 ghost use Rattle.gn_paths.specs.Resolve.{path_meant};
-ghost use Rattle.gn_top.specs.Words.{is_switch, switch_taken, switch_read, word_read, words_read, nothing_read, command_named, takes, build_directory, directory_named, ls_of, form_of, line_of, line_named, line_said};
+ghost use Rattle.gn_top.specs.Words.{is_switch, switch_taken, switch_read, word_read, words_read, nothing_read, command_named, takes, build_directory, directory_named, ls_of, gen_of, form_of, line_of, line_named, line_said};
 ghost use Rattle.gn_top.specs.Said.{texts};
 ghost use Rattle.gn_top.specs.Commands.{options_view, read_view, command_view, line_view};
 
@@ -14,6 +14,8 @@ use std::alloc::{AllocError, Global};
 pub(crate) enum CommandName {
     /// `ls`
     Ls,
+    /// `gen`
+    Gen,
 }
 
 /// What a command asks for.
@@ -23,6 +25,10 @@ pub(crate) enum Command<'a> {
     Ls {
         directory: Path,
         pattern: Option<&'a [u8]>,
+    },
+    /// The files of the build with this build directory.
+    Gen {
+        directory: Path,
     },
 }
 
@@ -50,6 +56,8 @@ impl CommandName {
     {
         if word == b"ls".as_slice() {
             Some(CommandName::Ls)
+        } else if word == b"gen".as_slice() {
+            Some(CommandName::Gen)
         } else {
             None
         }
@@ -63,6 +71,8 @@ impl CommandName {
         match (self, switch) {
             (CommandName::Ls, Switch::Threads) => true,
             (CommandName::Ls, Switch::Arguments) => true,
+            (CommandName::Gen, Switch::Threads) => true,
+            (CommandName::Gen, Switch::Arguments) => true,
         }
     }
 
@@ -176,6 +186,16 @@ fn ls_of<'a>(
     }
 }
 
+// `gen DIR`
+fn gen_of<'a>(alloc: Global, directory: &'a [u8]) -> Result<Option<Command<'a>>, AllocError>
+    ensures { IfOk result (λ c. option_map command_view c ≡ gen_of (directory_named directory.now)) }
+{
+    match directory_named(alloc, directory)? {
+        Some(directory) => Ok(Some(Command::Gen { directory })),
+        None => Ok(None),
+    }
+}
+
 // What a command asks for with these plain words behind it, or None where they have no form of it.
 #[tactic(auto, unfolding(crate::specs::Words::form_of))]
 fn form_of<'a>(
@@ -189,6 +209,10 @@ fn form_of<'a>(
         CommandName::Ls => match plain {
             [directory] => ls_of(alloc, *directory, None),
             [directory, pattern] => ls_of(alloc, *directory, Some(*pattern)),
+            _ => Ok(None),
+        },
+        CommandName::Gen => match plain {
+            [directory] => gen_of(alloc, *directory),
             _ => Ok(None),
         },
     }

@@ -20,7 +20,7 @@ returns-clause-meaning g c = λ tree told.
     c.in_ok-end_answer.ensures _ (subst (λ (h : HostTexts). IsBuild c.in_ok-end.end (loaded h (request_view c.args.request.now) tree)) c.in_ok-outer.ensures (c.in_ok-end.ensures.meaning tree told))
 
 pub returns-clause-range : goal.returns-clause-range
-returns-clause-range g c = end_range _ _ _ c.in_ok-end_answer.ensures
+returns-clause-range g c = end_range _ _ _ _ c.in_ok-end_answer.ensures
 
 pub returns-clause-reads : goal.returns-clause-reads
 returns-clause-reads g c = rw (← c.in_ok-outer.ensures) c.in_ok-end.ensures.reads

@@ -1,4 +1,6 @@
+use Rattle.std.proofs.Common.{ap}
 use Rattle.gn_basics.proofs.Results.{if_ok}
+use Rattle.gn_executions.specs.Base.{BaseState}
 use Rattle.gn_load.specs.Turns.{known_paths}
 use Rattle.gn_load.specs.Setups.{given_base}
 use Rattle.gn_top.specs.Building.{started_view}
@@ -8,7 +10,7 @@ use Rattle.gn_top.proofs.building.load_build.Goals as goal
 pub returns-clause-meaning : goal.returns-clause-meaning
 returns-clause-meaning g c =
     if_ok c.behind_loading.result
-    (λ end says tree host request told same knows. says tree host request
+    (λ end says tree host request told same knows. says tree host request (ap (λ (b : BaseState). b.context.build_directory) same)
     (load_is host request tree (started_view c.args.start) (known_paths c.args.start.setup.known.entries) (given_base c.args.start.setup) c.load_plain-plain.result.end c.load_plain-plain.result.units same knows (c.load_plain-plain.ensures.end tree told)))
     c.behind_loading.ensures.meaning
 

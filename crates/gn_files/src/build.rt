@@ -1,0 +1,73 @@
+// The Ninja files of a build.
+
+ghost use Rattle.std.specs.Prelude.{◌≡◌, IfOk, map};
+ghost use Rattle.gn_labelled.specs.Graphs.{shape_of};
+ghost use Rattle.gn_labelled.specs.Index.{lent};
+ghost use Rattle.gn_resolved_meant.specs.Laws.{IsClosed};
+ghost use Rattle.gn_toolchains.specs.Frames.{surroundings as given};
+ghost use Rattle.gn_resolve.specs.Whole.{AllEnd};
+ghost use Rattle.gn_out_files.specs.Files.{put_of};
+ghost use Rattle.gn_files.specs.Files.{files_by, files_of_build};
+ghost use Rattle.gn_files.specs.Known.{surroundings_in, known, AreAmong, IsProject};
+
+use crate::files::add_known_files;
+use crate::project::Project;
+use gn_items::Item;
+use gn_labelled::ItemIndex;
+use gn_labels::Label;
+use gn_out_files::OutFile;
+use gn_resolve::resolve_all;
+use gn_toolchains::{Frames, Surroundings};
+use std::alloc::{AllocError, Global};
+
+// What the Ninja files of a build are made of.
+fn project_of<'a>(
+    alloc: Global,
+    surroundings: Surroundings<'a>,
+    items: &[&'a Item],
+    reached: &[Label],
+    targets: &'a [Label],
+) -> Result<Project<'a>, AllocError>
+    requires closed { IsClosed (shape_of (lent items.now)) reached.now }
+    requires ends { AllEnd (lent items.now) reached.now }
+    ensures { IfOk result (IsProject (given surroundings.entry) (lent items.now) reached.now targets.now) }
+{
+    let index = ItemIndex::of(alloc, items)?;
+    let frames = Frames::of(alloc, surroundings, items, reached)?;
+    let resolved = resolve_all(alloc, surroundings, &frames, items, reached)?;
+    Ok(Project {
+        surroundings,
+        frames,
+        items: index,
+        resolved,
+        targets,
+    })
+}
+
+// The Ninja files by what is known.
+fn files_of(alloc: Global, project: &Project<'_>) -> Result<Vec<OutFile>, AllocError>
+    ensures { IfOk result (λ files. map put_of files.items ≡ files_by (surroundings_in project.now) (known project.now) project.now.items project.now.targets.now) }
+{
+    let mut files = Vec::new(alloc);
+    add_known_files(alloc, &mut files, project)?;
+    Ok(files)
+}
+
+/// The Ninja files of a build that generates these targets, which stand in label order: build.ninja, those of its toolchains and
+/// those of its targets. The targets that are reached are those and all that dependencies lead to from them, and none of them may
+/// reach a cycle.
+pub fn ninja_files<'a>(
+    alloc: Global,
+    surroundings: Surroundings<'a>,
+    items: &[&'a Item],
+    reached: &[Label],
+    targets: &'a [Label],
+) -> Result<Vec<OutFile>, AllocError>
+    requires closed { IsClosed (shape_of (lent items.now)) reached.now }
+    requires ends { AllEnd (lent items.now) reached.now }
+    requires among { AreAmong targets.now reached.now }
+    ensures { IfOk result (λ files. map put_of files.items ≡ files_of_build (given surroundings.entry) (lent items.now) targets.now) }
+{
+    let project = project_of(alloc, surroundings, items, reached, targets)?;
+    files_of(alloc, &project)
+}

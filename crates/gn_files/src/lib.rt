@@ -1,0 +1,14 @@
+//! The Ninja files of a build: build.ninja, those of its toolchains and those of its targets.
+#![tactic(auto)]
+
+mod build;
+mod files;
+mod paths;
+mod project;
+mod pushing;
+mod root;
+mod targets;
+mod used;
+
+pub use build::ninja_files;
+pub use gn_out_files::OutFile;

@@ -1,0 +1,54 @@
+// The Ninja files of a build.
+
+ghost use Rattle.std.specs.Prelude.{◌≡◌, None, IfOk, map};
+ghost use Rattle.gn_labelled.specs.Index.{lent};
+ghost use Rattle.gn_build_faults.specs.Faults.{target_fault};
+ghost use Rattle.gn_build_faults.specs.Reaching.{targets_of as targets_meant};
+ghost use Rattle.gn_files.specs.Files.{files_of_build};
+ghost use Rattle.gn_out_files.specs.Files.{put_of};
+ghost use Rattle.gn_toolchains.specs.Frames.{surroundings as given};
+ghost use Rattle.gn_top.specs.Building.{faultless_view};
+ghost use Rattle.gn_top.specs.Files.{ninja_files as files_meant};
+
+use crate::building::{Build, surroundings_of};
+use crate::faultless::Faultless;
+use gn_build_faults::{
+    faultless_targets_can_be_resolved, targets_have_their_dependencies, targets_of,
+};
+use gn_files::ninja_files as files_of_targets;
+use gn_items::Item;
+use gn_labels::Label;
+use gn_out_files::OutFile;
+use gn_toolchains::Surroundings;
+use std::alloc::{AllocError, Global};
+
+// The Ninja files of a build, by its items and the targets that it generates, of which no fault is told.
+fn files_of<'a>(
+    alloc: Global,
+    surroundings: Surroundings<'a>,
+    items: &[&'a Item],
+    generated: &'a [Label],
+) -> Result<Vec<OutFile>, AllocError>
+    requires { target_fault (given surroundings) (lent items.now) (targets_meant (given surroundings).default (lent items.now) generated.now) ≡ None }
+    ensures { IfOk result (λ files. map put_of files.items ≡ files_of_build (given surroundings.entry) (lent items.now) generated.now) }
+{
+    faultless_targets_can_be_resolved();
+    targets_have_their_dependencies();
+    let targets = targets_of(alloc, surroundings.default, items, generated)?;
+    files_of_targets(alloc, surroundings, items, targets.as_slice(), generated)
+}
+
+/// The Ninja files of a build whose graph has no fault: build.ninja, those of its toolchains and those of its targets.
+#[tactic(auto, unfolding(crate::specs::Files::ninja_files))]
+pub(crate) fn ninja_files(alloc: Global, build: &Faultless) -> Result<Vec<OutFile>, AllocError>
+    ensures { IfOk result (λ files. map put_of files.items ≡ files_meant (faultless_view build.now)) }
+{
+    let judged: &Build = &build.build;
+    let items = judged.loaded.items(alloc)?;
+    files_of(
+        alloc,
+        surroundings_of(judged),
+        items.as_slice(),
+        judged.loaded.generated(),
+    )
+}
