@@ -1,6 +1,6 @@
-# make run      proves, builds and runs the main job on the example tree
+# make run      proves and builds the program, makes the Ninja files of the example project, builds that, and runs what was built
 # make test     the whole gate
-# make try      runs the program on a tree with no proof, in a minute or two: TREE=FOLDER names another one than the example tree
+# make try      lists the targets of a tree with no proof, in a minute or two: TREE=FOLDER names another one than examples/tools
 # make install  puts the proved program under PREFIX/bin
 #
 # `run` and `test` say which crate is begun and which is proved, with the time so far. What the toolchain prints is kept whole
@@ -13,8 +13,13 @@ TREE ?= examples/tools
 
 .PHONY: run test try install build toolchain
 
-run: build
-	cd examples/tools && $(GN) ls out
+# What builds the example is asked for before the program is proved, since that takes long.
+run: toolchain
+	@for each in ninja gcc g++; do \
+	  command -v $$each >/dev/null 2>&1 || { echo "make: the example is built by ninja, gcc and g++, and '$$each' is missing" >&2; exit 1; }; \
+	done
+	@$(MAKE) --no-print-directory build
+	cd examples/hello && $(GN) gen out && ninja -C out && out/hello
 
 test: toolchain
 	@mkdir -p out

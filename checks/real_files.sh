@@ -42,12 +42,13 @@ run() {
   out=${out%x}
 }
 
-# project FOLDER..: folders with a dotfile and a build configuration
+# project FOLDER..: folders with a dotfile, a build configuration and its toolchain
 project() {
   for each in "$@"; do
-    mkdir -p "$folder/$each"
+    mkdir -p "$folder/$each/tools"
     printf 'buildconfig = "//c.gn"\n' >"$folder/$each/.gn"
-    printf 'set_default_toolchain("//:t")\n' >"$folder/$each/c.gn"
+    printf 'set_default_toolchain("//tools:t")\n' >"$folder/$each/c.gn"
+    printf 'toolchain("t") {\n  tool("stamp") {\n    command = "touch {{output}}"\n  }\n}\n' >"$folder/$each/tools/BUILD.gn"
   done
 }
 
@@ -111,7 +112,7 @@ mkdir -p "$folder/secondary/s" "$folder/arguments/out/deep" "$folder/arguments_f
 printf 'buildconfig = "//c.gn"\nsecondary_source = "//s/"\n' >"$folder/secondary/.gn"
 mv "$folder/secondary/c.gn" "$folder/secondary/s/c.gn"
 printf 'print(default_toolchain, target_gen_dir)\n' >"$folder/secondary/BUILD.gn"
-printf 'import("//c.gn")\nset_default_toolchain("//:t")\n' >"$folder/itself/c.gn"
+printf 'import("//c.gn")\nset_default_toolchain("//tools:t")\n' >"$folder/itself/c.gn"
 : >"$folder/toolchain/c.gn"
 printf 'declare_args() {\n  a = 1\n}\nprint(a)\n' >"$folder/arguments/BUILD.gn"
 printf 'a = 2\nb = 3\n' >"$folder/arguments/out/deep/args.gn"
@@ -125,7 +126,7 @@ expect "a dotfile beyond the limit" 1 $'ERROR at //.gn:1:1: File "//.gn" is too 
 run "$folder/no_configuration" ls out
 expect "no build configuration" 1 $'ERROR at //c.gn:1:1: No such file "//c.gn".\n'
 run "$folder/secondary" ls out
-expect "a build configuration below the secondary source tree" 0 $'//:t //out/gen\n'
+expect "a build configuration below the secondary source tree" 0 $'//tools:t //out/gen\n'
 run "$folder/itself" ls out
 expect "a build configuration that imports itself" 1 $'ERROR at //c.gn:1:1: Import cycle.\n'
 run "$folder/toolchain" ls out

@@ -25,7 +25,7 @@ ROUTINE = re.compile(
 )
 SO_FAR = re.compile(r"so far: (\d+ of \d+) functions checked$")
 # The lines of rt ci that a reader waits for, and the headings that part the messages of its crates.
-TOLD = re.compile(r"rt: |gate: |real_files: |escapes: |original_gn: ")
+TOLD = re.compile(r"rt: |gate: |real_files: |escapes: |ninja_builds: |original_gn: |sample_tree: ")
 COUNTS = re.compile(r"\d+ passed, \d+ failed")
 HEADING = re.compile(r"== (\w+)(: its tests)?$")
 ENDED = re.compile(r"rt: (\w+)(: its tests are)? (proved|NOT PROVED)$")

@@ -1,0 +1,1 @@
+#define HEADER "a header"

@@ -1,0 +1,2 @@
+extern const char part[];
+const char part[] = PART;
