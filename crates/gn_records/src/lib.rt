@@ -36,6 +36,10 @@ pub use laws::{
     exports_need_no_dependency, further_configurations_stand_behind, objects_need_no_dependency,
     outputs_need_no_dependency, what_is_made_needs_no_dependency,
 };
+pub use output::{
+    Output, OwnDirectories, names_for, output_of, own_tool, substs_of_tool, tool_of_kind,
+};
+pub use outputs::{for_none, for_source};
 pub use records::{Exports, Record, record_of};
 pub use texts::dones;
 pub use tools::{tool_of, tools_of};

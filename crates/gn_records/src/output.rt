@@ -21,24 +21,30 @@ use gn_substs::{Position, Subst};
 use gn_writing::{OutputNames, given_for, output_extension, output_name};
 use std::alloc::{AllocError, Global};
 
-// How an output is called, and where it stands: None where the text that stands for its directory means no path.
+/// How an output is called, and where it stands.
 #[derive(Drop)]
-pub(crate) struct Output {
+pub struct Output {
+    /// Its name: what the target says, or else its own, behind the prefix of the tool.
     pub name: Text,
+    /// Its extension, with a dot.
     pub extension: Text,
+    /// Its directory; None where the text that stands for it means no path.
     pub directory: Option<Path>,
+    /// The directories of the target.
     pub around: OwnDirectories,
 }
 
-// The obj and the gen directory of a target's directory.
+/// The directories in which files of a target stand.
 #[derive(Drop)]
-pub(crate) struct OwnDirectories {
+pub struct OwnDirectories {
+    /// Its obj directory.
     pub objects: Path,
+    /// Its gen directory.
     pub generated: Path,
 }
 
-// The tool of a kind that makes its output; the others have none.
-pub(crate) fn own_tool(kind: ItemKind) -> Option<ToolName>
+/// The tool of a kind that makes its output; the others have none. It takes no memory.
+pub fn own_tool(kind: ItemKind) -> Option<ToolName>
     ensures { result ≡ own_tool kind }
 {
     match kind {
@@ -50,8 +56,8 @@ pub(crate) fn own_tool(kind: ItemKind) -> Option<ToolName>
     }
 }
 
-// The tool of a kind, where the toolchain has it.
-pub(crate) fn tool_of_kind<'a>(context: &Context<'a>, kind: ItemKind) -> Option<&'a Tool>
+/// The tool of a kind that makes its output, where the toolchain has it. It takes no memory.
+pub fn tool_of_kind<'a>(context: &Context<'a>, kind: ItemKind) -> Option<&'a Tool>
     ensures { option_map (λ t. t.now) result ≡ tool_where (around context.now) (own_tool kind) }
 {
     match own_tool(kind) {
@@ -141,8 +147,8 @@ fn meant_directory(
     }
 }
 
-// The texts of a variable of a tool; none where there is no tool.
-pub(crate) fn substs_of_tool<'a>(tool: Option<&'a Tool>, variable: Variable) -> &'a [Subst]
+/// The texts of a variable of a tool; none where there is no tool. It takes no memory.
+pub fn substs_of_tool<'a>(tool: Option<&'a Tool>, variable: Variable) -> &'a [Subst]
     ensures { result.now ≡ substs_of_tool variable (option_map (λ t. t.now) tool.entry) }
 {
     match tool {
@@ -210,8 +216,8 @@ fn directory_of_output(
     }
 }
 
-// The output of a target whose kind has this tool.
-pub(crate) fn output_of(
+/// How the output of a target is called whose kind has this tool, and where it stands.
+pub fn output_of(
     alloc: Global,
     context: &Context<'_>,
     item: &Item,
@@ -231,12 +237,8 @@ pub(crate) fn output_of(
     })
 }
 
-// What a target with this output gives to the texts of tools.
-pub(crate) fn names_for<'a>(
-    context: &Context<'a>,
-    item: &'a Item,
-    output: &'a Output,
-) -> OutputNames<'a>
+/// What a target with this output gives to the texts of tools. It takes no memory.
+pub fn names_for<'a>(context: &Context<'a>, item: &'a Item, output: &'a Output) -> OutputNames<'a>
     ensures { values_of result ≡ values_for (around context.now) item.now output.now }
 {
     OutputNames {

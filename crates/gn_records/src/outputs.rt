@@ -25,8 +25,8 @@ fn output_position(kind: ItemKind) -> Position
     }
 }
 
-// What is given at a position for a source of the item.
-pub(crate) fn for_source(
+/// What is given to a text at a position for a source of the item.
+pub fn for_source(
     alloc: Global,
     context: &Context<'_>,
     item: &Item,
@@ -43,8 +43,8 @@ pub(crate) fn for_source(
     Given::of_source(alloc, position, source, &around)
 }
 
-// What is given where no substitution stands.
-pub(crate) fn for_none(alloc: Global) -> Given
+/// What is given where no substitution stands. It takes no memory.
+pub fn for_none(alloc: Global) -> Given
     ensures { result ≡ for_none }
 {
     Given::new(Position::NoNames, Texts::new(alloc))
