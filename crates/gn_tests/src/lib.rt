@@ -18,6 +18,8 @@ mod names;
 #[cfg(test)]
 mod nesting;
 #[cfg(test)]
+mod puts;
+#[cfg(test)]
 mod runs;
 #[cfg(test)]
 mod scopes;
@@ -33,3 +35,5 @@ mod units;
 mod values;
 #[cfg(test)]
 mod whole_builds;
+#[cfg(test)]
+mod whole_puts;
