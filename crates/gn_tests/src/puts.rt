@@ -197,48 +197,48 @@ const FAULTS: &str = runs! {
         puts => 1 "ERROR at //a/BUILD.gn:3:1: Output \"//out/w.txt\" is made twice.\n";
 };
 
-// A sink that writes down all that it is told, in order: of a file its path, the byte 31, its bytes and the byte 29.
+// A sink that records what is put and said, in order: of a file its path, the byte 31, its bytes and the byte 29.
 #[derive(Drop)]
-struct Told {
-    bytes: Vec<u8>,
+struct RecordingSink {
+    recorded: Vec<u8>,
 }
 
-impl Sink for Told {
+impl Sink for RecordingSink {
     ghost use Rattle.std.specs.Prelude.{None};
 
     ghost state = { λ _. record { events = None; faults = 0 } };
 
     fn say(&mut self, bytes: &[u8]) -> Result<(), SinkStop> {
-        self.bytes.extend_from_slice(bytes)?;
+        self.recorded.extend_from_slice(bytes)?;
         Ok(())
     }
 
     fn put(&mut self, path: &str, bytes: &[u8]) -> Result<(), SinkStop> {
-        self.bytes.extend_from_slice(path.as_bytes())?;
-        self.bytes.push(0x1f)?;
-        self.bytes.extend_from_slice(bytes)?;
-        self.bytes.push(0x1d)?;
+        self.recorded.extend_from_slice(path.as_bytes())?;
+        self.recorded.push(0x1f)?;
+        self.recorded.extend_from_slice(bytes)?;
+        self.recorded.push(0x1d)?;
         Ok(())
     }
 }
 
-// Whether a run over this source ends so, and tells the sink just this.
-fn tells<R: Threads + Sync>(
+// Whether a run over this source ends so, and puts and says just this.
+fn puts_and_says<R: Threads + Sync>(
     rt: &R,
     alloc: Global,
     line: &str,
     source: &mut TreeSource,
     end: &str,
 ) -> Result<bool, AllocError> {
-    let mut sink = Told {
-        bytes: Vec::new(alloc),
+    let mut sink = RecordingSink {
+        recorded: Vec::new(alloc),
     };
     let one = run(rt, alloc, line, source, &mut sink)?;
-    Ok(is_end(one.status, &sink.bytes, end))
+    Ok(is_end(one.status, &sink.recorded, end))
 }
 
-// Whether a command line over a tree tells this, and a second time too.
-fn tells_twice<R: Threads + Sync>(
+// Whether a command line over a tree puts and says this, and a second time too.
+fn twice_so<R: Threads + Sync>(
     rt: &R,
     alloc: Global,
     line: &str,
@@ -246,10 +246,10 @@ fn tells_twice<R: Threads + Sync>(
     end: &str,
 ) -> Result<bool, AllocError> {
     let mut source = TreeSource::new(alloc, tree_of(alloc, files)?, Vec::new(alloc));
-    if !tells(rt, alloc, line, &mut source, end)? {
+    if !puts_and_says(rt, alloc, line, &mut source, end)? {
         return Ok(false);
     }
-    tells(rt, alloc, line, &mut source, end)
+    puts_and_says(rt, alloc, line, &mut source, end)
 }
 
 /// Whether a row holds.
@@ -262,7 +262,7 @@ pub(crate) fn holds<R: Threads + Sync>(
         return Ok(false);
     };
     match rest.split_once('\x1c') {
-        Some((files, end)) => tells_twice(rt, alloc, line, files, end),
+        Some((files, end)) => twice_so(rt, alloc, line, files, end),
         None => Ok(false),
     }
 }
@@ -287,7 +287,7 @@ fn with_a_fault_gen_puts_nothing(rt: HostRuntime) -> Result<(), Fail> {
 const GROUP: &str = "//BUILD.gn\x1fgroup(\"g\") {\n}\n\x1d";
 
 // The number of the write that fails, how many files are put then, and the end.
-const CUT: [(u64, usize, &str); 5] = [
+const FAILED_WRITES: [(u64, usize, &str); 5] = [
     (1, 0, "4"),
     (2, 1, "4"),
     (3, 2, "4"),
@@ -300,8 +300,8 @@ fn has_put(sink: &TreeSink, files: usize) -> bool {
     sink.file(files).is_none() && (files == 0 || sink.file(files.wrapping_sub(1)).is_some())
 }
 
-// Whether a run is cut so.
-fn is_cut_so<R: Threads + Sync>(
+// Whether a run stops so at a write that fails.
+fn stops_so<R: Threads + Sync>(
     rt: &R,
     alloc: Global,
     row: &(u64, usize, &str),
@@ -312,11 +312,11 @@ fn is_cut_so<R: Threads + Sync>(
     Ok(is_end(one.status, sink.said(), row.2) && has_put(&sink, row.1))
 }
 
-// The text is the last that is told, and where a write fails the files before it stand alone.
+// The text is said behind the last file, and where a write fails there is nothing but the files before it.
 #[test]
 fn files_come_before_the_text(rt: HostRuntime) -> Result<(), Fail> {
-    for row in &CUT {
-        assert!(rt; is_cut_so(&rt, rt.alloc(), row)?, "{}", row.0);
+    for row in &FAILED_WRITES {
+        assert!(rt; stops_so(&rt, rt.alloc(), row)?, "{}", row.0);
     }
     Ok(())
 }

@@ -168,6 +168,34 @@ const TOOLCHAINS: &str = runs! {
             "rule u_2dv_link\n  command = ld -u ${in} ${out}\n  description = LINK ${label_no_toolchain}\n\n"
             "subninja u-v/obj/k.ninja\n",
         => 0 "Done. Made 3 targets from 2 files\n";
+    // Files of toolchains stand by their texts, and in the order of paths they may stand before build.ninja.
+    "gen out",
+        "//t/BUILD.gn":
+            "toolchain(\"t\") {\n  tool(\"stamp\") {\n    command = \"touch {{output}}\"\n  }\n}\n"
+            "toolchain(\"b\") {\n  tool(\"stamp\") {\n    command = \"b {{output}}\"\n  }\n}\n",
+        "//t/a/BUILD.gn": "toolchain(\"c\") {\n  tool(\"stamp\") {\n    command = \"c {{output}}\"\n  }\n}\n",
+        "//BUILD.gn": "group(\"g\") {\n  deps = [ \":k(//t:b)\", \":k(//t/a:c)\" ]\n}\ngroup(\"k\") {\n}\n",
+        puts
+        "//out/b/obj/k.ninja": "build b/obj/k.stamp: b_stamp\n",
+        "//out/b/toolchain.ninja":
+            "rule b_stamp\n  command = b ${out}\n\n"
+            "subninja b/obj/k.ninja\n",
+        "//out/build.ninja":
+            "ninja_required_version = 1.7.2\n\n"
+            "subninja toolchain.ninja\nsubninja c/toolchain.ninja\nsubninja b/toolchain.ninja\n\n"
+            "build $:g: phony obj/g.stamp\nbuild $:k: phony obj/k.stamp\nbuild g: phony obj/g.stamp\nbuild k: phony obj/k.stamp\n\n"
+            "build all: phony obj/g.stamp obj/k.stamp\n\n"
+            "default all\n",
+        "//out/c/obj/k.ninja": "build c/obj/k.stamp: c_stamp\n",
+        "//out/c/toolchain.ninja":
+            "rule c_stamp\n  command = c ${out}\n\n"
+            "subninja c/obj/k.ninja\n",
+        "//out/obj/g.ninja": "build obj/g.stamp: stamp b/obj/k.stamp c/obj/k.stamp\n",
+        "//out/obj/k.ninja": "build obj/k.stamp: stamp\n",
+        "//out/toolchain.ninja":
+            "rule stamp\n  command = touch ${out}\n\n"
+            "subninja obj/g.ninja\nsubninja obj/k.ninja\n",
+        => 0 "Done. Made 4 targets from 3 files\n";
     // Pools that a tool and targets name. Ninja's own one isn't written.
     "gen out",
         "//t/BUILD.gn": "toolchain(\"t\") {\n  tool(\"stamp\") {\n    command = \"touch {{output}}\"\n    pool = \"//:two\"\n  }\n}\n",
