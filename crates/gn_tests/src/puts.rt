@@ -195,6 +195,26 @@ const FAULTS: &str = runs! {
         "//BUILD.gn": "group(\"g\") {\n  deps = [ \"//a\" ]\n}\nwrite_file(\"out/w.txt\", \"b\")\n",
         "//a/BUILD.gn": "group(\"a\") {\n}\nwrite_file(\"//out/w.txt\", \"a\")\n",
         puts => 1 "ERROR at //a/BUILD.gn:3:1: Output \"//out/w.txt\" is made twice.\n";
+    // A file that a file writes and a target makes.
+    "gen out",
+        "//BUILD.gn": "write_file(\"out/x\", \"b\")\naction(\"a\") {\n  script = \"s.py\"\n  outputs = [ \"out/x\" ]\n}\n",
+        puts => 1 "ERROR at //BUILD.gn:1:1: Output \"//out/x\" is made twice.\n";
+    // An output that is above the source root by the text of its tool.
+    "gen out",
+        "//BUILD.gn": "group(\"g\") {\n}\nstatic_library(\"l\") {\n  output_name = \"../../../../l\"\n  deps = [ \":no\" ]\n}\n",
+        puts => 1 "ERROR at //BUILD.gn:3:1: Path is above the source root.\n";
+    // A pool that a tool names and nothing defines. Its toolchain stands before the target whose dependency is missing.
+    "gen out",
+        "//BUILD.gn": "group(\"g\") {\n  deps = [ \"//a:b(//a:u)\", \"//z:b(//z:u)\" ]\n}\n",
+        "//a/BUILD.gn": "group(\"b\") {\n}\ntoolchain(\"u\") {\n  tool(\"stamp\") {\n    command = \"touch {{output}}\"\n    pool = \"//:none\"\n  }\n}\n",
+        "//z/BUILD.gn": "group(\"b\") {\n  deps = [ \":no\" ]\n}\ntoolchain(\"u\") {\n  tool(\"stamp\") {\n    command = \"touch {{output}}\"\n  }\n}\n",
+        puts => 1 "ERROR at //a/BUILD.gn:3:1: \"//a:u\" needs \"//:none\", which is not defined.\n";
+    // Two toolchains of one name.
+    "gen out",
+        "//BUILD.gn": "group(\"g\") {\n  deps = [ \"//a:b(//a:u)\", \"//z:b(//z:u)\" ]\n}\n",
+        "//a/BUILD.gn": "group(\"b\") {\n}\ntoolchain(\"u\") {\n  tool(\"stamp\") {\n    command = \"touch {{output}}\"\n  }\n}\n",
+        "//z/BUILD.gn": "group(\"b\") {\n}\ntoolchain(\"u\") {\n  tool(\"stamp\") {\n    command = \"touch {{output}}\"\n  }\n}\n",
+        puts => 1 "ERROR at //z/BUILD.gn:3:1: Output \"//out/u/toolchain.ninja\" is made twice.\n";
 };
 
 // A sink that records what is put and said, in order: of a file its path, the byte 31, its bytes and the byte 29.
