@@ -1,1 +1,5 @@
 pub mod LeastLemmas
+pub mod LeastLaw
+pub mod EmptyLists
+pub mod WholeLaw
+pub mod LeastTold

@@ -1,3 +1,4 @@
 pub mod Least
 pub mod Texts
 pub mod Used
+pub mod Laws
