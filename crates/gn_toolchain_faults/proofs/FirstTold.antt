@@ -1,20 +1,18 @@
 -- What is told is the first in label order.
-use Rattle.std.proofs.Common.{◌≡◌, ℕ, List, [], ◌∷◌, Bool, true, false, Option, Some, None, option_map, filter, refl, sym, ◌∙◌, ap, subst}
+use Rattle.std.proofs.Common.{◌≡◌, ℕ, List, Bool, true, false, Option, Some, None, option_map, filter, refl, sym, ◌∙◌, ap}
 use Rattle.std.specs.List.{Contains, filter_map}
 use Rattle.gn_labels.specs.declared.label.Label.{Label}
 use Rattle.gn_labels.specs.Labels.{is_before}
 use Rattle.gn_faults.specs.declared.fault.Fault.{Fault}
 use Rattle.gn_items.specs.declared.item.Item.{Item}
-use Rattle.gn_items.specs.declared.tool.Tool.{Tool}
 use Rattle.gn_toolchains.specs.Toolchains.{Surroundings}
-use Rattle.gn_toolchain_faults.specs.declared.pools.Wrong.{Wrong}
 use Rattle.gn_toolchain_faults.specs.declared.fault.ToolchainFault.{ToolchainFault}
 use Rattle.gn_toolchain_faults.specs.Least.{itself, least}
 use Rattle.gn_toolchain_faults.specs.Used.{used}
 use Rattle.gn_toolchain_faults.specs.Pools.{pools_named, is_wrong, wrong_pool}
 use Rattle.gn_toolchain_faults.specs.Faults.{fault_of, beside, told_of, label_of, fault_among, toolchain_fault}
-use Rattle.gn_toolchain_faults.specs.Laws.{IsFirstWrong, FirstPoolIsTold, NoPoolIsWrong, IsFirstFault, FirstFaultIsTold, NoneHasFaults}
-use Rattle.gn_toolchain_faults.proofs.Contained.{of_filter, in_filter, IsFound, of_filter_map, in_filter_map}
+use Rattle.gn_toolchain_faults.specs.Laws.{FirstPoolIsTold, NoPoolIsWrong, IsFirstFault, FirstFaultIsTold, NoneHasFaults}
+use Rattle.gn_toolchain_faults.proofs.Contained.{of_filter, in_filter, of_filter_map, in_filter_map}
 use Rattle.gn_toolchain_faults.proofs.First.{LabelOrder, IsFirst, least_is_first, none_is_first}
 
 module _ (order : LabelOrder) where

@@ -1,5 +1,5 @@
 -- The items that define toolchains are enough to find them.
-use Rattle.std.proofs.Common.{◌≡◌, ℕ, List, [], ◌∷◌, Bool, true, false, ◌&&◌, cond, Option, Some, None, filter, refl, sym, ◌∙◌, ap}
+use Rattle.std.proofs.Common.{◌≡◌, ℕ, List, [], ◌∷◌, Bool, true, false, ◌&&◌, cond, Option, Some, refl, ◌∙◌, ap}
 use Rattle.std.specs.List.{filter_map, cons_option}
 use Rattle.std.specs.Str.{bytes_eq}
 use Rattle.gn_labels.specs.declared.label.Label.{Label}
@@ -7,7 +7,7 @@ use Rattle.gn_labels.specs.Labels.{spelling}
 use Rattle.gn_items.specs.declared.item.Item.{Item}
 use Rattle.gn_toolchains.specs.Toolchains.{is_toolchain, toolchain_at}
 use Rattle.gn_toolchains.specs.Frames.{with_toolchains}
-use Rattle.gn_toolchain_faults.specs.Used.{used, defines_one, definitions}
+use Rattle.gn_toolchain_faults.specs.Used.{used, definitions}
 
 module _ (default text : List ℕ) where
   -- an item of another kind, which is left out, defines none

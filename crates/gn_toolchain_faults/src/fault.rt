@@ -1,6 +1,6 @@
 // The fault that is told of the toolchains that targets use.
 
-ghost use Rattle.std.specs.Prelude.{◌≡◌, IfOk, option_map};
+ghost use Rattle.std.specs.Prelude.{◌≡◌, IfOk};
 ghost use Rattle.gn_toolchains.specs.Toolchains.{lent};
 ghost use Rattle.gn_toolchains.specs.Frames.{surroundings as given};
 ghost use Rattle.gn_toolchain_faults.specs.Least.{with_one};

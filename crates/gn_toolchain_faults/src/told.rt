@@ -1,6 +1,6 @@
 // What the faults of toolchains tell.
 
-ghost use Rattle.std.specs.Prelude.{◌≡◌, ◌∷◌, [], Some, IfOk, codes};
+ghost use Rattle.std.specs.Prelude.{◌≡◌, ◌∷◌, [], Some, IfOk};
 ghost use Rattle.gn_labels.specs.Labels.{printed};
 ghost use Rattle.gn_graph_faults.specs.Faults.{toolchain_told, fault_told};
 ghost use Rattle.gn_toolchains.specs.Frames.{surroundings as given};

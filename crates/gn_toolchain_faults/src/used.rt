@@ -1,6 +1,6 @@
 // The toolchains that targets use.
 
-ghost use Rattle.std.specs.Prelude.{◌≡◌, ◌++◌, ◌∷◌, [], IfOk, OnOk, option_map};
+ghost use Rattle.std.specs.Prelude.{◌≡◌, [], IfOk, OnOk, option_map};
 ghost use Rattle.std.specs.List.{filter_map};
 ghost use Rattle.gn_labels.specs.Labels.{spelling};
 ghost use Rattle.gn_toolchains.specs.Toolchains.{lent, is_toolchain, is_definition, toolchain_at};

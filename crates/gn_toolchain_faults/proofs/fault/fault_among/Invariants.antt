@@ -1,4 +1,4 @@
-use Rattle.std.proofs.Common.{◌≡◌, drop, None}
+use Rattle.std.proofs.Common.{◌≡◌, drop}
 use Rattle.std.specs.List.{fold, filter_map}
 use Rattle.gn_toolchains.specs.Toolchains.{lent}
 use Rattle.gn_toolchains.specs.Frames.{surroundings}

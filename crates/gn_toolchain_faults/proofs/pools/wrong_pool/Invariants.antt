@@ -1,4 +1,4 @@
-use Rattle.std.proofs.Common.{◌≡◌, drop, filter, option_map, None}
+use Rattle.std.proofs.Common.{◌≡◌, drop, filter, option_map}
 use Rattle.std.specs.List.{fold}
 use Rattle.gn_toolchain_faults.specs.Least.{earlier, itself, least_label}
 use Rattle.gn_toolchain_faults.specs.Pools.{is_wrong, pools_named}
