@@ -1,5 +1,5 @@
 -- Targets of which no fault is told have no fault of the graph.
-use Rattle.std.proofs.Common.{◌≡◌, ℕ, List, [], ◌∷◌, ◌++◌, Bool, true, false, Option, Some, None, if◌then◌else◌, slice_get, map, refl, sym, ◌∙◌, ap}
+use Rattle.std.proofs.Common.{◌≡◌, ℕ, List, [], ◌∷◌, ◌++◌, Bool, true, false, Option, Some, None, if◌then◌else◌, slice_get, refl, ◌∙◌, ap}
 use Rattle.std.specs.List.{flat_map}
 use Rattle.gn_labels.specs.declared.label.Label.{Label}
 use Rattle.gn_faults.specs.declared.fault.Fault.{Fault}
@@ -13,10 +13,14 @@ use Rattle.gn_records.specs.Around.{Around}
 use Rattle.gn_dependencies.specs.Laws.{itself}
 use Rattle.gn_resolved_meant.specs.Laws.{FaultlessEnd, ReachesThose, ReachedAreClosed}
 use Rattle.gn_toolchains.specs.Toolchains.{Surroundings, around_of}
-use Rattle.gn_build_faults.specs.Faults.{facts_in, graph_fault, is_unresolved, first_of, with_tool, fault_at, with_outputs, fault_among, target_fault}
+use Rattle.gn_toolchain_faults.specs.declared.fault.ToolchainFault.{ToolchainFault}
+use Rattle.gn_toolchain_faults.specs.Faults.{toolchain_fault}
+use Rattle.gn_build_faults.specs.Faults.{facts_in, graph_fault, is_unresolved, first_of, with_tool, own_fault, fault_at, with_outputs, fault_among, target_fault}
+use Rattle.gn_build_faults.specs.Labels.{those_before, beside_toolchain, fault_of_labels}
 use Rattle.gn_build_faults.specs.Laws.{FaultlessTargetsEnd, TargetsAreClosed, GeneratedAreTargets}
 use Rattle.gn_build_faults.specs.Reaching.{labels_in, targets_of}
 use Rattle.gn_build_faults.specs.Outputs.{made_around, output_fault}
+use Rattle.gn_build_faults.specs.Paths.{path_fault}
 use Rattle.gn_build_faults.specs.Tools.{tool_fault}
 use Rattle.gn_build_faults.proofs.Listed.{others_have_nothing}
 
@@ -68,8 +72,9 @@ module _ (default : List ℕ) (items : List Item) (known : List ℕ → Around) 
   unfolding some
   here before t h =
       graph_none (graph_fault default items (t ∷ [])) (tool_fault default items (known t.toolchain).tools t)
-      (first_none (with_tool (graph_fault default items (t ∷ [])) (tool_fault default items (known t.toolchain).tools t))
-      (output_fault default items (known t.toolchain).build before (made_around (known t.toolchain) (item_at t items)) t) h)
+      (other_none (path_fault default items (known t.toolchain) t) (with_tool (graph_fault default items (t ∷ [])) (tool_fault default items (known t.toolchain).tools t))
+      (first_none (own_fault default items (known t.toolchain) t)
+      (output_fault default items (known t.toolchain).build before (made_around (known t.toolchain) (item_at t items)) t) h))
 
   all_none : (before : List (List ℕ)) (ts : List Label) → fault_among default items some before ts ≡ None → least_fault_in (labels_in items) (facts_in default items) ts ≡ None
   all_none before [] h = nobody (labels_in items) (facts_in default items)
@@ -84,9 +89,22 @@ graph_clear : (s : Surroundings) (items : List Item) (us : List Label) → targe
 unfolding target_fault some
 graph_clear s items us h = all_none s.default items (λ text. around_of s items text) [] us h
 
+-- so no fault of labels is none of targets
+none_behind : (f : Option Fault) (x : Fault) → first_of f (Some x) ≡ None → ⊥
+none_behind None x h = cc h
+none_behind (Some y) x h = cc h
+
+targets_clear : (s : Surroundings) (items : List Item) (us : List Label) (told : Option ToolchainFault) → beside_toolchain s items us told ≡ None → target_fault s items us ≡ None
+targets_clear s items us None h = h
+targets_clear s items us (Some told) h = absurd (none_behind (target_fault s items (those_before s.default told.label us)) told.fault h)
+
+labels_clear : (s : Surroundings) (items : List Item) (us : List Label) → fault_of_labels s items us ≡ None → target_fault s items us ≡ None
+unfolding fault_of_labels
+labels_clear s items us h = targets_clear s items us (toolchain_fault s items us) h
+
 pub faultless_end : ItemsAreEnough → FaultlessEnd → FaultlessTargetsEnd
 faultless_end enough ends s items us closed h u there =
-    ends (labels_in items) (facts_in s.default items) (enough (shape_of items) (labels_in items) (others_have_nothing items)) us closed (graph_clear s items us h) u there
+    ends (labels_in items) (facts_in s.default items) (enough (shape_of items) (labels_in items) (others_have_nothing items)) us closed (graph_clear s items us (labels_clear s items us h)) u there
 
 pub targets_closed : ItemsAreEnough → ReachedAreClosed → TargetsAreClosed
 unfolding targets_of

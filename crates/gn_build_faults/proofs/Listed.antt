@@ -1,7 +1,6 @@
 -- Labels that no item has have nothing.
-use Rattle.std.proofs.Common.{◌≡◌, ℕ, List, [], ◌∷◌, Bool, true, false, ◌||◌, cond, Option, Some, None, map, refl, sym, ◌∙◌, ap}
+use Rattle.std.proofs.Common.{◌≡◌, ℕ, List, [], ◌∷◌, Bool, true, false, ◌||◌, cond, Option, Some, None, map, refl, ◌∙◌, ap}
 use Rattle.gn_labels.specs.declared.label.Label.{Label}
-use Rattle.gn_rows.specs.declared.variable.Variable.{Variable}
 use Rattle.gn_dependencies.specs.Lists.{has}
 use Rattle.gn_items.specs.declared.item.Item.{Item}
 use Rattle.gn_items.specs.Effects.{same_label, item_at}

@@ -11,7 +11,8 @@ use Rattle.gn_labelled.specs.Graphs.{shape_of, visibility_at, is_testonly_at, fo
 use Rattle.gn_graph_meant.specs.Computed.{least_fault_in}
 use Rattle.gn_records.specs.Around.{Around}
 use Rattle.gn_toolchains.specs.Toolchains.{Surroundings, around_of}
-use Rattle.gn_build_faults.specs.Outputs.{made_around, with_texts, output_fault}
+use Rattle.gn_build_faults.specs.Outputs.{made_around, with_each, output_fault}
+use Rattle.gn_build_faults.specs.Paths.{path_fault}
 use Rattle.gn_build_faults.specs.Tools.{tool_fault}
 
 -- what the rules ask of the items of a build
@@ -39,17 +40,22 @@ abbrev pub with_tool : Option Fault → Option Fault → Option Fault
 with_tool None tool = tool
 with_tool (Some fault) tool = if is_unresolved fault.code then Some fault else first_of tool (Some fault)
 
+-- besides those of its outputs: a text of a tool that is no path is told before all others
+abbrev pub own_fault : List ℕ → List Item → Around → Label → Option Fault
+own_fault default items a t =
+    first_of (path_fault default items a t) (with_tool (graph_fault default items (t ∷ [])) (tool_fault default items a.tools t))
+
 -- The first fault of a target, by what is known around it, where the targets before it make these outputs: an output that is made twice
 -- is told behind all others. Of a target around which nothing is known no fault is told.
 abbrev pub fault_at : List ℕ → List Item → Option Around → (before : List (List ℕ)) → Label → Option Fault
 fault_at default items None before t = None
 fault_at default items (Some a) before t =
-    first_of (with_tool (graph_fault default items (t ∷ [])) (tool_fault default items a.tools t)) (output_fault default items a.build before (made_around a (item_at t items)) t)
+    first_of (own_fault default items a t) (output_fault default items a.build before (made_around a (item_at t items)) t)
 
 -- these outputs and those of a target
 abbrev pub with_outputs : List Item → Option Around → (before : List (List ℕ)) → Label → List (List ℕ)
 with_outputs items None before t = before
-with_outputs items (Some a) before t = with_texts before (made_around a (item_at t items))
+with_outputs items (Some a) before t = with_each before (made_around a (item_at t items))
 
 -- the first fault of the first of these targets that has one, by what is known around the targets of each toolchain
 abbrev pub fault_among : List ℕ → List Item → (known : List ℕ → Option Around) → (before : List (List ℕ)) → List Label → Option Fault

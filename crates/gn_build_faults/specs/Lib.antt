@@ -1,6 +1,9 @@
 pub mod Told
 pub mod Tools
+pub mod Paths
 pub mod Outputs
 pub mod Faults
 pub mod Laws
 pub mod Reaching
+pub mod Made
+pub mod Labels

@@ -19,9 +19,9 @@ made_around a None = []
 made_around a (Some item) = made_at a item
 
 -- texts with more texts, each once
-abbrev pub with_texts : List (List ℕ) → List (List ℕ) → List (List ℕ)
-with_texts before [] = before
-with_texts before (p ∷ ps) = with_texts (with_text before p) ps
+abbrev pub with_each : List (List ℕ) → List (List ℕ) → List (List ℕ)
+with_each before [] = before
+with_each before (p ∷ ps) = with_each (with_text before p) ps
 
 -- those of some outputs that are made before, or stand at an earlier place too
 abbrev pub made_twice : List (List ℕ) → List (List ℕ) → List (List ℕ)
@@ -37,14 +37,14 @@ abbrev pub shown : (build : List ℕ) → List ℕ → List ℕ
 shown build p = shown_by p (path_meant build p)
 
 -- the first in the order of their bytes of two texts
-abbrev pub lesser : Option (List ℕ) → List ℕ → List ℕ
-lesser None p = p
-lesser (Some q) p = if is_lt (slice_cmp nat_cmp p q) then p else q
+abbrev pub lesser_shown : Option (List ℕ) → List ℕ → List ℕ
+lesser_shown None p = p
+lesser_shown (Some q) p = if is_lt (slice_cmp nat_cmp p q) then p else q
 
 -- the first in the order of their bytes of outputs as they are shown, and of one that is shown already
 abbrev pub least_shown : (build : List ℕ) → Option (List ℕ) → List (List ℕ) → Option (List ℕ)
 least_shown build best [] = best
-least_shown build best (p ∷ ps) = least_shown build (Some (lesser best (shown build p))) ps
+least_shown build best (p ∷ ps) = least_shown build (Some (lesser_shown best (shown build p))) ps
 
 abbrev pub twice_told : List ℕ → List Item → Label → Option (List ℕ) → Option Fault
 twice_told default items t None = None

@@ -7,11 +7,12 @@ ghost use Rattle.gn_labelled.specs.Index.{lent};
 ghost use Rattle.gn_labelled.specs.Graphs.{shape_of};
 ghost use Rattle.gn_records.specs.Around.{around};
 ghost use Rattle.gn_toolchains.specs.Frames.{surroundings as given, known_of};
-ghost use Rattle.gn_build_faults.specs.Outputs.{made_around, with_texts, output_fault as output_meant};
+ghost use Rattle.gn_build_faults.specs.Outputs.{made_around, with_each, output_fault as output_meant};
 ghost use Rattle.gn_build_faults.specs.Tools.{tool_fault as tool_meant};
-ghost use Rattle.gn_build_faults.specs.Faults.{graph_fault, is_unresolved, first_of, with_tool, fault_at, with_outputs, fault_among, target_fault};
+ghost use Rattle.gn_build_faults.specs.Faults.{graph_fault, is_unresolved, first_of, with_tool, own_fault, fault_at, with_outputs, fault_among, target_fault};
 
 use crate::outputs::{made_around, output_fault};
+use crate::paths::path_fault;
 use crate::tools::tool_fault;
 use gn_chains::Firsts;
 use gn_cycles::settled;
@@ -50,8 +51,8 @@ fn is_unresolved(code: Code) -> bool
     matches!(code, Code::Unresolved)
 }
 
-// The first of two faults, if there is one.
-fn first_of(fault: Option<Fault>, other: Option<Fault>) -> Option<Fault>
+/// The first of two faults, if there is one.
+pub(crate) fn first_of(fault: Option<Fault>, other: Option<Fault>) -> Option<Fault>
     ensures { result ≡ first_of fault other }
 {
     match fault {
@@ -76,8 +77,8 @@ fn with_tool(fault: Option<Fault>, tool: Option<Fault>) -> Option<Fault>
     }
 }
 
-// The first fault of a target besides those of its outputs.
-fn own_fault(
+// The first fault of a target by the graph and the tools of its toolchain.
+fn linked_fault(
     alloc: Global,
     graph: &ItemGraph<'_, NoRecords>,
     settled: &Firsts,
@@ -93,6 +94,23 @@ fn own_fault(
     Ok(with_tool(fault, tool))
 }
 
+// The first fault of a target besides those of its outputs.
+fn own_fault(
+    alloc: Global,
+    graph: &ItemGraph<'_, NoRecords>,
+    settled: &Firsts,
+    context: &Context<'_>,
+    target: &Label,
+) -> Result<Option<Fault>, AllocError>
+    requires { AreSettled (shape_of graph.now.items) settled.now }
+    ensures { IfOk result (λ fault. fault ≡ own_fault graph.now.default.now graph.now.items (around context.now) target.now) }
+{
+    match path_fault(alloc, graph, context, target)? {
+        Some(fault) => Ok(Some(fault)),
+        None => linked_fault(alloc, graph, settled, context, target),
+    }
+}
+
 // Sees the outputs of a target, and tells the first of those that are made twice.
 fn twice_fault(
     alloc: Global,
@@ -103,7 +121,7 @@ fn twice_fault(
 ) -> Result<Option<Fault>, AllocError>
     ensures fault { IfOk result (λ fault. fault ≡ output_meant graph.now.default.now graph.now.items (around context.now).build seen.old.keys
         (made_around (around context.now) (item_at target.now graph.now.items)) target.now) }
-    ensures seen { OnOk result (seen.new.keys ≡ with_texts seen.old.keys (made_around (around context.now) (item_at target.now graph.now.items))) }
+    ensures seen { OnOk result (seen.new.keys ≡ with_each seen.old.keys (made_around (around context.now) (item_at target.now graph.now.items))) }
 {
     let outputs = made_around(alloc, context, graph.items.item(target))?;
     output_fault(
@@ -204,11 +222,11 @@ fn fault_of(
     fault_among(alloc, graph, &settled, frames, targets)
 }
 
-/// The fault that is told of the targets which a build generates, by what never changes in the build, the items that it defines and
-/// these targets in label order: the first fault of the first of them that has one. A target's faults go by code: labels that it names
-/// and no item has, then tools that it needs and its toolchain lacks, the other faults of the graph, and outputs that it makes and a
+/// The fault that is told of targets, by what never changes in the build, the items that it defines and these targets in label order: the
+/// first fault of the first of them that has one. A target's faults go by code: texts of tools that are no paths, labels that it names
+/// and no item has, tools that it needs and its toolchain lacks, the other faults of the graph, and outputs that it makes and a
 /// target before it makes too. None comes exactly where none of them has a fault.
-pub fn target_fault<'a>(
+pub(crate) fn target_fault<'a>(
     alloc: Global,
     surroundings: Surroundings<'a>,
     items: &[&'a Item],

@@ -2,12 +2,16 @@
 #![tactic(auto)]
 
 mod fault;
+mod labels;
 mod laws;
+mod made;
 mod outputs;
+mod paths;
 mod reaching;
 mod told;
 mod tools;
 
-pub use fault::target_fault;
+pub use labels::fault_of_labels;
 pub use laws::{faultless_targets_can_be_resolved, targets_have_their_dependencies};
+pub use made::made_by;
 pub use reaching::targets_of;

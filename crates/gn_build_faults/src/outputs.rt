@@ -6,7 +6,7 @@ ghost use Rattle.gn_faults.specs.declared.code.Code.TheVariants.{SameOutput};
 ghost use Rattle.gn_records.specs.Around.{around};
 ghost use Rattle.gn_toolchains.specs.Frames.{has_text, with_text};
 ghost use Rattle.gn_build_faults.specs.Told.{fault_with as meant};
-ghost use Rattle.gn_build_faults.specs.Outputs.{made_around, with_texts, made_twice, shown, lesser, least_shown, twice_told, output_fault};
+ghost use Rattle.gn_build_faults.specs.Outputs.{made_around, with_each, made_twice, shown, lesser_shown, least_shown, twice_told, output_fault};
 
 use crate::told::fault_with;
 use gn_faults::{Code, Fault};
@@ -33,8 +33,12 @@ pub(crate) fn made_around(
     }
 }
 
-// Puts an output with those that were seen. Whether it was seen before.
-fn see(alloc: Global, seen: &mut IndexSet<Text>, output: &Text) -> Result<bool, AllocError>
+/// Puts an output with those that were seen. Whether it was seen before.
+pub(crate) fn see(
+    alloc: Global,
+    seen: &mut IndexSet<Text>,
+    output: &Text,
+) -> Result<bool, AllocError>
     ensures seen { OnOk result (seen.new.keys ≡ with_text seen.old.keys output.now) }
     ensures before { IfOk result (λ b. b ≡ has_text seen.old.keys output.now) }
 {
@@ -76,7 +80,7 @@ fn see_all(
     twice: &mut Vec<Text>,
     outputs: &[Text],
 ) -> Result<(), AllocError>
-    ensures seen { OnOk result (seen.new.keys ≡ with_texts seen.old.keys outputs.now) }
+    ensures seen { OnOk result (seen.new.keys ≡ with_each seen.old.keys outputs.now) }
     ensures twice { OnOk result (twice.new.items ≡ twice.old.items ++ made_twice seen.old.keys outputs.now) }
 {
     for output in outputs {
@@ -96,8 +100,8 @@ fn shown(alloc: Global, build: &Path, output: &Text) -> Result<Text, AllocError>
 }
 
 // The first in the order of their bytes of two texts.
-fn lesser(best: Option<Text>, text: Text) -> Text
-    ensures { result ≡ lesser best text }
+fn lesser_shown(best: Option<Text>, text: Text) -> Text
+    ensures { result ≡ lesser_shown best text }
 {
     match best {
         None => text,
@@ -115,7 +119,7 @@ fn least_shown(alloc: Global, build: &Path, outputs: &[Text]) -> Result<Option<T
     let mut best: Option<Text> = None;
     for output in outputs {
         let text = shown(alloc, build, output)?;
-        best = Some(lesser(best, text));
+        best = Some(lesser_shown(best, text));
     }
     Ok(best)
 }
@@ -128,7 +132,7 @@ fn least_twice(
     outputs: &[Text],
 ) -> Result<Option<Text>, AllocError>
     ensures least { IfOk result (λ least. least ≡ least_shown build.now None (made_twice seen.old.keys outputs.now)) }
-    ensures seen { OnOk result (seen.new.keys ≡ with_texts seen.old.keys outputs.now) }
+    ensures seen { OnOk result (seen.new.keys ≡ with_each seen.old.keys outputs.now) }
 {
     let mut twice = Vec::new(alloc);
     see_all(alloc, seen, &mut twice, outputs)?;
@@ -183,7 +187,7 @@ pub(crate) fn output_fault(
     label: &Label,
 ) -> Result<Option<Fault>, AllocError>
     ensures fault { IfOk result (λ fault. fault ≡ output_fault graph.now.default.now graph.now.items build.now seen.old.keys outputs.now label.now) }
-    ensures seen { OnOk result (seen.new.keys ≡ with_texts seen.old.keys outputs.now) }
+    ensures seen { OnOk result (seen.new.keys ≡ with_each seen.old.keys outputs.now) }
 {
     let output = least_twice(alloc, build, seen, outputs)?;
     twice_told(alloc, graph, label, output)

@@ -17,7 +17,7 @@ use Rattle.gn_ninja.specs.Root.{root_blocks}
 use Rattle.gn_ninja.specs.Claims.{claims_of}
 use Rattle.gn_ninja.specs.Taken.{taken_by}
 use Rattle.gn_files.specs.Files.{path_in, seen, Knowledge, out_in, root_path, toolchain_path, target_path}
-use Rattle.gn_files.specs.Files.{with_text, toolchains_of, is_other, toolchains_used, is_under, under}
+use Rattle.gn_files.specs.Files.{with_member, toolchains_of, is_other, toolchains_used, is_under, under}
 use Rattle.gn_files.specs.Files.{with_pools_of_tool, with_pools_of_tools, with_pools_of_target, item_tools, pools_used}
 use Rattle.gn_files.specs.Files.{file, written_in, done_in, done_of, target_text, target_out, tools_in, files_under, toolchain_out}
 use Rattle.gn_files.specs.Files.{pool_out, claimant_with, claimant_of, root_with, root_of, all_written, root_out, files_by}
@@ -51,10 +51,10 @@ same_fold f g (x ∷ xs) a b =
     ap (λ c. fold f c xs) (All-head (λ x. (b : _) → f b x ≡ g b x) x xs a b) ∙ same_fold f g xs (All-tail (λ x. (b : _) → f b x ≡ g b x) x xs a) (g b x)
 
 -- what holds of texts holds of those that are put in their order
-put_in : (P : List ℕ → Type 0) (texts : List (List ℕ)) (es : List (List ℕ × Unit {0})) → All P (keys_of es) → All P texts → All P (keys_of (fold with_text es texts))
+put_in : (P : List ℕ → Type 0) (texts : List (List ℕ)) (es : List (List ℕ × Unit {0})) → All P (keys_of es) → All P texts → All P (keys_of (fold with_member es texts))
 put_in P [] es a b = a
 put_in P (x ∷ xs) es a b =
-    put_in P xs (with_text es x) (All-keys-insert_entry (slice_cmp nat_cmp) x tt P es a (All-head P x xs b)) (All-tail P x xs b)
+    put_in P xs (with_member es x) (All-keys-insert_entry (slice_cmp nat_cmp) x tt P es a (All-head P x xs b)) (All-tail P x xs b)
 
 of_targets : (P : List ℕ → Type 0) (ts : List Label) → All (λ (t : Label). P t.toolchain) ts → All P (toolchains_of ts)
 unfolding toolchains_of

@@ -78,11 +78,11 @@ seen s path = seen_from s.build path
 -- What is used
 
 -- the toolchains of some targets, in the order of the bytes of their texts, each once
-abbrev pub with_text : List (List ℕ × Unit {0}) → List ℕ → List (List ℕ × Unit {0})
-with_text es text = insert_entry (slice_cmp nat_cmp) es text tt
+abbrev pub with_member : List (List ℕ × Unit {0}) → List ℕ → List (List ℕ × Unit {0})
+with_member es text = insert_entry (slice_cmp nat_cmp) es text tt
 
 unfoldable pub toolchains_of : List Label → List (List ℕ)
-toolchains_of ts = map (λ e. e.0) (fold with_text [] (map (λ (t : Label). t.toolchain) ts))
+toolchains_of ts = map (λ e. e.0) (fold with_member [] (map (λ (t : Label). t.toolchain) ts))
 
 abbrev pub is_other : (default : List ℕ) → List ℕ → Bool
 is_other default text = not (bytes_eq text default)

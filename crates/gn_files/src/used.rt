@@ -4,7 +4,7 @@ ghost use Rattle.std.specs.Prelude.{◌≡◌, ◌∷◌, ◌++◌, [], IfOk, On
 ghost use Rattle.std.specs.List.{fold};
 ghost use Rattle.gn_define.specs.Fields.{field_at, labels_of};
 ghost use Rattle.gn_rows.specs.declared.variable.Variable.TheVariants.{Pool as PoolOf};
-ghost use Rattle.gn_files.specs.Files.{with_text, toolchains_of, is_other, toolchains_used, under, is_own_of_ninja, with_pool, with_pools, pools_named, with_pools_of_tool};
+ghost use Rattle.gn_files.specs.Files.{with_member, toolchains_of, is_other, toolchains_used, under, is_own_of_ninja, with_pool, with_pools, pools_named, with_pools_of_tool};
 
 use gn_items::{Item, Tool};
 use gn_labels::{Label, LabelKey};
@@ -16,7 +16,7 @@ use std::collections::BTreeMap;
 
 // The toolchains of some targets.
 fn table_of(alloc: Global, targets: &[Label]) -> Result<BTreeMap<Text, ()>, AllocError>
-    ensures { IfOk result (λ table. table.entries ≡ fold with_text [] (map (λ t. t.toolchain) targets.now)) }
+    ensures { IfOk result (λ table. table.entries ≡ fold with_member [] (map (λ t. t.toolchain) targets.now)) }
 {
     let mut table = BTreeMap::new(alloc);
     for target in targets {

@@ -1,21 +1,22 @@
 // The faults of the graph of a build: those of its files, and then those of its targets.
 
-ghost use Rattle.std.specs.Prelude.{◌≡◌, [], IfOk, map, option_map};
+ghost use Rattle.std.specs.Prelude.{◌≡◌, IfOk, map, option_map};
+ghost use Rattle.std.specs.List.{list_any};
 ghost use Rattle.gn_labelled.specs.Index.{lent};
 ghost use Rattle.gn_projects.specs.Loaded.{declared_by_build, items_of_build, default_named};
-ghost use Rattle.gn_build_faults.specs.Faults.{target_fault as told_of_targets};
+ghost use Rattle.gn_build_faults.specs.Labels.{fault_of_labels as told_of_targets};
 ghost use Rattle.gn_build_faults.specs.Reaching.{targets_of as targets_meant};
 ghost use Rattle.gn_load.specs.Ends.{build_of};
 ghost use Rattle.gn_load.specs.Files.{files_of};
 ghost use Rattle.gn_file_faults.specs.Faults.{file_fault as least_of_files};
 ghost use Rattle.gn_file_faults.specs.Writes.{execution_of};
 ghost use Rattle.gn_toolchains.specs.Frames.{surroundings as given};
-ghost use Rattle.gn_top.specs.GraphFaults.{defines, is_defined, execution_in, fault_of_files as files_fault_meant, label_fault as label_fault_meant, graph_fault};
+ghost use Rattle.gn_top.specs.GraphFaults.{defines, is_defined, execution_in, has_some, has_written, made_where, fault_of_files as files_fault_meant, label_fault as label_fault_meant, graph_fault};
 
-use gn_build_faults::{target_fault, targets_of};
+use gn_build_faults::{fault_of_labels, made_by, targets_of};
 use gn_faults::Fault;
 use gn_file_faults::{FileFacts, FilesWritten, file_fault};
-use gn_items::{Declaration, DefaultToolchain, Item, ItemKind};
+use gn_items::{Declaration, DefaultToolchain, Item, ItemKind, Written};
 use gn_labels::Label;
 use gn_load::{Built, WrittenFiles};
 use gn_paths::{Path, Text};
@@ -64,6 +65,45 @@ fn executions_of<'a>(
     Ok(executions)
 }
 
+// Whether there is a file that is written.
+fn has_some(files: &[Written]) -> bool
+    ensures { result ≡ has_some files.now }
+{
+    match files {
+        [] => false,
+        [_, ..] => true,
+    }
+}
+
+// Whether one of the executions has written a file.
+fn have_written(executions: &[FilesWritten<'_>]) -> bool
+    ensures { result ≡ list_any has_written (map execution_of executions.now) }
+{
+    for execution in executions {
+        if has_some(execution.files) {
+            return true;
+        }
+    }
+    false
+}
+
+// What generated targets make, where one of the executions has written a file.
+fn made_where<'a>(
+    alloc: Global,
+    surroundings: Surroundings<'a>,
+    items: &[&'a Item],
+    executions: &[FilesWritten<'_>],
+    generated: &[Label],
+) -> Result<IndexSet<Text>, AllocError>
+    ensures { IfOk result (λ made. made.keys ≡ made_where (given surroundings.entry) (lent items.now) (map execution_of executions.now) generated.now) }
+{
+    if have_written(executions) {
+        made_by(alloc, surroundings, items, generated)
+    } else {
+        Ok(IndexSet::new(alloc))
+    }
+}
+
 // The lists by which the faults of files are told.
 #[derive(Clone, Copy)]
 struct Lists<'a> {
@@ -110,11 +150,11 @@ fn fault_by<'a>(
 
 // The least fault of the files of a build, if there is one, by its items.
 #[tactic(auto, unfolding(crate::specs::GraphFaults::fault_of_files))]
-fn fault_of_files(
+fn fault_of_files<'a>(
     alloc: Global,
-    surroundings: Surroundings<'_>,
+    surroundings: Surroundings<'a>,
     built: &Built,
-    items: &[&Item],
+    items: &[&'a Item],
 ) -> Result<Option<Fault>, AllocError>
     requires default { (given surroundings).default ≡ (build_of built.now).default }
     requires items { lent items.now ≡ items_of_build (build_of built.now) }
@@ -125,7 +165,13 @@ fn fault_of_files(
     let imported = built.imported_files(alloc)?;
     let written = built.written(alloc)?;
     let executions = executions_of(alloc, written.as_slice())?;
-    let made = IndexSet::new(alloc);
+    let made = made_where(
+        alloc,
+        surroundings,
+        items,
+        executions.as_slice(),
+        built.generated(),
+    )?;
     let lists = Lists {
         declarations: declarations.as_slice(),
         executions: executions.as_slice(),
@@ -154,7 +200,7 @@ fn told_fault<'a>(
     ensures { IfOk result (λ fault. fault ≡ told_of_targets (given surroundings.entry) (lent items.now) (targets_meant (given surroundings.entry).default (lent items.now) generated.now)) }
 {
     let targets = targets_of(alloc, surroundings.default, items, generated)?;
-    target_fault(alloc, surroundings, items, targets.as_slice())
+    fault_of_labels(alloc, surroundings, items, targets.as_slice())
 }
 
 // The fault that is told of the targets of a build, if there is one, by its items.

@@ -2,7 +2,7 @@
 
 ghost use Rattle.std.specs.Prelude.{◌≡◌, None, IfOk, map};
 ghost use Rattle.gn_labelled.specs.Index.{lent};
-ghost use Rattle.gn_build_faults.specs.Faults.{target_fault};
+ghost use Rattle.gn_build_faults.specs.Labels.{fault_of_labels};
 ghost use Rattle.gn_build_faults.specs.Reaching.{targets_of as targets_meant};
 ghost use Rattle.gn_files.specs.Files.{files_of_build};
 ghost use Rattle.gn_out_files.specs.Files.{put_of};
@@ -29,7 +29,7 @@ fn files_of<'a>(
     items: &[&'a Item],
     generated: &'a [Label],
 ) -> Result<Vec<OutFile>, AllocError>
-    requires { target_fault (given surroundings) (lent items.now) (targets_meant (given surroundings).default (lent items.now) generated.now) ≡ None }
+    requires { fault_of_labels (given surroundings) (lent items.now) (targets_meant (given surroundings).default (lent items.now) generated.now) ≡ None }
     ensures { IfOk result (λ files. map put_of files.items ≡ files_of_build (given surroundings.entry) (lent items.now) generated.now) }
 {
     faultless_targets_can_be_resolved();

@@ -8,5 +8,5 @@ use Rattle.gn_build_faults.proofs.fault.target_fault.Goals as goal
 pub returns : goal.returns
 returns c =
     if_ok c.fault_of.result
-    (λ told is. is ∙ told_of (given c.args.surroundings) (lent c.args.items.now) c.in_ok-index_of.field-0 c.args.targets.now c.in_ok-frames.frames c.in_ok-index_of.ensures c.in_ok-frames.ensures)
+    (λ told is. is ∙ told_of (given c.args.surroundings) (lent c.args.items.now) c.in_ok-of.field-0 c.args.targets.now c.in_ok-frames.frames c.in_ok-of.ensures c.in_ok-frames.ensures)
     c.fault_of.ensures

@@ -8,10 +8,10 @@ use Rattle.gn_build_faults.proofs.reaching.targets_of.Goals as goal
 
 pub reached-requires : goal.reached-requires
 reached-requires c =
-    let items = c.in_ok-index_of.field-0 in
+    let items = c.in_ok-of.field-0 in
     c.the_labels_of_items_are_enough.ensures (shape_of items) (map (λ (item : Item). item.label) items) (others_have_nothing items)
 
 pub returns : goal.returns
 returns c =
     if_ok c.reached.result
-    (λ targets is. is ∙ reached_targets c.args.default.now (lent c.args.items.now) c.in_ok-index_of.field-0 c.args.generated.now c.in_ok-index_of.ensures) c.reached.ensures
+    (λ targets is. is ∙ reached_targets c.args.default.now (lent c.args.items.now) c.in_ok-of.field-0 c.args.generated.now c.in_ok-of.ensures) c.reached.ensures

@@ -14,6 +14,10 @@ returns c =
     let executions = ap (λ es. map execution_of es) c.as_slice-3.ensures.value ∙ c.in_ok-executions.ensures ∙ ap (λ ws. map execution_in (files_of ws)) c.as_slice.ensures.value ∙ ap (map execution_in) c.in_ok-written.ensures in
     let loaded = ap paths_lent c.as_slice-4.ensures.value ∙ c.in_ok-loaded.ensures in
     let imported = ap paths_lent c.as_slice-5.ensures.value ∙ c.in_ok-imported.ensures in
+    let made =
+    c.in_ok-made.ensures
+    ∙ ap (λ es. made_where (surroundings c.args.surroundings) (lent c.args.items.now) (map execution_of es) c.generated.result.now) c.as_slice-5.ensures.value
+    ∙ ap (λ es. made_where (surroundings c.args.surroundings) (lent c.args.items.now) es c.generated.result.now) executions_here in
     let defined = c.is_defined-is_toolchain.ensures ∙ (λ i. is_defined (c.requires.default i) (c.requires.items i) (c.default_named-default.ensures i)) in
     if_ok c.fault_by.result
     (λ fault is. is ∙ (λ i. file_fault (record {
@@ -21,7 +25,7 @@ returns c =
       default = c.default_named-default.ensures i;
       is_toolchain = defined i;
       executions = executions i;
-      made = c.new-made.ensures.empty i;
+      made = made i;
       build = (surroundings c.args.surroundings).build;
       loaded = loaded i;
       imported = imported i;

@@ -1,0 +1,91 @@
+// The fault that is told of the labels of a build: of targets, and of the toolchains that they use.
+
+ghost use Rattle.std.specs.Prelude.{◌≡◌, ◌++◌, ◌∷◌, [], IfOk, OnOk};
+ghost use Rattle.gn_labelled.specs.Index.{lent};
+ghost use Rattle.gn_toolchains.specs.Frames.{surroundings as given};
+ghost use Rattle.gn_build_faults.specs.Labels.{those_before, beside_toolchain, fault_of_labels};
+
+use crate::fault::{first_of, target_fault};
+use gn_faults::Fault;
+use gn_items::Item;
+use gn_labels::Label;
+use gn_paths::Text;
+use gn_toolchain_faults::{ToolchainFault, toolchain_fault};
+use gn_toolchains::Surroundings;
+use std::alloc::{AllocError, Global};
+
+// Puts a copy of a label behind others.
+fn push_copy(alloc: Global, labels: &mut Vec<Label>, label: &Label) -> Result<(), AllocError>
+    ensures { OnOk result (labels.new.items ≡ labels.old.items ++ label.now ∷ []) }
+{
+    let label = label.copy(alloc)?;
+    labels.push(label)?;
+    Ok(())
+}
+
+// The targets that stand before a label.
+fn those_before(
+    alloc: Global,
+    default: &Text,
+    label: &Label,
+    targets: &[Label],
+) -> Result<Vec<Label>, AllocError>
+    ensures { IfOk result (λ before. before.items ≡ those_before default.now label.now targets.now) }
+{
+    let mut before = Vec::new(alloc);
+    for target in targets {
+        if target.before(label, default) {
+            push_copy(alloc, &mut before, target)?;
+        }
+    }
+    Ok(before)
+}
+
+// The first fault of the targets before a toolchain, or else that of the toolchain.
+fn up_to<'a>(
+    alloc: Global,
+    surroundings: Surroundings<'a>,
+    items: &[&'a Item],
+    targets: &[Label],
+    told: ToolchainFault,
+) -> Result<Option<Fault>, AllocError>
+    ensures { IfOk result (λ fault. fault ≡ beside_toolchain (given surroundings.entry) (lent items.now) targets.now (Some told)) }
+{
+    let ToolchainFault { label, fault } = told;
+    let before = those_before(alloc, surroundings.default, &label, targets)?;
+    let first = target_fault(alloc, surroundings, items, before.as_slice())?;
+    Ok(first_of(first, Some(fault)))
+}
+
+// The first fault of targets and of a toolchain, if one has a fault.
+fn beside_toolchain<'a>(
+    alloc: Global,
+    surroundings: Surroundings<'a>,
+    items: &[&'a Item],
+    targets: &[Label],
+    told: Option<ToolchainFault>,
+) -> Result<Option<Fault>, AllocError>
+    ensures { IfOk result (λ fault. fault ≡ beside_toolchain (given surroundings.entry) (lent items.now) targets.now told) }
+{
+    match told {
+        None => target_fault(alloc, surroundings, items, targets),
+        Some(told) => up_to(alloc, surroundings, items, targets, told),
+    }
+}
+
+/// The fault that is told of these targets, in label order, and of the toolchains that they use, by what never changes in the build and
+/// the items that it defines: the first fault of the first label that has one. Of a target that is told goes by code: texts of tools that
+/// are no paths, labels that it names and no item has, tools that it needs and its toolchain lacks, the other faults of the graph, and
+/// outputs that a target before it makes too; of a toolchain, pools of its tools, and then its name. None comes exactly where there is none.
+#[tactic(auto, unfolding(crate::specs::Labels::fault_of_labels))]
+pub fn fault_of_labels<'a>(
+    alloc: Global,
+    surroundings: Surroundings<'a>,
+    items: &[&'a Item],
+    targets: &[Label],
+) -> Result<Option<Fault>, AllocError>
+    ensures { IfOk result (λ fault. fault ≡ fault_of_labels (given surroundings.entry) (lent items.now) targets.now) }
+{
+    let told = toolchain_fault(alloc, surroundings, items, targets)?;
+    beside_toolchain(alloc, surroundings, items, targets, told)
+}
