@@ -1,23 +1,25 @@
 use Rattle.std.proofs.Common.{◌∙◌, ap, map}
 use Rattle.gn_basics.proofs.Results.{if_ok}
+use Rattle.gn_labelled.specs.Index.{lent}
 use Rattle.gn_file_faults.specs.Faults.{file_fault}
 use Rattle.gn_file_faults.specs.Writes.{execution_of}
 use Rattle.gn_load.specs.Files.{files_of, paths_lent}
 use Rattle.gn_toolchains.specs.Frames.{surroundings}
-use Rattle.gn_top.specs.GraphFaults.{is_defined, execution_in, fault_of_files}
+use Rattle.gn_top.specs.GraphFaults.{is_defined, execution_in, made_where, fault_of_files}
 use Rattle.gn_top.proofs.graph_faults.fault_of_files.Goals as goal
 
 pub returns : goal.returns
 unfolding fault_of_files
 returns c =
-    let declarations = ap (λ ds. map (λ d. d.now) ds) c.as_slice-2.ensures.value ∙ c.in_ok-declarations.ensures in
-    let executions = ap (λ es. map execution_of es) c.as_slice-3.ensures.value ∙ c.in_ok-executions.ensures ∙ ap (λ ws. map execution_in (files_of ws)) c.as_slice.ensures.value ∙ ap (map execution_in) c.in_ok-written.ensures in
-    let loaded = ap paths_lent c.as_slice-4.ensures.value ∙ c.in_ok-loaded.ensures in
-    let imported = ap paths_lent c.as_slice-5.ensures.value ∙ c.in_ok-imported.ensures in
+    let declarations = ap (λ ds. map (λ d. d.now) ds) c.as_slice-3.ensures.value ∙ c.in_ok-declarations.ensures in
+    let written = c.in_ok-executions.ensures ∙ ap (λ ws. map execution_in (files_of ws)) c.as_slice.ensures.value ∙ ap (map execution_in) c.in_ok-written.ensures in
+    let executions = ap (λ es. map execution_of es) c.as_slice-4.ensures.value ∙ written in
     let made =
     c.in_ok-made.ensures
-    ∙ ap (λ es. made_where (surroundings c.args.surroundings) (lent c.args.items.now) (map execution_of es) c.generated.result.now) c.as_slice-5.ensures.value
-    ∙ ap (λ es. made_where (surroundings c.args.surroundings) (lent c.args.items.now) es c.generated.result.now) executions_here in
+    ∙ ap (λ es. made_where (surroundings c.args.surroundings) (lent c.args.items.now) (map execution_of es) c.generated.result.now) c.as_slice-2.ensures.value
+    ∙ (λ i. made_where (surroundings c.args.surroundings) (c.requires.items i) (written i) (c.generated.ensures i)) in
+    let loaded = ap paths_lent c.as_slice-5.ensures.value ∙ c.in_ok-loaded.ensures in
+    let imported = ap paths_lent c.as_slice-6.ensures.value ∙ c.in_ok-imported.ensures in
     let defined = c.is_defined-is_toolchain.ensures ∙ (λ i. is_defined (c.requires.default i) (c.requires.items i) (c.default_named-default.ensures i)) in
     if_ok c.fault_by.result
     (λ fault is. is ∙ (λ i. file_fault (record {
