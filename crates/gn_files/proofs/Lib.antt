@@ -1,2 +1,4 @@
 pub mod Agreeing
+pub mod Crossing
+pub mod Gathering
 pub mod Knowing

@@ -22,6 +22,7 @@ use Rattle.gn_items.specs.declared.tool.Tool.{Tool as ItemTool}
 use Rattle.gn_writing.specs.declared.records.Tool.{Tool}
 use Rattle.gn_items.specs.Effects.{item_at}
 use Rattle.gn_writing.specs.Kinds.{target_blocks, toolchain_blocks}
+use Rattle.gn_writing.specs.Lines.{Line}
 use Rattle.gn_writing.specs.Names.{pool_name}
 use Rattle.gn_writing.specs.declared.records.Written.{Written}
 use Rattle.gn_records.specs.Around.{Around}
@@ -127,10 +128,13 @@ item_tools (Some a) = a.tools
 abbrev pub with_pools_of_tools : (default : List ℕ) → Knowledge → List (LabelKey × Label) → (toolchain : List ℕ) → List (LabelKey × Label)
 with_pools_of_tools default k es toolchain = fold (with_pools_of_tool default) es (item_tools (k.around toolchain))
 
--- the pools that targets and the tools of their toolchains name, in label order, each once
+-- the pools that targets and the tools of their toolchains name, by their keys
+abbrev pub pool_table : (default : List ℕ) → Knowledge → List Item → List Label → List (LabelKey × Label)
+pool_table default k items ts = fold (with_pools_of_tools default k) (fold (with_pools_of_target default items) [] ts) (toolchains_of ts)
+
+-- the same in label order, each once
 unfoldable pub pools_used : (default : List ℕ) → Knowledge → List Item → List Label → List Label
-pools_used default k items ts =
-    map (λ e. e.1) (fold (with_pools_of_tools default k) (fold (with_pools_of_target default items) [] ts) (toolchains_of ts))
+pools_used default k items ts = map (λ e. e.1) (pool_table default k items ts)
 
 -- Files
 
@@ -181,6 +185,9 @@ depth_in (Some item) = depth_or_none (count_of (field_at item.fields Depth))
 abbrev pub pool_out : (default : List ℕ) → List Item → Label → Pool
 pool_out default items pool = record { name = pool_name default pool; depth = depth_in (item_at pool items) }
 
+abbrev pub pools_out : (default : List ℕ) → Knowledge → List Item → List Label → List Pool
+pools_out default k items ts = map (pool_out default items) (pools_used default k items ts)
+
 -- the targets of the default toolchain with their done files,
 abbrev pub is_executable : Option ItemKind → Bool
 is_executable (Some kinds.Executable) = true
@@ -192,6 +199,9 @@ claimant_with items t done = record { label = t; is_executable = is_executable (
 abbrev pub claimant_of : Knowledge → List Item → Label → Claimant
 claimant_of k items t = claimant_with items t (done_of k t)
 
+abbrev pub claimants_of : (default : List ℕ) → Knowledge → List Item → List Label → List Claimant
+claimants_of default k items ts = map (claimant_of k items) (under default ts)
+
 -- whether a target is `//:default`,
 abbrev pub is_default : (default : List ℕ) → Label → Bool
 is_default default t = is_under default t && (bytes_eq t.dir (codes "//") && bytes_eq t.name (codes "default"))
@@ -201,15 +211,18 @@ root_with s ts pools toolchains dones = record { pools = pools; toolchains = too
 
 abbrev pub root_of : Surroundings → Knowledge → List Item → List Label → Root
 root_of s k items ts =
-    root_with s ts (map (pool_out s.default items) (pools_used s.default k items ts)) (map (λ toolchain. seen s (toolchain_path s k toolchain)) (toolchains_used s.default ts))
+    root_with s ts (pools_out s.default k items ts) (map (λ toolchain. seen s (toolchain_path s k toolchain)) (toolchains_used s.default ts))
     (map (done_of k) (under s.default ts))
 
 -- and what is written of all targets, since no name that a target has besides its done file is one that a build line makes
 abbrev pub all_written : Knowledge → List Label → List Written
 all_written k ts = flat_map (λ t. written_in (k.target t)) ts
 
+abbrev pub blocks_of_root : (default : List ℕ) → Knowledge → List Item → List Label → Root → List (List Line)
+blocks_of_root default k items ts root = root_blocks root (taken_by (all_written k ts)) (claims_of (claimants_of default k items ts))
+
 abbrev pub root_out : Surroundings → Knowledge → List Item → List Label → PutFile
-root_out s k items ts = file (root_path s) (text_of_file (root_blocks (root_of s k items ts) (taken_by (all_written k ts)) (claims_of (map (claimant_of k items) (under s.default ts)))))
+root_out s k items ts = file (root_path s) (text_of_file (blocks_of_root s.default k items ts (root_of s k items ts)))
 
 -- all Ninja files of a build that generates these targets, which stand in label order, by what is known: build.ninja, those of its toolchains, those of its
 -- targets

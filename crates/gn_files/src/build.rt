@@ -19,6 +19,7 @@ use gn_out_files::OutFile;
 use gn_resolve::resolve_all;
 use gn_toolchains::{Frames, Surroundings};
 use std::alloc::{AllocError, Global};
+use std::thread::Threads;
 
 // What the Ninja files of a build are made of.
 fn project_of<'a>(
@@ -45,18 +46,23 @@ fn project_of<'a>(
 }
 
 // The Ninja files by what is known.
-fn files_of(alloc: Global, project: &Project<'_>) -> Result<Vec<OutFile>, AllocError>
+fn files_of<R: Threads + Sync>(
+    rt: &R,
+    alloc: Global,
+    project: &Project<'_>,
+) -> Result<Vec<OutFile>, AllocError>
     ensures { IfOk result (λ files. map put_of files.items ≡ files_by (surroundings_in project.now) (known project.now) project.now.items project.now.targets.now) }
 {
     let mut files = Vec::new(alloc);
-    add_known_files(alloc, &mut files, project)?;
+    add_known_files(rt, alloc, &mut files, project)?;
     Ok(files)
 }
 
 /// The Ninja files of a build that generates these targets, which stand in label order: build.ninja, those of its toolchains and
 /// those of its targets. The targets that are reached are those and all that dependencies lead to from them, and none of them may
-/// reach a cycle.
-pub fn ninja_files<'a>(
+/// reach a cycle. The files of targets are made by several threads, and are those that one thread makes of the targets in their order.
+pub fn ninja_files<'a, R: Threads + Sync>(
+    rt: &R,
     alloc: Global,
     surroundings: Surroundings<'a>,
     items: &[&'a Item],
@@ -69,5 +75,5 @@ pub fn ninja_files<'a>(
     ensures { IfOk result (λ files. map put_of files.items ≡ files_of_build (given surroundings.entry) (lent items.now) targets.now) }
 {
     let project = project_of(alloc, surroundings, items, reached, targets)?;
-    files_of(alloc, &project)
+    files_of(rt, alloc, &project)
 }

@@ -11,10 +11,13 @@ use crate::targets::{add_targets, add_toolchains};
 use crate::used::toolchains_used;
 use gn_out_files::OutFile;
 use std::alloc::{AllocError, Global};
+use std::thread::Threads;
 
-/// Puts the Ninja files among the files: build.ninja, those of toolchains and those of targets, by what is known.
+/// Puts the Ninja files among the files: build.ninja, those of toolchains and those of targets, by what is known. Those of targets are
+/// made by several threads.
 #[tactic(auto, unfolding(crate::specs::Files::files_by))]
-pub(crate) fn add_known_files(
+pub(crate) fn add_known_files<R: Threads + Sync>(
+    rt: &R,
     alloc: Global,
     out: &mut Vec<OutFile>,
     project: &Project<'_>,
@@ -24,5 +27,5 @@ pub(crate) fn add_known_files(
     let toolchains = toolchains_used(alloc, project.surroundings.default, project.targets)?;
     add_root(alloc, out, project, toolchains.as_slice())?;
     add_toolchains(alloc, out, project, toolchains.as_slice())?;
-    add_targets(alloc, out, project, project.targets)
+    add_targets(rt, alloc, out, project, project.targets)
 }

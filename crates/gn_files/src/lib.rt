@@ -7,6 +7,7 @@ mod paths;
 mod project;
 mod pushing;
 mod root;
+mod target_files;
 mod targets;
 mod used;
 

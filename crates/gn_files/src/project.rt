@@ -36,8 +36,8 @@ pub(crate) fn context_of<'a>(project: &'a Project<'_>, toolchain: &Text) -> Opti
     project.frames.context(toolchain)
 }
 
-// The output directory of a toolchain.
-fn out_of<'a>(project: &'a Project<'_>, toolchain: &Text) -> &'a Path
+/// The output directory of a toolchain.
+pub(crate) fn out_of<'a>(project: &'a Project<'_>, toolchain: &Text) -> &'a Path
     ensures { result.now ≡ out_of (surroundings_in project.now) (known project.now) toolchain.now }
 {
     match context_of(project, toolchain) {

@@ -4,13 +4,13 @@ ghost use Rattle.std.specs.Prelude.{◌≡◌, ◌++◌, ◌∷◌, [], IfOk, On
 ghost use Rattle.std.specs.List.{fold, list_any};
 ghost use Rattle.gn_ninja.specs.Format.{text_of_file};
 ghost use Rattle.gn_ninja.specs.Claims.{claimant};
-ghost use Rattle.gn_ninja.specs.Root.{root_of as root_held, root_blocks};
-ghost use Rattle.gn_ninja.specs.Claims.{claims_of};
-ghost use Rattle.gn_ninja.specs.Taken.{taken_by};
+ghost use Rattle.gn_ninja.specs.Root.{root_of as root_held};
 ghost use Rattle.gn_records.specs.Around.{around};
 ghost use Rattle.gn_labelled.specs.Graphs.{kind_at};
 ghost use Rattle.gn_out_files.specs.Files.{put_of};
-ghost use Rattle.gn_files.specs.Files.{seen, with_pools_of_target, with_pools_of_tools, item_tools, pools_used, toolchain_path, depth_in, pool_out, done_in, done_of, under, is_default, claimant_of, is_executable, all_written, root_of, root_out, toolchains_of, toolchains_used};
+ghost use Rattle.gn_files.specs.Files.{seen, toolchain_path, toolchains_used, under, is_default, all_written, root_of, blocks_of_root, root_out};
+ghost use Rattle.gn_files.specs.Files.{with_pools_of_target, with_pools_of_tools, pool_table, item_tools, depth_in, pool_out, pools_out};
+ghost use Rattle.gn_files.specs.Files.{done_in, done_of, is_executable, claimant_of, claimants_of};
 ghost use Rattle.gn_files.specs.Known.{surroundings_in, known};
 
 use crate::paths::path_in;
@@ -76,7 +76,7 @@ fn put_pools_of_toolchains(
 
 // The pools that are used, by their keys.
 fn pool_table(alloc: Global, project: &Project<'_>) -> Result<BTreeMap<LabelKey, Label>, AllocError>
-    ensures { IfOk result (λ table. table.entries ≡ fold (with_pools_of_tools project.now.surroundings.default.now (known project.now)) (fold (with_pools_of_target project.now.surroundings.default.now project.now.items) [] project.now.targets.now) (toolchains_of project.now.targets.now)) }
+    ensures { IfOk result (λ table. table.entries ≡ pool_table project.now.surroundings.default.now (known project.now) project.now.items project.now.targets.now) }
 {
     let toolchains = toolchains_of(alloc, project.targets)?;
     let mut pools = BTreeMap::new(alloc);
@@ -117,7 +117,7 @@ fn pool_out(
 // The pools that are used, in label order.
 #[tactic(auto, unfolding(crate::specs::Files::pools_used))]
 fn pools_out(alloc: Global, project: &Project<'_>) -> Result<Vec<Pool>, AllocError>
-    ensures { IfOk result (λ ps. ps.items ≡ map (pool_out project.now.surroundings.default.now project.now.items) (pools_used project.now.surroundings.default.now (known project.now) project.now.items project.now.targets.now)) }
+    ensures { IfOk result (λ ps. ps.items ≡ pools_out project.now.surroundings.default.now (known project.now) project.now.items project.now.targets.now) }
 {
     let table = pool_table(alloc, project)?;
     let mut pools = Vec::new(alloc);
@@ -240,7 +240,7 @@ fn claimants<'a>(
     none: &'a Text,
 ) -> Result<Vec<Claimant<'a>>, AllocError>
     requires { none.now ≡ [] }
-    ensures { IfOk result (λ cs. map claimant cs.items ≡ map (claimant_of (known project.now) project.now.items) (under project.now.surroundings.default.now project.now.targets.now)) }
+    ensures { IfOk result (λ cs. map claimant cs.items ≡ claimants_of project.now.surroundings.default.now (known project.now) project.now.items project.now.targets.now) }
 {
     let mut found = Vec::new(alloc);
     for target in project.targets {
@@ -266,7 +266,7 @@ fn all_written<'a>(alloc: Global, project: &'a Project<'_>) -> Result<Vec<&'a Wr
 
 // build.ninja.
 fn root_text(alloc: Global, project: &Project<'_>, root: &Root) -> Result<Text, AllocError>
-    ensures { IfOk result (λ t. t ≡ text_of_file (root_blocks (root_held root.now) (taken_by (all_written (known project.now) project.now.targets.now)) (claims_of (map (claimant_of (known project.now) project.now.items) (under project.now.surroundings.default.now project.now.targets.now))))) }
+    ensures { IfOk result (λ t. t ≡ text_of_file (blocks_of_root project.now.surroundings.default.now (known project.now) project.now.items project.now.targets.now (root_held root.now))) }
 {
     let none = Text::new(alloc);
     let written = all_written(alloc, project)?;

@@ -16,7 +16,7 @@ use Rattle.gn_projects.proofs.Layered.{base_stays}
 use Rattle.gn_builds.specs.Working.{evaluator, IsSeen}
 use Rattle.gn_builds.specs.Driving.{IsOfLayer, AreOfLayer}
 use Rattle.gn_builds.proofs.Logs.{after_event}
-use Rattle.gn_load.specs.Bases.{or_start, IsBaseFor}
+use Rattle.gn_answers.specs.Bases.{or_start, IsBaseFor}
 use Rattle.gn_load.specs.Current.{layer_now, base_now, IsCurrent, TurnsTo, TurnsToUnit}
 use Rattle.gn_load.specs.declared.current.CurrentBase.{CurrentBase}
 

@@ -15,17 +15,17 @@ use Rattle.gn_projects.specs.Files.{content_in}
 use Rattle.gn_builds.specs.Stacks.{IsAskable, MayWait}
 use Rattle.gn_builds.specs.Working.{IsInNeed}
 use Rattle.gn_builds.specs.Driving.{with_claim}
-use Rattle.gn_load.specs.Answers.{meaning_of}
-use Rattle.gn_load.specs.Performing.{IsPerformed, IsPerformedOver, IsOfTree, IsWorkOf, HasWork}
+use Rattle.gn_answers.specs.Answers.{meaning_of}
+use Rattle.gn_perform.specs.Performing.{IsPerformed, IsPerformedOver, IsOfTree, IsWorkOf, HasWork}
 use Rattle.gn_load.specs.Turns.{IsNextOf, IsCounted, ReadsAs, IsReadAt, IsReadOf, IsRead}
-use Rattle.gn_load.specs.declared.answer.Filed.{Filed}
+use Rattle.gn_answers.specs.declared.answer.Filed.{Filed}
 use Rattle.gn_load.specs.declared.driver.Driver.{Driver}
 use Rattle.gn_load.specs.declared.driver.Stop.{Stop}
 use Rattle.gn_load.specs.declared.driver.Stop.TheVariants as stop
-use Rattle.gn_load.specs.declared.work.Performed.{Performed}
-use Rattle.gn_load.specs.declared.work.Performed.TheVariants.{Answered, Needs}
-use Rattle.gn_load.specs.declared.work.PerformStop.{PerformStop}
-use Rattle.gn_load.specs.declared.work.PerformStop.TheVariants.{Failed, Memory}
+use Rattle.gn_perform.specs.declared.work.Performed.{Performed}
+use Rattle.gn_perform.specs.declared.work.Performed.TheVariants.{Answered, Needs}
+use Rattle.gn_answers.specs.declared.reading.PerformStop.{PerformStop}
+use Rattle.gn_answers.specs.declared.reading.PerformStop.TheVariants.{Failed, Memory}
 
 -- there is work on what may wait
 pub has_work : (k : Key) → MayWait k → HasWork k
@@ -40,6 +40,13 @@ works_still (Read path) was now r may work = absurd may
 works_still (Import layer path) was now r may work = work.reads
 works_still (Unit_of unit) was now r may work = work.reads
 works_still (Resolve label) was now r may work = absurd may
+
+-- nor does it where memory was wanting
+pub lost_work : (k : Key) (s : SourceState) → MayWait k → IsWorkOf k s s (Err Memory)
+lost_work (Read path) s may = absurd may
+lost_work (Import layer path) s may = record { tree = refl; reads = refl; faults = refl; fails = tt }
+lost_work (Unit_of unit) s may = record { tree = refl; reads = refl; faults = refl; fails = tt }
+lost_work (Resolve label) s may = absurd may
 
 pub works_unfailed : (k : Key) → MayWait k → (path : List ℕ) × (k ≡ Read path) → ⊥
 works_unfailed k may read = subst MayWait read.1 may

@@ -6,7 +6,7 @@ use Rattle.gn_book.specs.declared.book.Claim.{Claim}
 use Rattle.gn_builds.specs.Driving.{keys_of as claimed_keys, IsGoing, AreOfLayer}
 use Rattle.gn_load.specs.Current.{layer_now, IsCurrent}
 use Rattle.gn_load.specs.Turns.{KeepsKnown, Goes}
-use Rattle.gn_load.specs.declared.answer.FileContent.{FileContent}
+use Rattle.gn_answers.specs.declared.answer.FileContent.{FileContent}
 use Rattle.gn_load.specs.declared.current.CurrentBase.{CurrentBase}
 use Rattle.gn_load.specs.declared.driver.Driver.{Driver}
 

@@ -21,14 +21,14 @@ use Rattle.gn_builds.specs.Rest.{IsAtRest, Rests, IsSmall, ReachesFew, HasLargeI
 use Rattle.gn_builds.proofs.ReadPaths.{reads_still}
 use Rattle.gn_builds.proofs.Units.{files_at_first}
 use Rattle.gn_load.specs.Turns.{IsStop}
-use Rattle.gn_load.specs.Judging.{AreParts, IsJudged}
+use Rattle.gn_judging.specs.Judging.{AreParts, IsJudged}
 use Rattle.gn_load.specs.Ends.{IsWithinMeant}
 use Rattle.gn_load.specs.Plain.{HasBegun, IsWhollyLoaded, AreWhole, EndsBy, IsEndAt, IsStopped, IsLoadedAs, IsLoad, end_or_memory}
 use Rattle.gn_load.specs.declared.driver.Driver.{Driver}
 use Rattle.gn_load.specs.declared.driver.Stop.{Stop}
 use Rattle.gn_load.specs.declared.driver.Stop.TheVariants as stop
-use Rattle.gn_load.specs.declared.judging.Judged.{Judged}
-use Rattle.gn_load.specs.declared.judging.Judged.TheVariants as judged
+use Rattle.gn_judging.specs.declared.judging.Judged.{Judged}
+use Rattle.gn_judging.specs.declared.judging.Judged.TheVariants as judged
 use Rattle.gn_load.specs.declared.plain.LoadEnd.{LoadEnd}
 use Rattle.gn_load.specs.declared.plain.LoadEnd.TheVariants as end
 use Rattle.gn_load.proofs.TurnLemmas.{goes_memory}

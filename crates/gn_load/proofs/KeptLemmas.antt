@@ -11,12 +11,15 @@ use Rattle.gn_core.specs.Layered.{IsPart}
 use Rattle.gn_core.proofs.Kept.{shown_grows}
 use Rattle.gn_book.specs.Keys.{layer_at}
 use Rattle.gn_book.specs.Logs.{state_of}
-use Rattle.gn_outermost.specs.declared.paused.Paused.{Paused as PausedFile}
-use Rattle.gn_load.specs.Kept.{told_to, IsKeptOf, AreKept}
+use Rattle.gn_tree.specs.Tree.{BlockTree}
+use Rattle.gn_unit.specs.Ends.{IsRead}
+use Rattle.gn_perform.specs.Kept.{told_to, IsKeptOf, AreKept}
 use Rattle.gn_load.specs.Current.{base_now}
 use Rattle.gn_load.specs.declared.current.CurrentBase.{CurrentBase}
 use Rattle.gn_load.specs.declared.driver.Driver.{Driver}
-use Rattle.gn_load.specs.declared.kept.KeyRest.{KeyRest}
+use Rattle.gn_perform.specs.declared.kept.KeyRest.{KeyRest}
+use Rattle.gn_perform.specs.declared.kept.Rest.{Rest as WhereTo}
+use Rattle.gn_perform.specs.declared.kept.Rest.TheVariants as left
 
 within_more : (a b c : Answers) → Below a b → Below b c → Below a c
 within_more a b c one two = record {
@@ -32,8 +35,13 @@ told_more part filed le (SetupKey toolchain) a h = within_more (shown part (earl
 told_more part filed le (LoadKey dir toolchain) a h = within_more (shown part (usual toolchain)) (shown filed (usual toolchain)) a (shown_grows part filed le (usual toolchain)) h
 told_more part filed le (ResolveKey label) a h = h
 
-kept_more : (base : BaseState) (part filed : Filed) → IsPart part filed → (key : Named) (p : PausedFile) → IsKeptOf base part key p → IsKeptOf base filed key p
-kept_more base part filed le key p kept = record { shallow = kept.shallow; rest = λ a h. kept.rest a (told_more part filed le key a h) }
+read_more : (base : BaseState) (part filed : Filed) → IsPart part filed → (key : Named) (tree : BlockTree) → IsRead base key (told_to part key) tree → IsRead base key (told_to filed key) tree
+read_more base part filed le key tree read = (read.0, λ a h. read.1 a (told_more part filed le key a h))
+
+kept_more : (base : BaseState) (part filed : Filed) → IsPart part filed → (key : Named) (rest : WhereTo) → IsKeptOf base part key rest → IsKeptOf base filed key rest
+kept_more base part filed le key (left.Paused p) kept =
+    (record { shallow = kept.0.shallow; rest = λ a h. kept.0.rest a (told_more part filed le key a h) }, read_more base part filed le key p.tree kept.1)
+kept_more base part filed le key (left.Tree tree) kept = read_more base part filed le key tree kept
 
 all_more : (base : BaseState) (part filed : Filed) → IsPart part filed → (es : List KeyRest) → AreKept base part es → AreKept base filed es
 all_more base part filed le [] kept = tt

@@ -22,9 +22,9 @@ use Rattle.gn_core.specs.Keys.{Key, Read, same_key}
 use Rattle.gn_book.specs.Logs.{Log, with_key}
 use Rattle.gn_projects.specs.Files.{content_in}
 use Rattle.gn_builds.proofs.Counts.{in_front, in_new, in_any}
-use Rattle.gn_load.specs.Answers.{content_view}
+use Rattle.gn_answers.specs.Answers.{content_view}
 use Rattle.gn_load.specs.Turns.{known_paths, KeepsKnown}
-use Rattle.gn_load.specs.declared.answer.FileContent.{FileContent}
+use Rattle.gn_answers.specs.declared.answer.FileContent.{FileContent}
 
 -- Tables of paths
 

@@ -31,7 +31,7 @@ use Rattle.gn_builds.proofs.Units.{few_units, finished_fewer, numbered_left, cla
 use Rattle.gn_load.specs.Current.{layer_now, IsCurrent, TurnsToUnit}
 use Rattle.gn_load.specs.Turns.{known_paths, KeepsKnown, Goes, IsTurned, IsStop}
 use Rattle.gn_load.specs.Plain.{Agrees, IsStarted, HasBegun, AreNumbered, HasNumbered, NumbersUnits, HasClaimed, ClaimsUnit, ComesNext, IsTakenUp, TakesUp, IsDriving, IsWhollyLoaded, IsDrive}
-use Rattle.gn_load.specs.declared.answer.FileContent.{FileContent}
+use Rattle.gn_answers.specs.declared.answer.FileContent.{FileContent}
 use Rattle.gn_load.specs.declared.current.CurrentBase.{CurrentBase}
 use Rattle.gn_load.specs.declared.driver.Driver.{Driver}
 use Rattle.gn_load.specs.declared.driver.Stop.{Stop}

@@ -10,7 +10,7 @@ use Rattle.gn_book.specs.Logs.{Log}
 use Rattle.gn_book.specs.declared.book.Claim.{Claim}
 use Rattle.gn_builds.specs.Driving.{IsClaim}
 use Rattle.gn_load.specs.Turns.{IsTaken, IsKnownAt, IsFiledFrom, IsRead, ReadsOnce, IsReadOnce}
-use Rattle.gn_load.specs.declared.answer.FileContent.{FileContent}
+use Rattle.gn_answers.specs.declared.answer.FileContent.{FileContent}
 use Rattle.gn_load.specs.declared.driver.Driver.{Driver}
 use Rattle.gn_load.specs.declared.driver.Stop.{Stop}
 use Rattle.gn_load.specs.declared.driver.Stop.TheVariants.{Memory}

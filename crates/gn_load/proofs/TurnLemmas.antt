@@ -30,10 +30,10 @@ use Rattle.gn_builds.proofs.Counts.{any_in}
 use Rattle.gn_builds.proofs.Named.{is_new}
 use Rattle.gn_builds.proofs.Steps.{needed_are_of_layer}
 use Rattle.gn_builds.proofs.Going.{going_lacks, going_settled, going_waits, going_closes, closed_keys, going_takes, going_reads, reads_too_many, read_fails_at, read_is_lost}
-use Rattle.gn_load.specs.Answers.{content_view}
+use Rattle.gn_answers.specs.Answers.{content_view}
 use Rattle.gn_load.specs.Current.{layer_now, IsCurrent}
 use Rattle.gn_load.specs.Turns.{TakesAs, IsNeeded, KeepsKnown, Goes, IsStill, Settles, Waits, IsCounted, IsReadAt, IsReadOf, IsTaken, IsFiledKnown, IsReadKnown, ReadsOnce, room_of, IsTurned, IsLifted, MayGoOn, IsTurn, IsReadFor, IsFinish, IsStop}
-use Rattle.gn_load.specs.declared.answer.FileContent.{FileContent}
+use Rattle.gn_answers.specs.declared.answer.FileContent.{FileContent}
 use Rattle.gn_load.specs.declared.current.CurrentBase.{CurrentBase}
 use Rattle.gn_load.specs.declared.driver.Driver.{Driver}
 use Rattle.gn_load.specs.declared.driver.Stop.{Stop}

@@ -6,7 +6,7 @@ use Rattle.gn_core.specs.Layered.{HasLayer}
 use Rattle.gn_book.specs.Keys.{layer_at}
 use Rattle.gn_projects.specs.Bases.{base_of_layer}
 use Rattle.gn_builds.specs.Working.{evaluator}
-use Rattle.gn_load.specs.Bases.{or_start}
+use Rattle.gn_answers.specs.Bases.{or_start}
 use Rattle.gn_load.specs.declared.current.CurrentBase.{CurrentBase}
 
 -- the base, and the layer

@@ -8,14 +8,9 @@ use Rattle.gn_projects.specs.Files.{files_of}
 use Rattle.gn_projects.specs.Worlds.{world_of}
 use Rattle.gn_projects.specs.Loaded.{Build, Failure, IsCount, IsWithin, files_reached, loaded}
 use Rattle.gn_builds.specs.Driving.{FailsAt}
-use Rattle.gn_builds.specs.Rest.{build_left}
-use Rattle.gn_load.specs.declared.built.Built.{Built}
+use Rattle.gn_built.specs.Built.{build_of}
 use Rattle.gn_load.specs.declared.plain.LoadEnd.{LoadEnd}
 use Rattle.gn_load.specs.declared.plain.LoadEnd.TheVariants as end
-
--- what a build has left that was loaded: its executions have these numbers, in their order
-abbrev pub build_of : Built → Build
-build_of b = build_left b.default b.book b.executions.items b.generated.items
 
 -- no more build files were claimed than the meaning of a build has
 abbrev pub IsWithinMeant : World → Result Build Failure → ℕ → Type 0

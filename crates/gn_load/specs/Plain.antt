@@ -19,17 +19,18 @@ use Rattle.gn_projects.specs.Errors.{too_large}
 use Rattle.gn_projects.specs.Loaded.{Failure, IsCount, files_reached, loaded}
 use Rattle.gn_builds.specs.Driving.{IsDriven, with_claim, units_left, files_begun}
 use Rattle.gn_builds.specs.Rest.{IsAtRest, Rests, IsSmall, ReachesFew, ReadsAsked}
-use Rattle.gn_load.specs.Answers.{content_view}
+use Rattle.gn_answers.specs.Answers.{content_view}
 use Rattle.gn_load.specs.Turns.{known_paths, Goes, IsStop}
-use Rattle.gn_load.specs.Judging.{AreParts, build_by}
-use Rattle.gn_load.specs.Ends.{build_of, IsEndOf, CountsEnd}
-use Rattle.gn_load.specs.declared.built.Built.{Built}
-use Rattle.gn_load.specs.declared.answer.FileContent.{FileContent}
+use Rattle.gn_judging.specs.Judging.{AreParts, build_by}
+use Rattle.gn_built.specs.Built.{build_of}
+use Rattle.gn_load.specs.Ends.{IsEndOf, CountsEnd}
+use Rattle.gn_built.specs.declared.built.Built.{Built}
+use Rattle.gn_answers.specs.declared.answer.FileContent.{FileContent}
 use Rattle.gn_load.specs.declared.driver.Driver.{Driver}
 use Rattle.gn_load.specs.declared.driver.Stop.{Stop}
 use Rattle.gn_load.specs.declared.driver.Stop.TheVariants as stop
-use Rattle.gn_load.specs.declared.judging.Judged.{Judged}
-use Rattle.gn_load.specs.declared.judging.Judged.TheVariants as judged
+use Rattle.gn_judging.specs.declared.judging.Judged.{Judged}
+use Rattle.gn_judging.specs.declared.judging.Judged.TheVariants as judged
 use Rattle.gn_load.specs.declared.plain.LoadEnd.{LoadEnd}
 use Rattle.gn_load.specs.declared.plain.LoadEnd.TheVariants as end
 

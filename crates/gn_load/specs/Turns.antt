@@ -20,9 +20,9 @@ use Rattle.gn_projects.specs.Files.{content_in}
 use Rattle.gn_builds.specs.Stacks.{MayWait}
 use Rattle.gn_builds.specs.Working.{IsInNeed, AsksContent}
 use Rattle.gn_builds.specs.Driving.{keys_of as claimed_keys, IsClaim, with_claim, IsGoing, AreOfLayer, ReadsNumbered, FailsAt, IsLarge, left_to_do, IsBegun}
-use Rattle.gn_load.specs.Answers.{content_view}
+use Rattle.gn_answers.specs.Answers.{content_view}
 use Rattle.gn_load.specs.Current.{layer_now, IsCurrent}
-use Rattle.gn_load.specs.declared.answer.FileContent.{FileContent}
+use Rattle.gn_answers.specs.declared.answer.FileContent.{FileContent}
 use Rattle.gn_load.specs.declared.driver.Driver.{Driver}
 use Rattle.gn_load.specs.declared.driver.Stop.{Stop}
 use Rattle.gn_load.specs.declared.driver.Stop.TheVariants.{Failed, TooLarge, Memory}

@@ -7,8 +7,8 @@ ghost use Rattle.gn_book.specs.Graphs.{is_unit};
 ghost use Rattle.gn_book.specs.Logs.{state_of};
 ghost use Rattle.gn_load.specs.Current.{layer_now, base_now, TurnsTo, TurnsToUnit};
 
-use crate::answer::Answer;
-use crate::bases::base_for;
+use gn_answers::Answer;
+use gn_bases::base_for;
 use gn_book::Book;
 use gn_items::{Key, When};
 use gn_paths::Text;

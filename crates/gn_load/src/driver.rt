@@ -10,21 +10,20 @@ ghost use Rattle.gn_book.specs.Graphs.{is_unit};
 ghost use Rattle.gn_book.specs.Logs.{state_of, with_event};
 ghost use Rattle.gn_builds.specs.Driving.{IsClaim, IsLacked};
 ghost use Rattle.gn_builds.specs.Stacks.{MayWait};
-ghost use Rattle.gn_load.specs.Answers.{meaning_of};
+ghost use Rattle.gn_answers.specs.Answers.{meaning_of};
 ghost use Rattle.gn_load.specs.Current.{base_now};
-ghost use Rattle.gn_load.specs.Kept.{asked_so_far, asked_for, AreKept, Stores};
-ghost use Rattle.gn_load.specs.Performing.{IsPerformedOver, KeepsFor, IsWorkOf};
+ghost use Rattle.gn_perform.specs.Kept.{asked_so_far, asked_for, AreKept, Stores};
+ghost use Rattle.gn_perform.specs.Performing.{IsPerformedOver, KeepsFor, IsWorkOf};
 ghost use Rattle.gn_load.specs.Turns.{TakesAs, IsNeeded, Goes, Settles, ReadsAs, IsRead, IsKnownAt, IsFiledFrom, IsReadOnce, Waits, IsLifted, IsTurn, IsReadFor, IsFinish};
 
-use crate::answer::{Answer, FileContent, Filed};
 use crate::current::CurrentBase;
-use crate::kept::{Kept, KeyRest, asked_until, store, take_rest};
-use crate::setup::Known;
-use crate::work::{PerformStop, Performed, perform};
+use gn_answers::{Answer, FileContent, Filed, PerformStop};
+use gn_bases::Known;
 use gn_book::{Blocked, Book, Claim};
 use gn_items::Key;
 use gn_outside::Source;
 use gn_paths::{Path, Place};
+use gn_perform::{Kept, KeyRest, Performed, asked_until, perform, store, take_rest};
 use std::alloc::{AllocError, Global};
 use std::collections::VecDeque;
 

@@ -58,8 +58,14 @@ rest_runs p a = whole_block_runs a (behind p.next p.tree) p.env p.out
 abbrev pub StopsAs : LibraryState → LibraryState → Halted → (Answers → Run (Left (Unit {0}))) → Type 0
 StopsAs before after (Ended env out) run = HasRun after env out run
 StopsAs before after (Paused p) run = IsShallow p.tree × Pauses before after (behind p.next p.tree) p.env p.out run
-StopsAs before after (Failed e out) run = Fails before after e out run
+StopsAs before after (Failed e out tree) run = Fails before after e out run
 
 pub record StopsOn (before after : LibraryState) (result : Halted) (run : Answers → Run (Left (Unit {0}))) : Type 0 where
   pub so : StopsAs before after result run
   pub goes : GoesOn before after
+
+-- what comes back of it has this tree
+abbrev pub KeepsTree : Halted → BlockTree → Type 0
+KeepsTree (Ended env out) tree = Unit {0}
+KeepsTree (Paused p) tree = p.tree ≡ tree
+KeepsTree (Failed e out left) tree = left ≡ tree

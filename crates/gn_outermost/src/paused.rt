@@ -2,7 +2,7 @@
 
 ghost use Rattle.std.specs.Prelude.{◌≡◌};
 ghost use Rattle.gn_tree.specs.Depth.{IsShallow};
-ghost use Rattle.gn_outermost.specs.Rests.{rest_runs, StopsOn};
+ghost use Rattle.gn_outermost.specs.Rests.{rest_runs, StopsOn, KeepsTree};
 
 use crate::halting::{Halt, run_rest};
 use gn_env::Env;
@@ -52,14 +52,15 @@ pub enum Halted {
     Ended(Env, Outcome),
     /// It has stopped in front of an import whose answer the library lacks.
     Paused(Paused),
-    /// It has no end, and has asked what the outcome says.
-    Failed(EvalEnd, Outcome),
+    /// It has no end, and has asked what the outcome says. Its tree comes back.
+    Failed(EvalEnd, Outcome, Parsed),
 }
 
-/// The rest of the outermost block of a file runs, as by `run_rest`.
+/// The rest of the outermost block of a file runs, as by `run_rest`. The tree stays that of the file.
 pub fn run_on<L: Library + Definer>(alloc: Global, paused: Paused, library: &mut L) -> Halted
     requires shallow { IsShallow paused.tree }
-    ensures { StopsOn (L.state library.old) (L.state library.new) result (rest_runs paused) }
+    ensures stops { StopsOn (L.state library.old) (L.state library.new) result (rest_runs paused) }
+    ensures tree { KeepsTree result paused.tree }
 {
     let Paused {
         tree,
@@ -75,6 +76,6 @@ pub fn run_on<L: Library + Definer>(alloc: Global, paused: Paused, library: &mut
             env,
             out,
         }),
-        Err(end) => Halted::Failed(end, out),
+        Err(end) => Halted::Failed(end, out, tree),
     }
 }

@@ -1,8 +1,10 @@
 -- What never changes is known for each target of whose toolchain there is a frame.
 use Rattle.std.proofs.Common.{◌≡◌, ℕ, List, [], ◌∷◌, Bool, true, false, cond, Option, Some, None, IfSome, IsSome, is_some, option_map, refl, sym, ◌∙◌, ap, subst}
+use Rattle.std.specs.Map.{lookup}
 use Rattle.std.specs.Str.{bytes_eq}
 use Rattle.std.proofs.lemmas.Slice.Eq.{bytes_eq-Decides}
 use Rattle.gn_labels.specs.declared.label.Label.{Label}
+use Rattle.gn_labels.specs.contracts.label.LabelPartialEq.TheImpl.{eq-value}
 use Rattle.gn_dependencies.specs.Lists.{same_label, has}
 use Rattle.gn_dependencies.proofs.Same.{own, same}
 use Rattle.gn_dependencies.proofs.OrderLaws.{place_of}
@@ -55,3 +57,7 @@ nothing_held s items r none = record {
   right = λ q. subst (λ (o : Option Entry). IfSome o (IsRight s items q)) (sym (none q)) tt;
   closed = λ q h. absurd (cc (sym (ap is_some (none q)) ∙ h));
 }
+
+-- nor where no label has an entry
+pub empty_held : (s : Surroundings) (items : List Item) (r : Resolved) → r.entries.entries ≡ [] → IsHeld s items r
+empty_held s items r none = nothing_held s items r (λ q. ap (lookup (eq-value.it q)) none)

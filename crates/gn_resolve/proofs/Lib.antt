@@ -3,6 +3,8 @@ pub mod Items
 pub mod Held
 pub mod LibraryLists
 pub mod Right
+pub mod Enough
+pub mod Around
 pub mod Put
 pub mod PassLemmas
 pub mod HardLists

@@ -1,5 +1,5 @@
 -- Passes over targets.
-use Rattle.std.proofs.Common.{◌≡◌, ℕ, suc, ◌+◌, ◌<◌, length, take, get_or, add-one, Bor, List, [], ◌∷◌, ◌++◌, Bool, true, false, ◌||◌, ◌&&◌, Option, Some, None, IfSome, IsSome, refl, sym, ◌∙◌, ap, subst, inl, inr, true≢false}
+use Rattle.std.proofs.Common.{◌≡◌, ℕ, suc, ◌+◌, ◌<◌, length, take, get_or, add-one, Bor, List, [], ◌∷◌, ◌++◌, Bool, true, false, ◌||◌, ◌&&◌, Option, Some, None, IsSome, Result, Ok, Err, IsOk, OnOk, refl, sym, ◌∙◌, ap, subst, inl, inr, true≢false}
 use Rattle.std.specs.List.{list_all}
 use Rattle.gn_labels.specs.declared.label.Label.{Label}
 use Rattle.gn_dependencies.specs.Lists.{same_label, has}
@@ -14,17 +14,15 @@ use Rattle.gn_labelled.specs.Graphs.{shape_of}
 use Rattle.gn_labelled.specs.Index.{lent}
 use Rattle.gn_records.specs.Around.{Around}
 use Rattle.gn_toolchains.specs.declared.frames.Frames.{Frames}
-use Rattle.gn_toolchains.specs.Toolchains.{Surroundings, around_of}
+use Rattle.gn_toolchains.specs.Toolchains.{Surroundings}
 use Rattle.gn_toolchains.specs.Frames.{known_of}
 use Rattle.gn_resolve.specs.declared.table.Resolved.{Resolved}
 use Rattle.gn_resolve.specs.Resolved.{labels_in}
-use Rattle.gn_resolve.specs.Table.{is_in, AreIn, IsResolved}
-use Rattle.gn_resolve.specs.Steps.{surroundings_of, IsFit, IsHeld, IsStep}
+use Rattle.gn_resolve.specs.Table.{is_in, AreIn}
+use Rattle.gn_resolve.specs.Steps.{surroundings_of, IsFit, IsHeld, IsResolved, IsStep}
 use Rattle.gn_resolve.specs.Whole.{CanBeResolved, AreResolved}
-use Rattle.gn_resolve.proofs.Ready.{each}
 use Rattle.gn_resolve.proofs.Held.{known_right}
-use Rattle.gn_resolve.proofs.Right.{Known, made_right}
-use Rattle.gn_resolve.proofs.Put.{kept, there, held_with}
+use Rattle.gn_resolve.proofs.Put.{kept, there}
 
 -- the one label of a list
 one_of : (t q : Label) → has (t ∷ []) q ≡ true → q ≡ t
@@ -84,19 +82,12 @@ module _ (frames : Frames) (items : List Item) where
       nothing (Some a) e i = cc e
 
   -- one whose dependencies are resolved is resolved
-  pub resolves : Known → (default : List ℕ) → IsFit frames default items → (a : Around) (t : Label) (old new : Resolved) → known_of frames t.toolchain ≡ Some a
-      → IsHeld (surroundings_of frames) items old → list_all (is_in old) (all_deps (shape_of items) t) ≡ true → IsResolved a default items t old new → IsStep frames items (t ∷ []) old new
-  resolves laws default fit a t old new known held all (e, made, put) = record {
-    held = held_with (surroundings_of frames) items old new t e put held ready (made_right laws (surroundings_of frames) items old held t ready a around default fit.same e made);
-    kept = kept (surroundings_of frames) items old new t e put;
-    made = λ q h framed ready. ap (is_in new) (one_of t q h) ∙ there (surroundings_of frames) items old new t e put;
+  pub resolves : (s : Surroundings) (t : Label) (old new : Resolved) → s ≡ surroundings_of frames → IsResolved s items t old new → IsStep frames items (t ∷ []) old new
+  resolves s t old new e is = record {
+    held = subst (λ (z : Surroundings). IsHeld z items new) e is.held;
+    kept = kept s items old new t is.put.0 is.put.1;
+    made = λ q h framed ready. ap (is_in new) (one_of t q h) ∙ there s items old new t is.put.0 is.put.1;
   }
-    where
-      ready : AreIn old (all_deps (shape_of items) t)
-      ready d h = each (is_in old) d (all_deps (shape_of items) t) all h
-
-      around : a ≡ around_of (surroundings_of frames) items t.toolchain
-      around = subst (λ (o : Option Around). IfSome o (λ a. a ≡ around_of (surroundings_of frames) items t.toolchain)) known (fit.right t.toolchain)
 
   -- ---- several
   pub none_first : (r : Resolved) → IsHeld (surroundings_of frames) items r → IsStep frames items [] r r
@@ -144,3 +135,8 @@ module _ (frames : Frames) (items : List Item) where
       → IsStep frames items (take (i + 1) ts) a c
   then_next ts i t a b c l e first next =
       subst (λ (z : List Label). IsStep frames items z a c) (sym (take_more ts i t l ∙ ap (λ z. take i ts ++ z ∷ []) (sym e))) (then_one (take i ts) t a b c first next)
+
+-- what holds where all went well, where it did
+pub on_ok_given : {T E : Type 0} (r : Result T E) (P : Type 0) → OnOk r P → IsOk r → P
+on_ok_given (Ok x) P h i = h
+on_ok_given (Err e) P h i = absurd (cc i)

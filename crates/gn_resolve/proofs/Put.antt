@@ -12,7 +12,7 @@ use Rattle.gn_toolchains.specs.Toolchains.{Surroundings}
 use Rattle.gn_resolve.specs.declared.table.Entry.{Entry}
 use Rattle.gn_resolve.specs.declared.table.Resolved.{Resolved}
 use Rattle.gn_resolve.specs.Table.{entry_in, is_in, AreIn, IsPut}
-use Rattle.gn_resolve.specs.Steps.{IsRight, IsHeld}
+use Rattle.gn_resolve.specs.Steps.{IsRight, IsHeld, StaysHeld, IsResolved}
 
 module _ (s : Surroundings) (items : List Item) (old new : Resolved) (t : Label) (e : Entry) (put : IsPut old new t e) where
   at : (q : Label) → entry_in new q ≡ cond (eq-value.it t q) (Some e) (entry_in old q)
@@ -45,3 +45,13 @@ module _ (s : Surroundings) (items : List Item) (old new : Resolved) (t : Label)
     right = λ q. subst (λ (o : Option Entry). IfSome o (IsRight s items q)) (sym (at q)) (right_by q (eq-value.it t q) refl right (held.right q));
     closed = λ q i d h. kept d (closed_by q (eq-value.it t q) refl held ready (sym (ap is_some (at q)) ∙ i) d h);
   }
+
+-- the target whose label was copied is resolved
+pub resolved_with : (s : Surroundings) (items : List Item) (old new : Resolved) (copied t : Label) (e : Entry) → copied ≡ t → IsPut old new copied e → IsHeld s items old
+    → AreIn old (all_deps (shape_of items) t) → IsRight s items t e → IsResolved s items t old new
+resolved_with s items old new copied t e same put held ready right =
+    let it : IsPut old new t e = subst (λ (z : Label). IsPut old new z e) same put in
+    record { held = held_with s items old new t e it held ready right; put = (e, it) }
+
+pub stays_held : (old new : Resolved) (t : Label) (e : Entry) → IsPut old new t e → StaysHeld old new t e
+stays_held old new t e put s items held ready right = held_with s items old new t e put held ready right

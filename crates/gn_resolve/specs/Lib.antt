@@ -2,3 +2,4 @@ pub mod Resolved
 pub mod Table
 pub mod Steps
 pub mod Whole
+pub mod Laws

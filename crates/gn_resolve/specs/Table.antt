@@ -147,7 +147,13 @@ AreTaken default items r t h = (ls : List Label) × IsInherited default (shape_o
 
 -- What is made of a target
 
--- the record of its item, where its objects wait for these targets
+-- the record of its item, by what its configurations hold and by the done files for which its objects wait
+pub record IsLinked (a : Around) (default : List ℕ) (items : List Item) (r : Resolved) (t : Label) (configs : List (List (Variable × Held))) (hard : List (List ℕ)) (item : Item) (k : Record) : Type 0 where
+  pub inherited : Inherited
+  pub taken : AreTaken default items r t inherited
+  pub is : k ≡ record_of a item configs inherited (dones_from items r t) hard
+
+-- the same where its objects wait for these targets
 pub record IsRecordOf (a : Around) (default : List ℕ) (items : List Item) (r : Resolved) (t : Label) (hard : List Label) (item : Item) (k : Record) : Type 0 where
   pub configs : List (List (Variable × Held))
   pub inherited : Inherited
@@ -172,6 +178,3 @@ pub record IsMade (a : Around) (default : List ℕ) (items : List Item) (r : Res
 -- it stands with what was kept before
 abbrev pub IsPut : Resolved → Resolved → Label → Entry → Type 0
 IsPut old new t e = Updates eq-value.it old.entries new.entries t (Some e)
-
-abbrev pub IsResolved : Around → List ℕ → List Item → Label → Resolved → Resolved → Type 0
-IsResolved a default items t old new = (e : Entry) × IsMade a default items old t e × IsPut old new t e

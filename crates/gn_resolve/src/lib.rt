@@ -11,6 +11,9 @@ mod passes;
 mod resolving;
 mod table;
 
-pub use laws::each_configuration_applies_once;
+pub use laws::{
+    a_part_of_the_targets_is_enough, each_configuration_applies_once, what_is_made_is_right,
+};
+pub use making::resolve;
 pub use passes::resolve_all;
 pub use table::{Entry, Resolved};

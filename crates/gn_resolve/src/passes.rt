@@ -1,6 +1,6 @@
 // Passes over the targets of a build resolve all of them.
 
-ghost use Rattle.std.specs.Prelude.{◌≡◌, IfOk, OnOk};
+ghost use Rattle.std.specs.Prelude.{◌≡◌, IfOk, IsOk, OnOk};
 ghost use Rattle.gn_labelled.specs.Graphs.{shape_of};
 ghost use Rattle.gn_labelled.specs.Index.{lent};
 ghost use Rattle.gn_resolved_meant.specs.Laws.{IsClosed};
@@ -57,6 +57,19 @@ fn resolve_in(
     complete(alloc, frames, graph, targets)
 }
 
+// What is kept of targets, where that has been made of all of them.
+fn finished(done: Result<(), AllocError>, records: Resolved) -> Result<Resolved, AllocError>
+    ensures { IfOk result (λ r. (r ≡ records) × IsOk done) }
+{
+    match done {
+        Ok(()) => Ok(records),
+        Err(error) => {
+            drop(records);
+            Err(error)
+        }
+    }
+}
+
 // What is kept of the targets of a graph.
 fn resolved_in(
     alloc: Global,
@@ -69,8 +82,8 @@ fn resolved_in(
     requires can { CanBeResolved frames.now graph.items targets.now }
     ensures { IfOk result (AreResolved (surroundings_of frames.now) graph.entry.items targets.now) }
 {
-    resolve_in(alloc, frames, &mut graph, targets)?;
-    Ok(graph.records)
+    let done = resolve_in(alloc, frames, &mut graph, targets);
+    finished(done, graph.records)
 }
 
 /// The records of targets, by the items that a build defines and by what never changes for its targets. The list must have the

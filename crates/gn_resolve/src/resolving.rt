@@ -3,21 +3,16 @@
 ghost use Rattle.std.specs.Prelude.{◌≡◌, ◌∷◌, [], OnOk, true};
 ghost use Rattle.std.specs.List.{list_all};
 ghost use Rattle.gn_dependencies.specs.Shape.{all_deps};
-ghost use Rattle.gn_dependencies.specs.Configurations.{AreRecorded};
 ghost use Rattle.gn_labelled.specs.Graphs.{shape_of};
 ghost use Rattle.gn_records.specs.Around.{around};
-ghost use Rattle.gn_resolve.specs.Table.{is_in, handed_in, IsPut, IsResolved};
-ghost use Rattle.gn_resolve.specs.Steps.{IsFit, IsHeld, IsStep, surroundings_of};
+ghost use Rattle.gn_resolve.specs.Table.{is_in, AreIn};
+ghost use Rattle.gn_resolve.specs.Steps.{surroundings_of, surroundings_in, IsFit, IsAround, IsHeld, IsResolved, IsStep};
 
-use crate::making::made;
-use crate::table::{Entry, Known, Resolved};
+use crate::making::resolve;
+use crate::table::{Known, Resolved};
 use gn_chains::Graph;
 use gn_labels::Label;
-use gn_records::{Context, exports_need_no_dependency, objects_need_no_dependency};
-use gn_resolved_meant::{
-    configurations_come_along, hard_targets_are_led_to, hard_targets_come_along,
-    inherited_libraries_are_placed,
-};
+use gn_records::Context;
 use gn_rows::Variable;
 use gn_toolchains::Frames;
 use std::alloc::{AllocError, Global};
@@ -39,16 +34,6 @@ fn is_ready(graph: &Known<'_>, target: &Label) -> bool
         && are_in(&graph.records, graph.labels(target, Variable::DataDeps))
 }
 
-// Puts what is kept of a target with the others.
-fn put(alloc: Global, graph: &mut Known<'_>, target: &Label, entry: Entry) -> Result<(), AllocError>
-    ensures put { OnOk result (IsPut graph.old.records graph.new.records target.now entry) }
-    ensures same { OnOk result ((graph.new.items ≡ graph.old.items) × (graph.new.default ≡ graph.old.default)) }
-{
-    let target = target.copy(alloc)?;
-    graph.records.put(target, entry)?;
-    Ok(())
-}
-
 // Resolves a target whose dependencies are resolved, where what never changes for it is this.
 fn resolve_with(
     alloc: Global,
@@ -56,12 +41,15 @@ fn resolve_with(
     graph: &mut Known<'_>,
     target: &Label,
 ) -> Result<(), AllocError>
-    requires { AreRecorded (shape_of graph.old.items) (handed_in graph.old.records) target.now }
-    ensures put { OnOk result (IsResolved (around context.now) graph.old.default.now graph.old.items target.now graph.old.records graph.new.records) }
+    requires around { IsAround graph.old.default.now graph.old.items target.now.toolchain (around context.now) }
+    requires held { IsHeld (surroundings_in (around context.now)) graph.old.items graph.old.records }
+    requires ready { AreIn graph.old.records (all_deps (shape_of graph.old.items) target.now) }
+    ensures resolved { OnOk result (IsResolved (surroundings_in (around context.now)) graph.old.items target.now graph.old.records graph.new.records) }
     ensures same { OnOk result ((graph.new.items ≡ graph.old.items) × (graph.new.default ≡ graph.old.default)) }
 {
-    let entry = made(alloc, context, graph, target)?;
-    put(alloc, graph, target, entry)
+    let label = target.copy(alloc)?;
+    let entry = resolve(alloc, context, graph, target)?;
+    graph.records.put(label, entry)
 }
 
 // The same where what never changes for it is known.
@@ -77,12 +65,6 @@ fn resolve_ready(
     ensures step { OnOk result (IsStep frames.now graph.old.items (target.now ∷ []) graph.old.records graph.new.records) }
     ensures same { OnOk result ((graph.new.items ≡ graph.old.items) × (graph.new.default ≡ graph.old.default)) }
 {
-    exports_need_no_dependency();
-    objects_need_no_dependency();
-    configurations_come_along();
-    hard_targets_are_led_to();
-    hard_targets_come_along();
-    inherited_libraries_are_placed();
     match frames.context(&target.toolchain) {
         None => Ok(()),
         Some(context) => resolve_with(alloc, &context, graph, target),
@@ -90,7 +72,7 @@ fn resolve_ready(
 }
 
 // Resolves a target if it isn't resolved and its dependencies are.
-fn resolve(
+fn try_resolve(
     alloc: Global,
     frames: &Frames<'_>,
     graph: &mut Known<'_>,
@@ -123,7 +105,7 @@ pub(crate) fn pass(
     ensures same { OnOk result ((graph.new.items ≡ graph.old.items) × (graph.new.default ≡ graph.old.default)) }
 {
     for target in targets {
-        resolve(alloc, frames, graph, target)?;
+        try_resolve(alloc, frames, graph, target)?;
     }
     Ok(())
 }

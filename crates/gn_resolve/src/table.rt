@@ -1,10 +1,12 @@
 // What is kept of targets that are resolved.
 
-ghost use Rattle.std.specs.Prelude.{◌≡◌, option_map, OnOk, Some, None};
-ghost use Rattle.indexmap.specs.IndexMap.{Updates};
+ghost use Rattle.std.specs.Prelude.{◌≡◌, List, option_map, OnOk, OnErr, None};
+ghost use Rattle.indexmap.specs.IndexMap.{IsUnchanged};
 ghost use Rattle.gn_labels.specs.declared.label.Label.{Label as Named};
-ghost use Rattle.gn_labels.specs.contracts.label.LabelPartialEq.TheImpl.{eq-value};
-ghost use Rattle.gn_resolve.specs.Table.{entry_in, is_in, known_in, handed_in, hard_at};
+ghost use Rattle.gn_items.specs.declared.item.Item.{Item};
+ghost use Rattle.gn_toolchains.specs.Toolchains.{Surroundings};
+ghost use Rattle.gn_resolve.specs.Table.{entry_in, is_in, known_in, handed_in, hard_at, IsPut};
+ghost use Rattle.gn_resolve.specs.Steps.{IsHeld, StaysHeld};
 
 use gn_labelled::{HandedOn, ItemGraph};
 use gn_labels::Label;
@@ -38,7 +40,8 @@ pub(crate) type Known<'a> = ItemGraph<'a, Resolved>;
 impl Resolved {
     /// No target is resolved. It takes no memory.
     pub fn new(alloc: Global) -> Resolved
-        ensures { (q : Named) → entry_in result q ≡ None }
+        ensures none { (q : Named) → entry_in result q ≡ None }
+        ensures held { (s : Surroundings) (items : List Item) → IsHeld s items result }
     {
         Resolved {
             entries: IndexMap::new(alloc),
@@ -79,11 +82,15 @@ impl Resolved {
         }
     }
 
-    // Puts what is kept of a target with the others.
-    pub(crate) fn put(&mut self, label: Label, entry: Entry) -> Result<(), AllocError>
-        ensures { OnOk result (Updates eq-value.it self.old.entries self.new.entries label (Some entry)) }
+    /// Puts what is kept of a target with the others, as `resolve` gives it. Where that is right, and what is kept of the others is and
+    /// has all dependencies of the target, all is right again. After want of memory nothing is changed.
+    pub fn put(&mut self, label: Label, entry: Entry) -> Result<(), AllocError>
+        ensures put { OnOk result (IsPut self.old self.new label entry) }
+        ensures held { OnOk result (StaysHeld self.old self.new label entry) }
+        ensures err { OnErr result (IsUnchanged self.old.entries self.new.entries) }
     {
-        self.entries.insert(label, entry)?;
+        let replaced = self.entries.insert(label, entry)?;
+        drop(replaced);
         Ok(())
     }
 }

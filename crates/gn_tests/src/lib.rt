@@ -1,4 +1,4 @@
-//! Tests of whole runs over trees in memory, and of the calls between the tree and the top call.
+//! Tests of whole runs over trees in memory.
 #![tactic(auto)]
 
 #[cfg(test)]
@@ -6,15 +6,11 @@ mod builds;
 #[cfg(test)]
 mod commands;
 #[cfg(test)]
-mod dotfiles;
-#[cfg(test)]
 mod failures;
 #[cfg(test)]
 mod files;
 #[cfg(test)]
 mod imports;
-#[cfg(test)]
-mod names;
 #[cfg(test)]
 mod nesting;
 #[cfg(test)]
@@ -22,17 +18,9 @@ mod puts;
 #[cfg(test)]
 mod runs;
 #[cfg(test)]
-mod scopes;
-#[cfg(test)]
 mod sizes;
 #[cfg(test)]
 mod sources;
-#[cfg(test)]
-mod standing;
-#[cfg(test)]
-mod units;
-#[cfg(test)]
-mod values;
 #[cfg(test)]
 mod whole_builds;
 #[cfg(test)]

@@ -1,7 +1,7 @@
 -- What a run over one source has said and read.
-use Rattle.std.proofs.Common.{◌≡◌, ℕ, ◌≤◌, List, [], ◌∷◌, ◌++◌, refl, sym, ap, ◌∙◌, subst, append_assoc, append-nil, codes, inl, ⊎_elim, arith}
+use Rattle.std.proofs.Common.{◌≡◌, ℕ, ◌≤◌, List, [], ◌∷◌, ◌++◌, refl, sym, ap, ◌∙◌, subst, true≢false, append_assoc, append-nil, codes, inl, ⊎_elim, arith}
 use Rattle.std.proofs.Math.Seq.{drop-append_seam}
-use Rattle.std.specs.Prelude.{Option, None, Some, Result, Ok, Err, IfOk, IsSome, true, decimal}
+use Rattle.std.specs.Prelude.{Option, None, Some, is_some, Result, Ok, Err, IfOk, IsSome, true, decimal}
 use Rattle.std.specs.List.{IsDistinct}
 use Rattle.std.specs.declared.cmp.Ordering.TheVariants.{Equal}
 use Rattle.std.specs.Ordering.{nat_cmp}
@@ -15,6 +15,7 @@ use Rattle.gn_outside.specs.Lists.{AllDiffer, Each, EachPair, Extends}
 use Rattle.gn_outside.specs.Sources.{AllTell, AllTellReads, FailedAt, IsAtMost, IsLeastFailure, ReadsOn, reads_since, joined_reads}
 use Rattle.gn_projects.specs.Loaded.{UnitCount, Exactly, UpTo, Failure, IsCount, IsWithin}
 use Rattle.gn_builds.specs.Driving.{FailsAt}
+use Rattle.gn_command_line.specs.Words.{Line}
 use Rattle.gn_top.specs.declared.answered.Answered.{Answered}
 use Rattle.gn_top.specs.declared.answered.RunStop.{RunStop}
 use Rattle.gn_top.specs.declared.answered.RunStop.TheVariants.{CannotRead, Memory}
@@ -27,6 +28,10 @@ use Rattle.gn_top.specs.Texts.{done_line}
 use Rattle.gn_top.specs.Said.{Said, Wanted, Labels, Files, build_said, wanted_said, loaded_said, pattern_asked, warning}
 use Rattle.gn_top.specs.Steps.{IsSaying, IfCannotRead}
 use Rattle.gn_top.specs.Building.{faultless_view, SaysEnd, SaysFault, ReadsOf}
+
+-- words that say something have a form
+pub has_form : (line : Line) (found : Option Line) → Some line ≡ found → found ≡ None → ⊥
+has_form line found is none = true≢false (ap is_some (is ∙ none))
 
 -- a source that tells its tree is all that tells it
 pub told_by_one : (result : Result Answered RunStop) (before : SourceState) (meaning : Tree → Said) → IfOk result (λ a. (tree : Tree) → before.tree ≡ Some tree → IsSaying a (meaning tree))

@@ -10,11 +10,11 @@ use Rattle.gn_environment.specs.Environment.{new_environment}
 use Rattle.gn_meaning.specs.Steps.{Left}
 use Rattle.gn_executions.specs.Alone.{alone_runs, arguments_runs}
 use Rattle.gn_executions.specs.Dotfile.{DotfileState, dotfile_runs}
-use Rattle.gn_unit.specs.Alone.{LeavesWith}
+use Rattle.gn_first_stage.specs.Alone.{LeavesWith}
 use Rattle.gn_projects.specs.Files.{content_in}
-use Rattle.gn_load.specs.Answers.{content_view}
-use Rattle.gn_load.specs.declared.answer.FileContent.{FileContent}
-use Rattle.gn_load.specs.declared.answer.FileContent.TheVariants as file_content
+use Rattle.gn_answers.specs.Answers.{content_view}
+use Rattle.gn_answers.specs.declared.answer.FileContent.{FileContent}
+use Rattle.gn_answers.specs.declared.answer.FileContent.TheVariants as file_content
 use Rattle.gn_top.specs.Hosts.{HostTexts}
 use Rattle.gn_top.specs.Stages.{Request, dotfile_path, arguments_path, alone_end, dotfile_of_content, dotfile_said, arguments_of_file, arguments_in, kept_arguments, read_in, kept_path, arguments_said, first_with, first_behind, first_said, arguments_paths, behind_dotfile, first_paths}
 use Rattle.gn_top.specs.declared.first.ArgumentsEnd.{ArgumentsEnd}

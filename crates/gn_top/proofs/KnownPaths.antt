@@ -24,10 +24,10 @@ use Rattle.gn_projects.specs.Worlds.{world_of}
 use Rattle.gn_projects.specs.Errors.{too_large}
 use Rattle.gn_projects.specs.Computed.{faults_of, least_of}
 use Rattle.gn_projects.specs.Loaded.{Build, Failure, UpTo, loaded_by, loaded}
-use Rattle.gn_load.specs.Answers.{content_view}
+use Rattle.gn_answers.specs.Answers.{content_view}
 use Rattle.gn_load.specs.Turns.{known_paths}
 use Rattle.gn_load.specs.Plain.{Agrees}
-use Rattle.gn_load.specs.declared.answer.FileContent.{FileContent}
+use Rattle.gn_answers.specs.declared.answer.FileContent.{FileContent}
 use Rattle.gn_top.specs.Building.{KnowsAlso}
 
 -- One more path

@@ -1,5 +1,4 @@
 pub mod AnswerLemmas
-pub mod CommandLemmas
 pub mod FirstLemmas
 pub mod JoinedReads
 pub mod KnownPaths

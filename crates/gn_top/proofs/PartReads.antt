@@ -7,9 +7,9 @@ use Rattle.gn_outside.specs.States.{SourceRead, SourceState, paths_of}
 use Rattle.gn_outside.specs.Lists.{Extends, OneOf}
 use Rattle.gn_outside.specs.Sources.{FailedAt, ReadsOnBy, CountsFailures, plain_reads}
 use Rattle.gn_builds.specs.Driving.{FailsAt}
-use Rattle.gn_load.specs.Performing.{IsReadBy}
-use Rattle.gn_load.specs.declared.answer.FileContent.{FileContent}
-use Rattle.gn_load.specs.declared.work.PerformStop.TheVariants as stop
+use Rattle.gn_answers.specs.Reading.{IsReadBy}
+use Rattle.gn_answers.specs.declared.answer.FileContent.{FileContent}
+use Rattle.gn_answers.specs.declared.reading.PerformStop.TheVariants as stop
 use Rattle.gn_top.specs.declared.answered.RunStop.{RunStop}
 use Rattle.gn_top.specs.declared.answered.RunStop.TheVariants.{CannotRead, Memory}
 use Rattle.gn_top.specs.Building.{ReadsAmong, ReadsNew, ReadsOf, ReadsOneOf, ReadsKnown, ReadsFirst, KnowsAlso}

@@ -12,11 +12,12 @@ use Rattle.gn_projects.specs.Worlds.{world_of}
 use Rattle.gn_projects.specs.Loaded.{Build as Loaded, Exactly, Failure, IsAskedFor, loaded as loaded_over}
 use Rattle.gn_builds.specs.Driving.{FailsAt}
 use Rattle.gn_builds.specs.Rest.{ReadsAsked}
-use Rattle.gn_load.specs.Ends.{build_of, IsWithinMeant, IsEndOf, CountsEnd}
-use Rattle.gn_load.specs.Setups.{given_base}
+use Rattle.gn_built.specs.Built.{build_of}
+use Rattle.gn_load.specs.Ends.{IsWithinMeant, IsEndOf, CountsEnd}
+use Rattle.gn_bases.specs.Setups.{given_base}
 use Rattle.gn_load.specs.Turns.{known_paths}
-use Rattle.gn_load.specs.declared.answer.FileContent.{FileContent}
-use Rattle.gn_load.specs.declared.built.Built.{Built}
+use Rattle.gn_answers.specs.declared.answer.FileContent.{FileContent}
+use Rattle.gn_built.specs.declared.built.Built.{Built}
 use Rattle.gn_load.specs.declared.plain.LoadEnd.{LoadEnd}
 use Rattle.gn_load.specs.declared.plain.LoadEnd.TheVariants as load_end
 use Rattle.gn_top.specs.Hosts.{HostTexts}

@@ -10,11 +10,11 @@ use Rattle.gn_faults.specs.declared.code.Code.{Code}
 use Rattle.gn_faults.specs.declared.fault.Fault.{Fault}
 use Rattle.gn_faults.specs.declared.stage.Stage.TheVariants.{Arguments}
 use Rattle.gn_executions.specs.Dotfile.{DotfileState}
-use Rattle.gn_unit.specs.Alone.{dotfile_state}
+use Rattle.gn_dotfile.specs.Names.{dotfile_state}
 use Rattle.gn_projects.specs.Loaded.{UnitCount, Failure, IsCount}
 use Rattle.gn_builds.specs.Driving.{FailsAt}
-use Rattle.gn_load.specs.Setups.{given_base}
-use Rattle.gn_load.specs.declared.answer.FileContent.{FileContent}
+use Rattle.gn_bases.specs.Setups.{given_base}
+use Rattle.gn_answers.specs.declared.answer.FileContent.{FileContent}
 use Rattle.gn_load.specs.declared.plain.LoadEnd.{LoadEnd}
 use Rattle.gn_load.specs.declared.plain.LoadEnd.TheVariants as load_end
 use Rattle.gn_top.specs.Hosts.{HostTexts}

@@ -1,6 +1,5 @@
 pub mod Exported
 pub mod Words
-pub mod Commands
 pub mod Texts
 pub mod Labels
 pub mod GraphFaults

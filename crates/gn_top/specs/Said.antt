@@ -16,7 +16,7 @@ use Rattle.gn_labels.specs.Patterns.{pattern_read}
 use Rattle.gn_faults.specs.declared.fault.Fault.{Fault}
 use Rattle.gn_faults.specs.Printed.{printed}
 use Rattle.gn_top.specs.Exported.{Exported}
-use Rattle.gn_top.specs.Words.{Options, Command, Ls, Gen, Line, line_said}
+use Rattle.gn_command_line.specs.Words.{Options, Command, Ls, Gen, Line, line_said}
 use Rattle.gn_top.specs.Texts.{line, usage_line, done_line}
 use Rattle.gn_items.specs.declared.declaration.Declaration.{Declaration}
 use Rattle.gn_args.specs.Arguments.{unused_names}
@@ -32,10 +32,6 @@ pub record Said : Type 0 where
   pub text : List ℕ
   pub files : List PutFile
   pub units : UnitCount
-
--- the words as bytes
-abbrev pub texts : List (String Global) → List (List ℕ)
-texts words = map string_bytes words
 
 -- the usage line, where the words have no form
 abbrev pub usage_said : Said

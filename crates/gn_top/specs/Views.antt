@@ -3,8 +3,8 @@ use Rattle.std.specs.Prelude.{◌++◌}
 use Rattle.std.specs.declared.sync.Arc.{Arc}
 use Rattle.std.specs.declared.alloc.Global.{Global}
 use Rattle.std.specs.Arc.{arc_value}
-use Rattle.gn_unit.specs.Alone.{dotfile_state}
-use Rattle.gn_load.specs.Ends.{build_of}
+use Rattle.gn_dotfile.specs.Names.{dotfile_state}
+use Rattle.gn_built.specs.Built.{build_of}
 use Rattle.gn_top.specs.Stages.{First, Build}
 use Rattle.gn_top.specs.declared.building.Started.{Started}
 use Rattle.gn_top.specs.declared.building.Build.{Build as BuildCode}

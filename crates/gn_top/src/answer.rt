@@ -5,12 +5,13 @@ ghost use Rattle.gn_outside.specs.Tree.{Tree};
 ghost use Rattle.gn_outside.specs.Lists.{AllDiffer, Each, EachPair};
 ghost use Rattle.gn_outside.specs.Sources.{AllTell, AllTellReads, ReadsOn, IsLeastFailure, joined_reads};
 ghost use Rattle.gn_builds.specs.Driving.{FailsAt};
-ghost use Rattle.gn_top.specs.Words.{AreShort, HasNoForm};
+ghost use Rattle.gn_command_line.specs.Words.{AreShort, texts};
+ghost use Rattle.gn_top.specs.Words.{HasNoForm};
 ghost use Rattle.gn_top.specs.Hosts.{host_texts};
-ghost use Rattle.gn_top.specs.Said.{said, asked, texts, lines_of, warning, declared_names, warnings_of, answer_said, gen_text, gen_said, line_means, line_asks, pattern_asked, pattern_code, question_fault, build_said, wanted_said, request_said};
+ghost use Rattle.gn_top.specs.Said.{said, asked, lines_of, warning, declared_names, warnings_of, answer_said, gen_text, gen_said, line_means, line_asks, pattern_asked, pattern_code, question_fault, build_said, wanted_said, request_said};
 ghost use Rattle.gn_top.specs.Steps.{IsSaying, IfCannotRead, CountsFault, AnswersUsage};
 ghost use Rattle.gn_top.specs.Building.{request_view, outer_view, build_view, faultless_view, wanted_view, SaysFault, SaysEnd, ReadsOf, ReadsBuild};
-ghost use Rattle.gn_top.specs.Commands.{line_view};
+ghost use Rattle.gn_command_line.specs.Commands.{line_view};
 
 use crate::answered::{Answered, RunStop};
 use crate::building::{Build, BuildEnd, make_build};
@@ -21,8 +22,8 @@ use crate::first::{Outer, Request};
 use crate::host::Host;
 use crate::labels::append_labels;
 use crate::texts::{HAS_NO_EFFECT, USAGE, WARNING};
-use crate::words::{Command, Line, read_words};
 use gn_args::unused;
+use gn_command_line::{Command, Line, arguments_are_short, read_words};
 use gn_executions::HostNames;
 use gn_faults::{Code, Fault, Stage};
 use gn_items::Declaration;
@@ -31,6 +32,7 @@ use gn_out_files::OutFiles;
 use gn_outside::Source;
 use gn_paths::{Path, PathFault, Text, Texts};
 use std::alloc::{AllocError, Global};
+use std::thread::Threads;
 
 /// What is wanted of a build.
 #[derive(Clone, Copy)]
@@ -154,7 +156,8 @@ fn gen_text(alloc: Global, build: &Build) -> Result<Vec<u8>, AllocError>
 }
 
 // The files of a build, and the text behind them.
-fn gen_answer(
+fn gen_answer<R: Threads + Sync>(
+    rt: &R,
     alloc: Global,
     request: &Request<'_>,
     build: &Faultless,
@@ -162,7 +165,7 @@ fn gen_answer(
     ensures { IfOk result (λ a. IsSaying a (gen_said (request_view request.now) (faultless_view build.now))) }
 {
     let text = gen_text(alloc, &build.build)?;
-    let files = files_put(alloc, request, build)?;
+    let files = files_put(rt, alloc, request, build)?;
     Ok(Answered {
         status: 0,
         text,
@@ -226,7 +229,8 @@ fn build_answer(
 }
 
 // The answer for a build of which this is wanted.
-fn wanted_answer(
+fn wanted_answer<R: Threads + Sync>(
+    rt: &R,
     alloc: Global,
     wanted: Wanted<'_>,
     request: &Request<'_>,
@@ -236,12 +240,13 @@ fn wanted_answer(
 {
     match wanted {
         Wanted::Labels(pattern) => build_answer(alloc, pattern, &build.build),
-        Wanted::Files => gen_answer(alloc, request, build),
+        Wanted::Files => gen_answer(rt, alloc, request, build),
     }
 }
 
 // The answer for a build, or for its fault.
-fn end_answer(
+fn end_answer<R: Threads + Sync>(
+    rt: &R,
     alloc: Global,
     wanted: Wanted<'_>,
     request: &Request<'_>,
@@ -250,7 +255,7 @@ fn end_answer(
     ensures { IfOk result (λ a. SaysEnd a (wanted_view wanted.entry) (request_view request.now) end.now) }
 {
     match end {
-        BuildEnd::Built(build) => wanted_answer(alloc, wanted, request, build),
+        BuildEnd::Built(build) => wanted_answer(rt, alloc, wanted, request, build),
         BuildEnd::Failed(failure) => fault_answer(alloc, &failure.fault, failure.units),
     }
 }
@@ -269,7 +274,8 @@ fn outer_of(alloc: Global, host: &Host) -> Result<Outer, AllocError>
 }
 
 // The answer for the build of a source.
-fn read_build<S: Source>(
+fn read_build<R: Threads + Sync, S: Source>(
+    rt: &R,
     alloc: Global,
     host: &Host,
     wanted: Wanted<'_>,
@@ -285,11 +291,12 @@ fn read_build<S: Source>(
 {
     let outer = outer_of(alloc, host)?;
     let end = make_build(alloc, &outer, request, source)?;
-    Ok(end_answer(alloc, wanted, request, &end)?)
+    Ok(end_answer(rt, alloc, wanted, request, &end)?)
 }
 
 // What a line says over the source's tree.
-fn line_answer<S: Source>(
+fn line_answer<R: Threads + Sync, S: Source>(
+    rt: &R,
     alloc: Global,
     line: Line<'_>,
     host: &Host,
@@ -309,20 +316,21 @@ fn line_answer<S: Source>(
                 directory,
                 arguments,
             };
-            read_build(alloc, host, Wanted::Labels(pattern), &request, source)
+            read_build(rt, alloc, host, Wanted::Labels(pattern), &request, source)
         }
         Command::Gen { directory } => {
             let request = Request {
                 directory,
                 arguments,
             };
-            read_build(alloc, host, Wanted::Files, &request, source)
+            read_build(rt, alloc, host, Wanted::Files, &request, source)
         }
     }
 }
 
 /// What these words say over the source's tree, or why nothing can be said.
-pub fn answer<S: Source>(
+pub fn answer<R: Threads + Sync, S: Source>(
+    rt: &R,
     alloc: Global,
     words: &[String],
     host: &Host,
@@ -342,6 +350,7 @@ pub fn answer<S: Source>(
         Each (asked (texts words.now) (host_texts host.now) [] tree) (joined_reads (S.state source.old ∷ []) (S.state source.new ∷ [])) }
     ensures sources { EachPair ReadsOn (S.state source.old ∷ []) (S.state source.new ∷ []) }
 {
+    arguments_are_short();
     match read_words(alloc, words)? {
         None => Ok(Answered {
             status: 2,
@@ -349,6 +358,6 @@ pub fn answer<S: Source>(
             files: OutFiles::new(alloc),
             units: 0,
         }),
-        Some(line) => line_answer(alloc, line, host, source),
+        Some(line) => line_answer(rt, alloc, line, host, source),
     }
 }

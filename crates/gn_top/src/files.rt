@@ -3,7 +3,7 @@
 ghost use Rattle.std.specs.Prelude.{◌≡◌, ◌++◌, ◌∷◌, [], IfOk, OnOk, Some, map};
 ghost use Rattle.gn_values.specs.Tables.{with_name, with_names};
 ghost use Rattle.gn_out_files.specs.Files.{put_of};
-ghost use Rattle.gn_load.specs.Files.{files_of};
+ghost use Rattle.gn_built.specs.Files.{files_of};
 ghost use Rattle.gn_top.specs.Files.{written_file, written_files, arguments_file, files_made, files_put};
 ghost use Rattle.gn_top.specs.Building.{request_view, build_view, faultless_view};
 
@@ -11,12 +11,13 @@ use crate::building::Build;
 use crate::faultless::Faultless;
 use crate::first::{Request, arguments_path};
 use crate::ninja::ninja_files;
+use gn_built::WrittenFiles;
 use gn_items::Written;
-use gn_load::WrittenFiles;
 use gn_out_files::{OutFile, OutFiles};
 use gn_paths::{Path, Text};
 use std::alloc::{AllocError, Global};
 use std::collections::BTreeMap;
+use std::thread::Threads;
 
 // Puts a file that was written among others, in place of one of its path.
 fn put_written(
@@ -106,14 +107,15 @@ fn append_arguments(
 }
 
 // All files of a build.
-fn files_made(
+fn files_made<R: Threads + Sync>(
+    rt: &R,
     alloc: Global,
     request: &Request<'_>,
     build: &Faultless,
 ) -> Result<Vec<OutFile>, AllocError>
     ensures { IfOk result (λ files. map put_of files.items ≡ files_made (request_view request.now) (faultless_view build.now)) }
 {
-    let mut files = ninja_files(alloc, build)?;
+    let mut files = ninja_files(rt, alloc, build)?;
     append_written(alloc, &mut files, &build.build)?;
     append_arguments(alloc, &mut files, request)?;
     Ok(files)
@@ -121,12 +123,13 @@ fn files_made(
 
 /// The files that a build puts, in the order of their paths.
 #[tactic(auto, unfolding(crate::specs::Files::files_put))]
-pub(crate) fn files_put(
+pub(crate) fn files_put<R: Threads + Sync>(
+    rt: &R,
     alloc: Global,
     request: &Request<'_>,
     build: &Faultless,
 ) -> Result<OutFiles, AllocError>
     ensures { IfOk result (λ files. files ≡ files_put (request_view request.now) (faultless_view build.now)) }
 {
-    OutFiles::in_order(alloc, files_made(alloc, request, build)?)
+    OutFiles::in_order(alloc, files_made(rt, alloc, request, build)?)
 }

@@ -14,9 +14,7 @@ mod labels;
 mod many;
 mod ninja;
 mod one;
-mod switches;
 mod texts;
-mod words;
 
 pub use host::{Ended, Host, One};
 pub use many::run_gn;

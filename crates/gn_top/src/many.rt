@@ -5,7 +5,8 @@ ghost use Rattle.gn_outside.specs.Lists.{AllDiffer, Each, EachPair};
 ghost use Rattle.gn_outside.specs.Sources.{AllTell, AllTellReads, ReadsOn, joined_reads};
 ghost use Rattle.gn_top.specs.Hosts.{IsRoot, host_texts};
 ghost use Rattle.gn_top.specs.Words.{HasNoForm, worker_count};
-ghost use Rattle.gn_top.specs.Said.{said, asked, texts};
+ghost use Rattle.gn_command_line.specs.Words.{texts};
+ghost use Rattle.gn_top.specs.Said.{said, asked};
 ghost use Rattle.gn_top.specs.Run.{EndsAs, NoFault, EndsWithUsage, CannotRead, IsCutShort, LoadsUnits};
 
 use crate::host::{Ended, Host};

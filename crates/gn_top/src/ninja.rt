@@ -21,9 +21,11 @@ use gn_labels::Label;
 use gn_out_files::OutFile;
 use gn_toolchains::Surroundings;
 use std::alloc::{AllocError, Global};
+use std::thread::Threads;
 
 // The Ninja files of a build, by its items and the targets that it generates, of which no fault is told.
-fn files_of<'a>(
+fn files_of<'a, R: Threads + Sync>(
+    rt: &R,
     alloc: Global,
     surroundings: Surroundings<'a>,
     items: &[&'a Item],
@@ -35,17 +37,29 @@ fn files_of<'a>(
     faultless_targets_can_be_resolved();
     targets_have_their_dependencies();
     let targets = targets_of(alloc, surroundings.default, items, generated)?;
-    files_of_targets(alloc, surroundings, items, targets.as_slice(), generated)
+    files_of_targets(
+        rt,
+        alloc,
+        surroundings,
+        items,
+        targets.as_slice(),
+        generated,
+    )
 }
 
 /// The Ninja files of a build whose graph has no fault: build.ninja, those of its toolchains and those of its targets.
 #[tactic(auto, unfolding(crate::specs::Files::ninja_files))]
-pub(crate) fn ninja_files(alloc: Global, build: &Faultless) -> Result<Vec<OutFile>, AllocError>
+pub(crate) fn ninja_files<R: Threads + Sync>(
+    rt: &R,
+    alloc: Global,
+    build: &Faultless,
+) -> Result<Vec<OutFile>, AllocError>
     ensures { IfOk result (λ files. map put_of files.items ≡ files_meant (faultless_view build.now)) }
 {
     let judged: &Build = &build.build;
     let items = judged.loaded.items(alloc)?;
     files_of(
+        rt,
         alloc,
         surroundings_of(judged),
         items.as_slice(),

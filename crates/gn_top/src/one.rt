@@ -5,7 +5,8 @@ ghost use Rattle.gn_outside.specs.Lists.{AllDiffer, Each, EachPair};
 ghost use Rattle.gn_outside.specs.Sources.{AllTell, AllTellReads, ReadsOn, joined_reads};
 ghost use Rattle.gn_top.specs.Hosts.{IsRoot, host_texts};
 ghost use Rattle.gn_top.specs.Words.{HasNoForm};
-ghost use Rattle.gn_top.specs.Said.{said, asked, texts};
+ghost use Rattle.gn_command_line.specs.Words.{texts};
+ghost use Rattle.gn_top.specs.Said.{said, asked};
 ghost use Rattle.gn_top.specs.Run.{EndsAs, NoFault, EndsWithUsage, CannotRead, IsCutShort, LoadsUnits};
 ghost use Rattle.gn_top.specs.Texts.{cannot_read_line};
 ghost use Rattle.gn_top.specs.Steps.{SaysUnder, TellsUnder};
@@ -64,7 +65,8 @@ fn say_failure<K: Sink>(alloc: Global, sink: &mut K, path: &Path) -> u8
     }
 }
 
-/// The whole run of a command line over one source, with one worker. It waits for nobody and always returns.
+/// The whole run of a command line over one source, with one worker. It waits for nobody and always returns. Several threads make the
+/// files of targets.
 ///
 /// `words` are those of the command line without the program's name. The files below the source root come from
 /// `source`; the text goes to `sink`. The statuses are: 0, the answer was said; 1, the line of an error in the
@@ -112,7 +114,7 @@ pub fn run_one<R: Threads + Sync, S: Source, K: Sink>(
     // The source goes on, and isn't read again after a failed read.
     ensures sources { EachPair ReadsOn (S.state source.old ∷ []) (S.state source.new ∷ []) }
 {
-    match answer(alloc, words, host, source) {
+    match answer(rt, alloc, words, host, source) {
         Ok(answered) => One {
             status: tell_under(sink, &answered.files, &answered.text, answered.status),
             units: answered.units,

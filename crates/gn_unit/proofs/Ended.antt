@@ -1,5 +1,5 @@
 -- The end of an execution of a whole file.
-use Rattle.std.proofs.Common.{◌≡◌, ◌<◌, ℕ, List, map, Result, Ok, Err, refl, sym, ap, subst, ◌∙◌, arith}
+use Rattle.std.proofs.Common.{◌≡◌, ◌<◌, ℕ, List, map, Result, Ok, Err, IfErr, Option, refl, sym, ap, subst, ◌∙◌, arith}
 use Rattle.std.specs.declared.vec.Vec.{Vec}
 use Rattle.std.specs.declared.alloc.Global.{Global}
 use Rattle.gn_paths.specs.declared.place.Place.{Place}
@@ -26,7 +26,8 @@ use Rattle.gn_executions.specs.Setups.{secondary_tree_runs, setup_begins, setup_
 use Rattle.gn_outermost.specs.declared.paused.Paused.{Paused as PausedFile}
 use Rattle.gn_outermost.specs.Rests.{behind, Pauses, Fails, HasRun}
 use Rattle.gn_definitions.specs.Imported.{ImportState}
-use Rattle.gn_unit.specs.Ends.{IsSetupOf, Executes, ended_with, load_ends, import_ends, rest_then, IsEnd}
+use Rattle.gn_unit.specs.Begun.{LeavesTree, Reads}
+use Rattle.gn_unit.specs.Ends.{IsSetupOf, Executes, ended_with, failed_with, load_ends, import_ends, rest_then, IsEnd, WhereTree}
 use Rattle.gn_unit.specs.declared.unit.EvalStop.{EvalStop}
 use Rattle.gn_unit.specs.declared.unit.EvalStop.TheVariants as stop
 use Rattle.gn_unit.specs.declared.unit.Unit.{Unit as Evaluated}
@@ -63,13 +64,21 @@ module _ {A : Type 0} (Is : Evaluated → End (Left A) → Type 0) (next : Steps
   }
   ended_executes ending.Memory asked out h goes rose same = record { unit = tt; asked = tt; need = tt; kept = tt; goes = goes; rose = tt }
 
+  -- its tree is kept where the library has stopped
+  kept_executes : (e : EvalEnd) (asked : Vec Asked Global) (tree : BlockTree) → Executes Is next before after (ended_with e asked) run → Executes Is next before after (failed_with e asked tree) run
+  kept_executes (ending.Wrong fault) asked tree h = h
+  kept_executes (ending.Spoiled path place) asked tree h = h
+  kept_executes ending.Stopped asked tree h = record { unit = tt; asked = tt; need = h.need; kept = tt; goes = h.goes; rose = h.rose }
+  kept_executes ending.Memory asked tree h = h
+
   -- the same where the outermost block has no end
   pub rest_fails : (e : EvalEnd) (asked : Vec Asked Global) (out : Effects) (rest : Answers → Run (Left (Unit {0}))) → ((a : Answers) → run a ≡ then_do (rest a) (λ _ env1 out1. next env1 out1)) → Fails before after e out rest → GoesOn before after
-      → map question_of asked.items ≡ out.asked → Executes Is next before after (ended_with e asked) run
-  rest_fails e asked out rest same fails goes all =
-      ended_executes e asked out
+      → map question_of asked.items ≡ out.asked → (tree : BlockTree) → Executes Is next before after (failed_with e asked tree) run
+  rest_fails e asked out rest same fails goes all tree =
+      kept_executes e asked tree
+      (ended_executes e asked out
       (λ a i. subst (IsFailure after.need e out) (sym (same a)) (then_failed after.need e out (rest a) (λ _ env1 out1. next env1 out1) (fails.runs a (covers_error A (Unit {0}) after.told e a i))))
-      goes fails.rose all
+      goes fails.rose all)
 
 module _ {A : Type 0} (Is : Evaluated → End (Left A) → Type 0) (next : Steps A) (before after : LibraryState) where
   -- where the outermost block has run, the execution ends as its end does
@@ -85,6 +94,7 @@ module _ {A : Type 0} (Is : Evaluated → End (Left A) → Type 0) (next : Steps
   }
   rest_ends rest env out (Err (stop.Stopped asked)) has goes is = absurd is
   rest_ends rest env out (Err (stop.Paused p)) has goes is = absurd is
+  rest_ends rest env out (Err (stop.Again tree asked)) has goes is = absurd is
   rest_ends rest env out (Err stop.Memory) has goes is = record { unit = tt; asked = tt; need = tt; kept = tt; goes = goes; rose = tt }
 
   -- where it stops in front of a statement, what is left of it is kept
@@ -126,7 +136,45 @@ module _ {A : Type 0} (Is : Evaluated → End (Left A) → Type 0) (next : Steps
     goes = goes_on_further before middle after goes on.goes;
     rose = omega (arith, goes.later, on.rose);
   }
+  executes_from middle (Err (stop.Again tree asked)) run rest goes on same = record {
+    unit = tt;
+    asked = tt;
+    need = λ a i. same a (told_included after.told a i) ∙ on.need a i;
+    kept = tt;
+    goes = goes_on_further before middle after goes on.goes;
+    rose = omega (arith, goes.later, on.rose);
+  }
   executes_from middle (Err stop.Memory) run rest goes on same = record { unit = tt; asked = tt; need = tt; kept = tt; goes = goes_on_further before middle after goes on.goes; rose = tt }
+
+-- the tree that is kept
+pub ended_tree : (e : EvalEnd) (asked : Vec Asked Global) (P : BlockTree → Type 0) → IfErr (ended_with e asked) (λ stop. WhereTree stop P)
+ended_tree (ending.Wrong fault) asked P = tt
+ended_tree (ending.Spoiled path place) asked P = tt
+ended_tree ending.Stopped asked P = tt
+ended_tree ending.Memory asked P = tt
+
+pub failed_tree : (e : EvalEnd) (asked : Vec Asked Global) (tree : BlockTree) (P : BlockTree → Type 0) → P tree → IfErr (failed_with e asked tree) (λ stop. WhereTree stop P)
+failed_tree (ending.Wrong fault) asked tree P h = tt
+failed_tree (ending.Spoiled path place) asked tree P h = tt
+failed_tree ending.Stopped asked tree P h = h
+failed_tree ending.Memory asked tree P h = tt
+
+-- an end of a file keeps none
+pub end_tree : {A : Type 0} (Is : Evaluated → End (Left A) → Type 0) (result : Result Evaluated EvalStop) (run : Run (Left A)) (P : BlockTree → Type 0) → IsEnd Is result run → IfErr result (λ stop. WhereTree stop P)
+end_tree Is (Ok u) run P is = tt
+end_tree Is (Err (stop.Stopped asked)) run P is = tt
+end_tree Is (Err (stop.Paused p)) run P is = absurd is
+end_tree Is (Err (stop.Again tree asked)) run P is = absurd is
+end_tree Is (Err stop.Memory) run P is = tt
+
+-- it is the one that the file was read as
+pub tree_read : (result : Result Evaluated EvalStop) (tree : BlockTree) (told : Option Answers) (run : Answers → Run (Left BlockTree)) → IsShallow tree → ((a : Answers) → Includes told a → LeavesTree tree (run a))
+    → IfErr result (λ stop. WhereTree stop (λ t. t ≡ tree)) → IfErr result (λ stop. WhereTree stop (Reads told run))
+tree_read (Ok u) tree told run shallow reads h = tt
+tree_read (Err (stop.Stopped asked)) tree told run shallow reads h = tt
+tree_read (Err (stop.Paused p)) tree told run shallow reads h = subst (Reads told run) (sym h) (shallow, reads)
+tree_read (Err (stop.Again t asked)) tree told run shallow reads h = subst (Reads told run) (sym h) (shallow, reads)
+tree_read (Err stop.Memory) tree told run shallow reads h = tt
 
 -- the end of the build configuration that has left nothing
 pub setup_fails : (need : Need) (e : EvalEnd) (asked : Vec Asked Global) (out : Effects) (run : Run (Left ImportState)) → (e ≡ ending.Stopped → ⊥) → IsFailure need e out run → map question_of asked.items ≡ out.asked

@@ -11,6 +11,7 @@ use Rattle.gn_items.specs.Questions.{question_of}
 use Rattle.gn_runs.specs.Runs.{Question, Answers, End, ended, wrong, spoiled, needs, Run}
 use Rattle.gn_environment.specs.Environment.{Environment, reported_here}
 use Rattle.gn_environment.specs.Imports.{import_left}
+use Rattle.gn_tree.specs.Tree.{BlockTree}
 use Rattle.gn_tree.specs.Depth.{IsShallow}
 use Rattle.gn_meaning.specs.Calls.{checked_end}
 use Rattle.gn_meaning.specs.Steps.{Left, Steps, ends, then_do}
@@ -25,10 +26,11 @@ use Rattle.gn_executions.specs.Setups.{setup_execution}
 use Rattle.gn_unit.specs.declared.unit.Unit.{Unit as Evaluated}
 use Rattle.gn_unit.specs.declared.unit.Unit.TheVariants.{Setup, Load, Import, Wrong, Spoiled}
 use Rattle.gn_unit.specs.declared.unit.EvalStop.{EvalStop}
-use Rattle.gn_unit.specs.declared.unit.EvalStop.TheVariants.{Stopped, Paused, Memory}
+use Rattle.gn_unit.specs.declared.unit.EvalStop.TheVariants.{Stopped, Paused, Again, Memory}
 use Rattle.gn_outermost.specs.declared.paused.Paused.{Paused as PausedFile}
 use Rattle.gn_outermost.specs.Rests.{rest_runs}
 use Rattle.gn_executions.specs.Base.{BaseState}
+use Rattle.gn_unit.specs.Begun.{LeavesTree, load_reads, setup_reads, import_reads}
 
 -- an execution has ended with this value and these effects, whatever its environment is then
 abbrev pub EndsWith : {A : Type 0} → A → Effects → End (Left A) → Type 0
@@ -71,13 +73,22 @@ IsNeeded need asked run = run ≡ record { end = needs need.question need.place;
 abbrev pub WhereStopped : EvalStop → (List Question → Type 0) → Type 0
 WhereStopped (Stopped asked) P = P (map question_of asked.items)
 WhereStopped (Paused p) P = P p.out.asked
+WhereStopped (Again tree asked) P = P (map question_of asked.items)
 WhereStopped Memory P = Unit {0}
 
 -- where it has stopped in front of a statement, a fact of what is kept
 abbrev pub WherePaused : EvalStop → (PausedFile → Type 0) → Type 0
 WherePaused (Stopped asked) P = Unit {0}
 WherePaused (Paused p) P = P p
+WherePaused (Again tree asked) P = Unit {0}
 WherePaused Memory P = Unit {0}
+
+-- where it has stopped behind the reading of the file, a fact of its tree, which is kept
+abbrev pub WhereTree : EvalStop → (BlockTree → Type 0) → Type 0
+WhereTree (Stopped asked) P = Unit {0}
+WhereTree (Paused p) P = P p.tree
+WhereTree (Again tree asked) P = P tree
+WhereTree Memory P = Unit {0}
 
 -- what is done behind the outermost block of a build file, and behind that of a file that is imported
 abbrev pub load_ends : Steps (Unit {0})
@@ -103,6 +114,7 @@ abbrev pub IsEnd : {A : Type 0} → (Evaluated → End (Left A) → Type 0) → 
 IsEnd Is (Ok unit) run = Is unit run.end × (run.asked ≡ asked_of unit)
 IsEnd Is (Err (Stopped asked)) run = ⊥
 IsEnd Is (Err (Paused p)) run = ⊥
+IsEnd Is (Err (Again tree asked)) run = ⊥
 IsEnd Is (Err Memory) run = Unit {0}
 
 -- what is kept of an execution, behind whose outermost block this is done, is its rest over all answers that include those told
@@ -126,6 +138,13 @@ ended_with (ending.Wrong fault) asked = Ok (Wrong fault asked)
 ended_with (ending.Spoiled path place) asked = Ok (Spoiled path place asked)
 ended_with ending.Stopped asked = Err (Stopped asked)
 ended_with ending.Memory asked = Err Memory
+
+-- the same of one whose file was read as this tree, which is kept where the library has stopped
+abbrev pub failed_with : EvalEnd → Vec Asked Global → BlockTree → Result Evaluated EvalStop
+failed_with (ending.Wrong fault) asked tree = Ok (Wrong fault asked)
+failed_with (ending.Spoiled path place) asked tree = Ok (Spoiled path place asked)
+failed_with ending.Stopped asked tree = Err (Again tree asked)
+failed_with ending.Memory asked tree = Err Memory
 
 -- the same of what a key names over a base
 abbrev pub IsUnitOf : BaseState → Key → Evaluated → Answers → Type 0
@@ -164,3 +183,14 @@ pub record IsKept (base : BaseState) (key : Key) (told : Option Answers) (p : Pa
 pub record KeepsOn (key : Key) (told : Option Answers) (p later : PausedFile) : Type 0 where
   pub shallow : IsShallow later.tree
   pub rest : (base : BaseState) (a : Answers) → Includes told a → IsRestOf base key p a → IsRestOf base key later a
+
+-- over these answers the file of what a key names is read as this tree
+abbrev pub IsTreeOf : BaseState → Key → BlockTree → Answers → Type 0
+IsTreeOf base (ImportKey when toolchain path) tree answers = LeavesTree tree (import_reads base when toolchain path answers)
+IsTreeOf base (SetupKey toolchain) tree answers = LeavesTree tree (setup_reads base toolchain answers)
+IsTreeOf base (LoadKey directory toolchain) tree answers = LeavesTree tree (load_reads base directory toolchain answers)
+IsTreeOf base _ tree answers = ⊥
+
+-- it is over all answers that include those told
+abbrev pub IsRead : BaseState → Key → Option Answers → BlockTree → Type 0
+IsRead base key told tree = IsShallow tree × ((a : Answers) → Includes told a → IsTreeOf base key tree a)

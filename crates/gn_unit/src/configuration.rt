@@ -1,14 +1,14 @@
 // Where the execution of the build configuration begins.
 
-ghost use Rattle.std.specs.Prelude.{◌≡◌, IfOk};
+ghost use Rattle.std.specs.Prelude.{◌≡◌, IfOk, IfSome};
 ghost use Rattle.gn_tree.specs.Depth.{IsShallow};
 ghost use Rattle.gn_executions.specs.Setups.{secondary_tree_runs, setup_begins};
-ghost use Rattle.gn_unit.specs.Begun.{Begins};
+ghost use Rattle.gn_unit.specs.Begun.{Begins, Reads};
 
-use crate::base::Base;
 use crate::execution::{environment, found_file};
 use gn_env::Env;
 use gn_eval::{EvalEnd, Library};
+use gn_evaluation_base::Base;
 use gn_faults::FileKind;
 use gn_items::{Outcome, setup_name};
 use gn_paths::Text;
@@ -31,19 +31,21 @@ fn setup_environment(alloc: Global, base: &Base, toolchain: &Text) -> Result<Env
 }
 
 /// Where the execution of the build configuration begins under a toolchain, over a base: its content is asked for, below the secondary
-/// source tree too where it isn't at its own path, and parsed; it is to run in one scope, which isn't checked. The errors are as those of
-/// `found_file`.
+/// source tree too where it isn't at its own path, and parsed, unless its tree is known before; it is to run in one scope, which isn't
+/// checked. The errors are as those of `found_file`.
 pub(crate) fn begin_setup<L: Library>(
     alloc: Global,
     base: &Base,
     toolchain: &Text,
+    known: Option<Parsed>,
     out: &mut Outcome,
     library: &mut L,
 ) -> Result<(Parsed, Env), EvalEnd>
+    requires { IfSome known (Reads (L.state library.old).told (λ a. secondary_tree_runs base.now.secondary a (setup_begins base.now toolchain.now) out.old)) }
     ensures begins { Begins (L.state library.old) (L.state library.new) result out.new (λ a. secondary_tree_runs base.now.secondary a
         (setup_begins base.now toolchain.now) out.old) }
     ensures shallow { IfOk result (λ begun. IsShallow begun.0) }
 {
     let env = setup_environment(alloc, base, toolchain)?;
-    found_file(alloc, base, base.configuration(), env, out, library)
+    found_file(alloc, base, base.configuration(), env, known, out, library)
 }

@@ -1,9 +1,9 @@
-// The end of the execution of a whole file, whose outermost block runs from a statement on.
+// The end of the execution of a whole file, whose outermost block runs from a statement on. Its tree is kept where it has stopped.
 
-ghost use Rattle.std.specs.Prelude.{◌≡◌};
+ghost use Rattle.std.specs.Prelude.{◌≡◌, IfErr};
 ghost use Rattle.gn_tree.specs.Depth.{IsShallow};
 ghost use Rattle.gn_meaning.specs.Meaning.{configuration_ends};
-ghost use Rattle.gn_unit.specs.Ends.{IsSetupOf, IsLoadOf, IsImportOf, Executes, ended_with, load_ends, import_ends, rest_then, IsEnd};
+ghost use Rattle.gn_unit.specs.Ends.{IsSetupOf, IsLoadOf, IsImportOf, Executes, ended_with, failed_with, load_ends, import_ends, rest_then, IsEnd, WhereTree};
 
 use crate::unit::{EvalStop, Unit};
 use gn_env::Env;
@@ -11,6 +11,7 @@ use gn_eval::{Definer, EvalEnd, Library, end_configuration, end_file};
 use gn_items::{Outcome, Question};
 use gn_outermost::{Halted, Paused, run_on};
 use gn_steps::StepEnd;
+use gn_syntax::Parsed;
 use std::alloc::Global;
 
 /// The end of an execution that has left nothing, with the questions asked.
@@ -21,6 +22,18 @@ pub(crate) fn ended(end: EvalEnd, asked: Vec<Question>) -> Result<Unit, EvalStop
         EvalEnd::Wrong(fault) => Ok(Unit::Wrong(fault, asked)),
         EvalEnd::Spoiled(path, place) => Ok(Unit::Spoiled(path, place, asked)),
         EvalEnd::Stopped => Err(EvalStop::Stopped(asked)),
+        EvalEnd::Memory => Err(EvalStop::Memory),
+    }
+}
+
+// The same of one whose file was read as this tree, which is kept where the library has stopped.
+fn failed(end: EvalEnd, asked: Vec<Question>, tree: Parsed) -> Result<Unit, EvalStop>
+    ensures { result ≡ failed_with end asked tree }
+{
+    match end {
+        EvalEnd::Wrong(fault) => Ok(Unit::Wrong(fault, asked)),
+        EvalEnd::Spoiled(path, place) => Ok(Unit::Spoiled(path, place, asked)),
+        EvalEnd::Stopped => Err(EvalStop::Again(tree, asked)),
         EvalEnd::Memory => Err(EvalStop::Memory),
     }
 }
@@ -65,12 +78,13 @@ pub(crate) fn load_on<L: Library + Definer>(
     library: &mut L,
 ) -> Result<Unit, EvalStop>
     requires shallow { IsShallow paused.tree }
-    ensures { Executes IsLoadOf load_ends (L.state library.old) (L.state library.new) result (rest_then load_ends paused) }
+    ensures unit { Executes IsLoadOf load_ends (L.state library.old) (L.state library.new) result (rest_then load_ends paused) }
+    ensures tree { IfErr result (λ stop. WhereTree stop (λ tree. tree ≡ paused.tree)) }
 {
     match run_on(alloc, paused, library) {
         Halted::Ended(env, out) => end_load(alloc, env, out),
         Halted::Paused(paused) => Err(EvalStop::Paused(paused)),
-        Halted::Failed(end, out) => ended(end, out.into_asked()),
+        Halted::Failed(end, out, tree) => failed(end, out.into_asked(), tree),
     }
 }
 
@@ -81,12 +95,13 @@ pub(crate) fn import_on<L: Library + Definer>(
     library: &mut L,
 ) -> Result<Unit, EvalStop>
     requires shallow { IsShallow paused.tree }
-    ensures { Executes IsImportOf import_ends (L.state library.old) (L.state library.new) result (rest_then import_ends paused) }
+    ensures unit { Executes IsImportOf import_ends (L.state library.old) (L.state library.new) result (rest_then import_ends paused) }
+    ensures tree { IfErr result (λ stop. WhereTree stop (λ tree. tree ≡ paused.tree)) }
 {
     match run_on(alloc, paused, library) {
         Halted::Ended(env, out) => end_import(alloc, env, out),
         Halted::Paused(paused) => Err(EvalStop::Paused(paused)),
-        Halted::Failed(end, out) => ended(end, out.into_asked()),
+        Halted::Failed(end, out, tree) => failed(end, out.into_asked(), tree),
     }
 }
 
@@ -97,11 +112,12 @@ pub(crate) fn setup_on<L: Library + Definer>(
     library: &mut L,
 ) -> Result<Unit, EvalStop>
     requires shallow { IsShallow paused.tree }
-    ensures { Executes IsSetupOf configuration_ends (L.state library.old) (L.state library.new) result (rest_then configuration_ends paused) }
+    ensures unit { Executes IsSetupOf configuration_ends (L.state library.old) (L.state library.new) result (rest_then configuration_ends paused) }
+    ensures tree { IfErr result (λ stop. WhereTree stop (λ tree. tree ≡ paused.tree)) }
 {
     match run_on(alloc, paused, library) {
         Halted::Ended(env, out) => end_setup(alloc, env, out),
         Halted::Paused(paused) => Err(EvalStop::Paused(paused)),
-        Halted::Failed(end, out) => ended(end, out.into_asked()),
+        Halted::Failed(end, out, tree) => failed(end, out.into_asked(), tree),
     }
 }

@@ -1,6 +1,6 @@
-// The tree of a file that is looked for at its path, and where nothing is there below the secondary source tree.
+// The content of a file that is looked for at its path, and where nothing is there below the secondary source tree; and its tree.
 
-ghost use Rattle.std.specs.Prelude.{◌≡◌, ◌≢◌, ◌≤◌, Err, IfOk, length};
+ghost use Rattle.std.specs.Prelude.{◌≡◌, ◌≢◌, ◌≤◌, Err, IfOk, IfSome, length};
 ghost use Rattle.gn_value_model.specs.Limits.{max_bytes};
 ghost use Rattle.gn_tree.specs.Depth.{IsShallow};
 ghost use Rattle.gn_items.specs.Effects.{Effects};
@@ -10,23 +10,23 @@ ghost use Rattle.gn_eval.specs.Library.{Need, IsWithinLimit};
 ghost use Rattle.gn_eval.specs.Ends.{IsRun, Evaluates};
 ghost use Rattle.gn_syntax.specs.Reading.{reading};
 ghost use Rattle.gn_executions.specs.Units.{reading_runs, content_runs};
-ghost use Rattle.gn_executions.specs.Setups.{path_below, in_file, other_content_runs, content_or_other, content_in, secondary_tree_runs};
+ghost use Rattle.gn_executions.specs.Setups.{path_below};
+ghost use Rattle.gn_unit.specs.Begun.{BeginsAs, LeavesTree};
 ghost use Rattle.gn_unit.specs.Found.{content_view};
-ghost use Rattle.gn_unit.specs.Configuration.{own_content_runs};
+ghost use Rattle.gn_unit.specs.Configuration.{own_content_runs, placed, found_below, found_in, found_runs};
 
-use crate::base::Base;
 use crate::execution::own_place;
-use crate::faults::{syntax_fault_in, whole_file_fault_in};
 use gn_env::Env;
 use gn_eval::{EvalEnd, Found, LibStop, Library};
+use gn_evaluation_base::{Base, syntax_fault_in, whole_file_fault_in};
 use gn_faults::Code;
 use gn_items::Outcome;
 use gn_paths::{Path, Text, path_meant};
 use gn_syntax::{Parsed, parse};
 use std::alloc::{AllocError, Global};
 
-// What a library tells of the content of the file at a path. What is asked is noted.
-fn content_at<L: Library>(
+/// What a library tells of the content of the file at a path. What is asked is noted.
+pub(crate) fn content_at<L: Library>(
     alloc: Global,
     path: &Path,
     out: &mut Outcome,
@@ -86,89 +86,121 @@ fn path_below(alloc: Global, tree: &Path, path: &Path) -> Result<Path, AllocErro
     }
 }
 
-// The same of the file at another path, whose places are there from then on.
-fn tree_there(alloc: Global, path: &Path, env: &mut Env, found: Found) -> Result<Parsed, EvalEnd>
-    requires { IsWithinLimit found }
-    ensures tree { (need : Need) (out : Effects) → IsRun (λ t. t) need result env.new out (content_runs (content_view found) (in_file path.now env.old) out) }
+// The tree of the file that is to run in an environment, of whose content this is told: the one that is known before, or else the one
+// that it is read as.
+fn known_or_read(
+    alloc: Global,
+    env: &Env,
+    found: Found,
+    known: Option<Parsed>,
+) -> Result<Parsed, EvalEnd>
+    requires within { IsWithinLimit found }
+    requires known { IfSome known IsShallow }
+    ensures tree { (need : Need) (out : Effects) → IfSome known (λ tree. LeavesTree tree (content_runs (content_view found) env.now out)) →
+        IsRun (λ t. t) need result env.now out (content_runs (content_view found) env.now out) }
     ensures reads { result ≢ Err EvalEnd.Stopped }
     ensures shallow { IfOk result (λ tree. IsShallow tree) }
 {
-    env.set_file(path.as_text().copy(alloc)?);
-    tree_in(alloc, env, found)
-}
-
-// What is done with what a library tells of the content of the file at another path: where nothing is there, the fault shows the
-// first one.
-fn other_tree(alloc: Global, path: &Path, env: &mut Env, found: Found) -> Result<Parsed, EvalEnd>
-    requires { IsWithinLimit found }
-    ensures tree { (need : Need) (out : Effects) → IsRun (λ t. t) need result env.new out (other_content_runs path.now (content_view found) env.old out) }
-    ensures reads { result ≢ Err EvalEnd.Stopped }
-    ensures shallow { IfOk result (λ tree. IsShallow tree) }
-{
-    match found {
-        Found::Absent => tree_in(alloc, env, Found::Absent),
-        Found::TooBig => tree_there(alloc, path, env, Found::TooBig),
-        Found::Bytes(bytes) => tree_there(alloc, path, env, Found::Bytes(bytes)),
+    match known {
+        Some(tree) => Ok(tree),
+        None => tree_in(alloc, env, found),
     }
 }
 
-// The tree of a file, where there is none at its own path: it is looked for at the same path below another source tree.
-fn tree_below<L: Library>(
+/// The tree of that file beside its environment: the one that is known before, or else the one that it is read as.
+pub(crate) fn begun_in(
+    alloc: Global,
+    env: Env,
+    found: Found,
+    known: Option<Parsed>,
+) -> Result<(Parsed, Env), EvalEnd>
+    requires within { IsWithinLimit found }
+    requires known { IfSome known IsShallow }
+    ensures begins { (need : Need) (out : Effects) → IfSome known (λ tree. LeavesTree tree (content_runs (content_view found) env out)) →
+        BeginsAs need result out (content_runs (content_view found) env out) }
+    ensures reads { result ≢ Err EvalEnd.Stopped }
+    ensures shallow { IfOk result (λ begun. IsShallow begun.0) }
+{
+    match known_or_read(alloc, &env, found, known) {
+        Ok(tree) => Ok((tree, env)),
+        Err(end) => {
+            drop(env);
+            Err(end)
+        }
+    }
+}
+
+// The places of the file at another path are there from then on, where something is there.
+fn place(env: &mut Env, file: Text, found: &Found)
+    ensures { env.new ≡ placed file (content_view found.now) env.old }
+{
+    match found {
+        Found::Absent => {}
+        Found::TooBig => env.set_file(file),
+        Found::Bytes(_) => env.set_file(file),
+    }
+}
+
+// What there is at the path of a file below another source tree.
+fn content_below<L: Library>(
     alloc: Global,
     tree: &Path,
     own: &Path,
     env: &mut Env,
     out: &mut Outcome,
     library: &mut L,
-) -> Result<Parsed, EvalEnd>
-    ensures evaluates { Evaluates (λ t. t) (L.state library.old) (L.state library.new) result env.new out.new (λ a. content_or_other
-        (path_below tree.now own.now) a is_absent env.old out.old) }
-    ensures shallow { IfOk result (λ tree. IsShallow tree) }
+) -> Result<Found, EvalEnd>
+    ensures evaluates { Evaluates content_view (L.state library.old) (L.state library.new) result env.new out.new (λ a. found_below (path_below tree.now own.now) a env.old out.old) }
+    ensures within { IfOk result (λ found. IsWithinLimit found) }
 {
     let path = path_below(alloc, tree, own)?;
-    let found = content_at(alloc, &path, out, library)?;
-    other_tree(alloc, &path, env, found)
-}
-
-// The same below the secondary source tree, if there is one.
-fn absent_tree<L: Library>(
-    alloc: Global,
-    base: &Base,
-    path: &Path,
-    env: &mut Env,
-    out: &mut Outcome,
-    library: &mut L,
-) -> Result<Parsed, EvalEnd>
-    requires { env.old.setting.file ≡ path.now }
-    ensures evaluates { Evaluates (λ t. t) (L.state library.old) (L.state library.new) result env.new out.new (λ a. content_in base.now.secondary a is_absent env.old out.old) }
-    ensures shallow { IfOk result (λ tree. IsShallow tree) }
-{
-    match base.secondary() {
-        Some(tree) => tree_below(alloc, tree, path, env, out, library),
-        None => tree_in(alloc, env, Found::Absent),
+    let file = path.as_text().copy(alloc)?;
+    match content_at(alloc, &path, out, library) {
+        Ok(found) => {
+            place(env, file, &found);
+            Ok(found)
+        }
+        Err(end) => Err(end),
     }
 }
 
-/// The tree of the file at a path, in whose environment it is to run, as far as the library has the content at its path, and at
-/// the same path below the secondary source tree where there is no file at its own. The places of the file that was found are there
-/// from then on.
-#[tactic(auto, unfolding(gn_executions::specs::Setups::secondary_tree_runs))]
-pub(crate) fn found_tree<L: Library>(
+// The same below the secondary source tree, if there is one.
+fn absent_content<L: Library>(
     alloc: Global,
     base: &Base,
     path: &Path,
     env: &mut Env,
     out: &mut Outcome,
     library: &mut L,
-) -> Result<Parsed, EvalEnd>
+) -> Result<Found, EvalEnd>
     requires { env.old.setting.file ≡ path.now }
-    ensures evaluates { Evaluates (λ t. t) (L.state library.old) (L.state library.new) result env.new out.new (λ a. secondary_tree_runs base.now.secondary a env.old out.old) }
-    ensures shallow { IfOk result (λ tree. IsShallow tree) }
+    ensures evaluates { Evaluates content_view (L.state library.old) (L.state library.new) result env.new out.new (λ a. found_in base.now.secondary a is_absent env.old out.old) }
+    ensures within { IfOk result (λ found. IsWithinLimit found) }
 {
-    let found = content_at(alloc, path, out, library)?;
-    match found {
-        Found::Absent => absent_tree(alloc, base, path, env, out, library),
-        Found::TooBig => tree_in(alloc, env, Found::TooBig),
-        Found::Bytes(bytes) => tree_in(alloc, env, Found::Bytes(bytes)),
+    match base.secondary() {
+        Some(tree) => content_below(alloc, tree, path, env, out, library),
+        None => Ok(Found::Absent),
+    }
+}
+
+/// What there is at the path of the file that is to run in an environment, as far as the library tells it, and where nothing is there,
+/// at the same path below the secondary source tree. The places of the file that was found are there from then on.
+pub(crate) fn found_content<L: Library>(
+    alloc: Global,
+    base: &Base,
+    path: &Path,
+    env: &mut Env,
+    out: &mut Outcome,
+    library: &mut L,
+) -> Result<Found, EvalEnd>
+    requires { env.old.setting.file ≡ path.now }
+    ensures evaluates { Evaluates content_view (L.state library.old) (L.state library.new) result env.new out.new (λ a. found_runs base.now.secondary a env.old out.old) }
+    ensures within { IfOk result (λ found. IsWithinLimit found) }
+{
+    match content_at(alloc, path, out, library) {
+        Ok(Found::Absent) => absent_content(alloc, base, path, env, out, library),
+        Ok(Found::TooBig) => Ok(Found::TooBig),
+        Ok(Found::Bytes(bytes)) => Ok(Found::Bytes(bytes)),
+        Err(end) => Err(end),
     }
 }

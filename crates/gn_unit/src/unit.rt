@@ -5,6 +5,7 @@ use gn_faults::Fault;
 use gn_items::{Outcome, Question};
 use gn_outermost::Paused;
 use gn_paths::{Path, Place};
+use gn_syntax::Parsed;
 
 /// What the execution of a whole file leaves, or why it leaves nothing.
 #[derive(Drop)]
@@ -26,11 +27,14 @@ pub enum Unit {
 /// Why an evaluation has no end yet.
 #[derive(Drop)]
 pub enum EvalStop {
-    /// The library has stopped: it lacks the answer that it has noted; and the questions asked before, in order.
+    /// The library has stopped before the file is read: it lacks the answer that it has noted; and the questions asked before, in order.
     Stopped(Vec<Question>),
     /// The same in front of an import of the outermost block whose path is written out. What is kept of the execution has the questions
     /// asked before, and `go_on` goes on there.
     Paused(Paused),
+    /// The same elsewhere behind the reading of the file: its tree, and the questions asked before, in order. `evaluate_again` begins anew
+    /// with that tree.
+    Again(Parsed, Vec<Question>),
     /// Want of memory.
     Memory,
 }

@@ -9,7 +9,7 @@ use Rattle.gn_files.proofs.Agreeing.{project_files}
 use Rattle.gn_files.proofs.build.ninja_files.Goals as goal
 
 pub returns : goal.returns
-returns c =
+returns g c =
     let s = surroundings c.args.surroundings in
     let items = lent c.args.items.now in
     let ts = c.args.targets.now in

@@ -1,4 +1,4 @@
-use Rattle.gn_load.specs.Answers.{meaning_of}
+use Rattle.gn_answers.specs.Answers.{meaning_of}
 use Rattle.gn_load.proofs.TakeLemmas.{filed_as, claimed_by}
 use Rattle.gn_load.proofs.driver.file.Goals as goal
 

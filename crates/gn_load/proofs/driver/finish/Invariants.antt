@@ -3,7 +3,7 @@ use Rattle.gn_outside.specs.States.{SourceState}
 use Rattle.gn_builds.specs.Driving.{with_claim, left_to_do}
 use Rattle.gn_book.specs.Logs.{state_of}
 use Rattle.gn_load.specs.Current.{layer_now, base_now}
-use Rattle.gn_load.specs.Kept.{AreKept}
+use Rattle.gn_perform.specs.Kept.{AreKept}
 use Rattle.gn_load.specs.Turns.{Goes, room_of, IsTurned, IsNextOf, MayGoOn}
 use Rattle.gn_load.proofs.driver.finish.Given as goal
 

@@ -4,7 +4,7 @@ use Rattle.gn_closure.specs.Reach.{Setup, Load}
 use Rattle.gn_core.specs.Keys.{Read, Unit_of, Resolve}
 use Rattle.gn_book.specs.Keys.{key_of, layer_at}
 use Rattle.gn_book.specs.Logs.{state_of}
-use Rattle.gn_load.specs.Kept.{asked_so_far, asked_for}
+use Rattle.gn_perform.specs.Kept.{asked_so_far, asked_for}
 use Rattle.gn_load.proofs.TurnLemmas.{lifted_turn, lifted_ok}
 use Rattle.gn_load.proofs.DoneLemmas.{needed_askable}
 use Rattle.gn_load.proofs.driver.need.Goals as goal

@@ -7,7 +7,7 @@ use Rattle.gn_core.specs.Keys.{Key, Import}
 use Rattle.gn_book.specs.Keys.{key_of}
 use Rattle.gn_book.specs.Graphs.{is_unit}
 use Rattle.gn_book.specs.Logs.{state_of}
-use Rattle.gn_load.specs.Kept.{asked_so_far, asked_for}
+use Rattle.gn_perform.specs.Kept.{asked_so_far, asked_for}
 use Rattle.gn_load.specs.Turns.{IsNeeded, TakesAs}
 use Rattle.gn_load.specs.declared.driver.Driver.{Driver}
 use Rattle.gn_load.proofs.TakeLemmas.{closed_claim}

@@ -1,4 +1,4 @@
-use Rattle.gn_load.specs.Answers.{meaning_of}
+use Rattle.gn_answers.specs.Answers.{meaning_of}
 use Rattle.gn_load.proofs.DoneLemmas.{reads_as, reads_lost}
 use Rattle.gn_load.proofs.driver.read_done.Goals as goal
 

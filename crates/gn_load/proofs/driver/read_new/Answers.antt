@@ -1,7 +1,7 @@
 use Rattle.std.proofs.Common.{subst, sym}
 use Rattle.gn_book.specs.Logs.{state_of}
-use Rattle.gn_load.specs.Performing.{HasWork}
-use Rattle.gn_load.specs.declared.work.Performed.TheVariants.{Needs}
+use Rattle.gn_perform.specs.Performing.{HasWork}
+use Rattle.gn_perform.specs.declared.work.Performed.TheVariants.{Needs}
 use Rattle.gn_load.proofs.DoneLemmas.{read_answered, read_failed, read_lost, reads_need_none}
 use Rattle.gn_load.proofs.driver.read_new.Goals as goal
 

@@ -2,9 +2,9 @@ use Rattle.std.proofs.Common.{inl, ◌∷◌, refl}
 use Rattle.std.proofs.lemmas.Result.{on_ok_weaker}
 use Rattle.gn_book.specs.Keys.{key_of}
 use Rattle.gn_book.specs.Logs.{state_of}
-use Rattle.gn_load.specs.Answers.{meaning_of}
+use Rattle.gn_answers.specs.Answers.{meaning_of}
 use Rattle.gn_load.specs.Current.{base_now}
-use Rattle.gn_load.specs.Kept.{asked_so_far, asked_for}
+use Rattle.gn_perform.specs.Kept.{asked_so_far, asked_for}
 use Rattle.gn_load.proofs.KeptLemmas.{on_ok}
 use Rattle.gn_load.proofs.CurrentLemmas.{base_for_key}
 use Rattle.gn_load.proofs.TurnLemmas.{goes_still, goes_memory, settled_turn, turn_lacks}

@@ -1,9 +1,8 @@
 use Rattle.gn_book.specs.Keys.{key_of}
 use Rattle.gn_book.specs.Logs.{state_of}
 use Rattle.gn_load.specs.Current.{base_now}
-use Rattle.gn_load.proofs.DoneLemmas.{has_work}
+use Rattle.gn_load.proofs.DoneLemmas.{has_work, lost_work}
 use Rattle.gn_load.proofs.KeptLemmas.{on_ok}
-use Rattle.gn_load.proofs.Performs.{lost_work}
 use Rattle.gn_load.proofs.driver.work.Goals as goal
 
 pub perform-requires-clause-work : goal.perform-requires-clause-work

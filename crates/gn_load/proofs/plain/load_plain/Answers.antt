@@ -1,7 +1,7 @@
 use Rattle.std.proofs.Common.{sym, subst}
 use Rattle.gn_load.specs.declared.plain.LoadEnd.{LoadEnd}
 use Rattle.gn_load.specs.Turns.{known_paths}
-use Rattle.gn_load.specs.Setups.{given_base}
+use Rattle.gn_bases.specs.Setups.{given_base}
 use Rattle.gn_load.specs.Plain.{IsLoadedAs}
 use Rattle.gn_load.proofs.EndLemmas.{load_ends}
 use Rattle.gn_load.proofs.plain.load_plain.Goals as goal

@@ -2,7 +2,7 @@ use Rattle.std.proofs.Common.{ℕ, List, sym, subst}
 use Rattle.gn_outside.specs.Lists.{AllDiffer}
 use Rattle.gn_executions.specs.Base.{BaseState}
 use Rattle.gn_load.specs.Turns.{known_paths}
-use Rattle.gn_load.specs.Setups.{given_base}
+use Rattle.gn_bases.specs.Setups.{given_base}
 use Rattle.gn_load.specs.Plain.{IsLoad}
 use Rattle.gn_load.proofs.KnownLemmas.{sorted_differ}
 use Rattle.gn_load.proofs.EndLemmas.{nothing_loaded, load_lost}

@@ -5,7 +5,7 @@ use Rattle.gn_labelled.specs.Index.{lent}
 use Rattle.gn_toolchains.specs.Frames.{surroundings}
 use Rattle.gn_resolve.specs.Steps.{surroundings_of}
 use Rattle.gn_resolve.specs.Whole.{AreResolved}
-use Rattle.gn_resolve.proofs.Framed.{fit_over, can_over, resolved_over, nothing_held}
+use Rattle.gn_resolve.proofs.Framed.{fit_over, can_over, resolved_over}
 use Rattle.gn_resolve.proofs.PassLemmas.{fit_at, can_at}
 use Rattle.gn_resolve.proofs.passes.resolve_all.Goals as goal
 
@@ -17,7 +17,7 @@ resolved_in-requires c =
     let ts = c.args.targets.now in
     record {
       fit = fit_at frames s.default s.default items c.in_ok-index.index refl c.in_ok-index.ensures (fit_over s items ts frames c.requires.over);
-      held = nothing_held (surroundings_of frames) c.in_ok-index.index c.new.result c.new.ensures;
+      held = c.new.ensures.held (surroundings_of frames) c.in_ok-index.index;
       can = can_at frames items c.in_ok-index.index ts c.in_ok-index.ensures (can_over s items ts frames c.requires.over c.requires.closed c.requires.ends);
     }
 

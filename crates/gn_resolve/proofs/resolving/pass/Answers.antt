@@ -12,8 +12,8 @@ loop-target-init c = record {
   default = refl;
 }
 
-pub resolve-requires : goal.resolve-requires
-resolve-requires c = record {
+pub try_resolve-requires : goal.try_resolve-requires
+try_resolve-requires c = record {
   fit = fit_at c.args.frames.now c.args.graph.now.default.now c.loop-target.graph.default.now c.args.graph.now.items c.loop-target.graph.items
       (ap (λ (b : Bor (List ℕ)). b.now) c.loop-target.invariant.default) c.loop-target.invariant.items c.requires.fit;
   held = held_at (surroundings_of c.args.frames.now) c.args.graph.now.items c.loop-target.graph.items c.loop-target.graph.records c.loop-target.invariant.items c.loop-target.invariant.step.held;
@@ -23,10 +23,10 @@ pub loop-target-preserved : goal.loop-target-preserved
 loop-target-preserved c = record {
   step =
       then_next c.args.frames.now c.args.graph.now.items c.args.targets.now c.loop-target.target-index c.target-item.result
-      c.args.graph.now.records c.loop-target.graph.records c.resolve.new.graph.records (omega arith) c.target-item.is c.loop-target.invariant.step
-      (step_at c.args.frames.now c.args.graph.now.items c.loop-target.graph.items _ c.loop-target.graph.records c.resolve.new.graph.records c.loop-target.invariant.items c.in_ok-resolve.ensures.step);
-  items = c.in_ok-resolve.ensures.same.0 ∙ c.loop-target.invariant.items;
-  default = c.in_ok-resolve.ensures.same.1 ∙ c.loop-target.invariant.default;
+      c.args.graph.now.records c.loop-target.graph.records c.try_resolve.new.graph.records (omega arith) c.target-item.is c.loop-target.invariant.step
+      (step_at c.args.frames.now c.args.graph.now.items c.loop-target.graph.items _ c.loop-target.graph.records c.try_resolve.new.graph.records c.loop-target.invariant.items c.in_ok-try_resolve.ensures.step);
+  items = c.in_ok-try_resolve.ensures.same.0 ∙ c.loop-target.invariant.items;
+  default = c.in_ok-try_resolve.ensures.same.1 ∙ c.loop-target.invariant.default;
 }
 
 pub returns : goal.returns

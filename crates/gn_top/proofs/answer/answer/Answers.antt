@@ -1,13 +1,13 @@
 use Rattle.std.proofs.Common.{rules, sym}
 use Rattle.gn_top.specs.Words.{HasNoForm}
-use Rattle.gn_top.specs.Said.{said, asked, texts}
-use Rattle.gn_top.specs.Commands.{line_view}
-use Rattle.gn_top.proofs.AnswerLemmas.{told_by_one, never_two, at_most_two, of_its_path, reads_differ, reads_are_asked, source_goes_on, least_failure}
-use Rattle.gn_top.proofs.CommandLemmas.{has_form, line_short}
+use Rattle.gn_command_line.specs.Words.{texts}
+use Rattle.gn_command_line.specs.Commands.{line_view}
+use Rattle.gn_top.specs.Said.{said, asked}
+use Rattle.gn_top.proofs.AnswerLemmas.{told_by_one, never_two, at_most_two, of_its_path, reads_differ, reads_are_asked, source_goes_on, least_failure, has_form}
 use Rattle.gn_top.proofs.answer.answer.Goals as goal
 
 pub line_answer-requires : goal.line_answer-requires
-line_answer-requires g c = line_short (texts c.args.words.now) (line_view c.in-Some.line) (sym (rw c.in-Some.is at c.in_ok-read_words.ensures))
+line_answer-requires g c = c.arguments_are_short.ensures (texts c.args.words.now) (line_view c.in-Some.line) (sym (rw c.in-Some.is at c.in_ok-read_words.ensures))
 
 pub returns-in_ok-to_vec-in-None-clause-meaning : goal.returns-in_ok-to_vec-in-None-clause-meaning
 unfolding said

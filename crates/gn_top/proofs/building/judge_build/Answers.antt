@@ -1,6 +1,6 @@
 use Rattle.std.proofs.Common.{sym, ◌∙◌, ap}
 use Rattle.gn_toolchains.specs.Toolchains.{Surroundings}
-use Rattle.gn_load.specs.Ends.{build_of}
+use Rattle.gn_built.specs.Built.{build_of}
 use Rattle.gn_top.specs.declared.building.Build.{Build}
 use Rattle.gn_top.specs.Stages.{surroundings_of}
 use Rattle.gn_top.specs.GraphFaults.{graph_fault}

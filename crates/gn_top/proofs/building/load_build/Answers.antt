@@ -2,7 +2,7 @@ use Rattle.std.proofs.Common.{ap}
 use Rattle.gn_basics.proofs.Results.{if_ok}
 use Rattle.gn_executions.specs.Base.{BaseState}
 use Rattle.gn_load.specs.Turns.{known_paths}
-use Rattle.gn_load.specs.Setups.{given_base}
+use Rattle.gn_bases.specs.Setups.{given_base}
 use Rattle.gn_top.specs.Building.{started_view}
 use Rattle.gn_top.proofs.StageLemmas.{load_is, end_faults, end_failure}
 use Rattle.gn_top.proofs.building.load_build.Goals as goal

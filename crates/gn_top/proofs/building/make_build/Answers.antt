@@ -1,10 +1,10 @@
 use Rattle.std.proofs.Common.{ℕ, List, sym, ◌∙◌, subst}
 use Rattle.gn_basics.proofs.Results.{if_ok}
 use Rattle.gn_builds.specs.Rest.{ReadsAsked}
-use Rattle.gn_load.specs.Setups.{given_base}
+use Rattle.gn_bases.specs.Setups.{given_base}
 use Rattle.gn_load.specs.Turns.{known_paths}
 use Rattle.gn_load.specs.Plain.{Agrees}
-use Rattle.gn_load.specs.declared.answer.FileContent.{FileContent}
+use Rattle.gn_answers.specs.declared.answer.FileContent.{FileContent}
 use Rattle.gn_top.specs.Building.{request_view, outer_view, first_view}
 use Rattle.gn_top.proofs.PartReads.{counts_behind, fails_all_behind}
 use Rattle.gn_top.proofs.StageLemmas.{load_started, build_is, failed_build_is, first_reads, known_reads, build_reads}

@@ -1,6 +1,6 @@
 use Rattle.std.proofs.Common.{◌≡◌, [], take}
 use Rattle.std.specs.List.{fold}
-use Rattle.gn_load.specs.Files.{files_of}
+use Rattle.gn_built.specs.Files.{files_of}
 use Rattle.gn_top.specs.Files.{with_written}
 use Rattle.gn_top.proofs.files.written_table.Given as goal
 

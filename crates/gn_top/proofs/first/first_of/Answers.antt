@@ -1,5 +1,5 @@
 use Rattle.std.proofs.Common.{ap}
-use Rattle.gn_unit.specs.Alone.{dotfile_state}
+use Rattle.gn_dotfile.specs.Names.{dotfile_state}
 use Rattle.gn_top.specs.Stages.{first_with}
 use Rattle.gn_top.proofs.first.first_of.Goals as goal
 

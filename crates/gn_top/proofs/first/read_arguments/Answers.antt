@@ -1,5 +1,5 @@
 use Rattle.std.proofs.Common.{inr, inl, ◌∷◌, [], refl}
-use Rattle.gn_load.specs.Answers.{content_view}
+use Rattle.gn_answers.specs.Answers.{content_view}
 use Rattle.gn_load.specs.Turns.{known_paths}
 use Rattle.gn_top.specs.Building.{outer_view}
 use Rattle.gn_top.specs.Stages.{arguments_path}

@@ -1,9 +1,9 @@
 use Rattle.std.proofs.Common.{◌∷◌, [], inl, inr, refl, sym, ◌∙◌, subst, Result}
 use Rattle.gn_basics.proofs.Results.{if_ok}
 use Rattle.gn_faults.specs.declared.fault.Fault.{Fault}
-use Rattle.gn_load.specs.Answers.{content_view}
+use Rattle.gn_answers.specs.Answers.{content_view}
 use Rattle.gn_load.specs.Turns.{known_paths}
-use Rattle.gn_unit.specs.Alone.{dotfile_state}
+use Rattle.gn_dotfile.specs.Names.{dotfile_state}
 use Rattle.gn_top.specs.Building.{request_view, outer_view, IsFirst}
 use Rattle.gn_top.specs.Stages.{First, first_paths, arguments_paths}
 use Rattle.gn_top.proofs.FirstLemmas.{dotfile_is, said_first, failed_first, on_ok, dotfile_first, both_first, knows_first, knows_failed}

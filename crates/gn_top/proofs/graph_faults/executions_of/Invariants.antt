@@ -1,6 +1,6 @@
 use Rattle.std.proofs.Common.{◌≡◌, take, map}
 use Rattle.gn_file_faults.specs.Writes.{execution_of}
-use Rattle.gn_load.specs.Files.{files_of}
+use Rattle.gn_built.specs.Files.{files_of}
 use Rattle.gn_top.specs.GraphFaults.{execution_in}
 use Rattle.gn_top.proofs.graph_faults.executions_of.Given as goal
 

@@ -3,7 +3,7 @@ use Rattle.gn_basics.proofs.Results.{if_ok}
 use Rattle.gn_labelled.specs.Index.{lent}
 use Rattle.gn_file_faults.specs.Faults.{file_fault}
 use Rattle.gn_file_faults.specs.Writes.{execution_of}
-use Rattle.gn_load.specs.Files.{files_of, paths_lent}
+use Rattle.gn_built.specs.Files.{files_of, paths_lent}
 use Rattle.gn_toolchains.specs.Frames.{surroundings}
 use Rattle.gn_top.specs.GraphFaults.{is_defined, execution_in, made_where, fault_of_files}
 use Rattle.gn_top.proofs.graph_faults.fault_of_files.Goals as goal

@@ -10,12 +10,12 @@ use Rattle.gn_build_faults.specs.Reaching.{targets_of}
 use Rattle.gn_top.proofs.ninja.files_of.Goals as goal
 
 pub ninja_files-requires-clause-closed : goal.ninja_files-requires-clause-closed
-ninja_files-requires-clause-closed c =
+ninja_files-requires-clause-closed g c = λ l lives.
     subst (IsClosed (shape_of (lent c.args.items.now))) (sym (c.as_slice.ensures.value ∙ c.in_ok-targets.ensures))
     (c.targets_have_their_dependencies.ensures.closed (surroundings c.args.surroundings).default (lent c.args.items.now) c.args.generated.now)
 
 pub ninja_files-requires-clause-ends : goal.ninja_files-requires-clause-ends
-ninja_files-requires-clause-ends c =
+ninja_files-requires-clause-ends g c = λ l lives.
     let s = surroundings c.args.surroundings in
     let items = lent c.args.items.now in
     let closed = c.targets_have_their_dependencies.ensures.closed s.default items c.args.generated.now in
@@ -23,6 +23,6 @@ ninja_files-requires-clause-ends c =
     (λ t h. c.faultless_targets_can_be_resolved.ensures s items (targets_of s.default items c.args.generated.now) closed c.requires t h)
 
 pub ninja_files-requires-clause-among : goal.ninja_files-requires-clause-among
-ninja_files-requires-clause-among c = λ t h.
+ninja_files-requires-clause-among g c = λ l lives t h.
     subst (λ (ts : List Label). has ts t ≡ true) (sym (c.as_slice.ensures.value ∙ c.in_ok-targets.ensures))
     (c.targets_have_their_dependencies.ensures.generated (surroundings c.args.surroundings).default (lent c.args.items.now) c.args.generated.now t h)

@@ -3,7 +3,7 @@ use Rattle.gn_labelled.specs.Index.{lent}
 use Rattle.gn_projects.specs.Loaded.{items_of_build}
 use Rattle.gn_toolchains.specs.Frames.{surroundings as given}
 use Rattle.gn_toolchains.specs.Toolchains.{Surroundings}
-use Rattle.gn_load.specs.Ends.{build_of}
+use Rattle.gn_built.specs.Built.{build_of}
 use Rattle.gn_top.specs.declared.building.Build.{Build}
 use Rattle.gn_top.specs.Stages.{surroundings_of}
 use Rattle.gn_top.specs.GraphFaults.{graph_fault}
@@ -12,7 +12,7 @@ use Rattle.gn_top.proofs.NinjaLemmas.{labels_faultless, told_none}
 use Rattle.gn_top.proofs.ninja.ninja_files.Goals as goal
 
 pub files_of-requires : goal.files_of-requires
-files_of-requires c =
+files_of-requires g c = λ sync.
     let s = given c.surroundings_of.result in
     let build = build_of c.deref-judged.result.now.loaded in
     let held = ap (λ (b : Build). graph_fault (surroundings_of (build_view b)) (build_of b.loaded)) c.deref-judged.ensures in

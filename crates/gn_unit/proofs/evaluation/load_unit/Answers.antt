@@ -1,4 +1,4 @@
-use Rattle.std.proofs.Common.{◌≡◌, Result, refl, sym, subst}
+use Rattle.std.proofs.Common.{◌≡◌, Result, IfSome, IfErr, refl, sym, subst}
 use Rattle.gn_items.specs.Effects.{Effects}
 use Rattle.gn_meaning.specs.Steps.{ends}
 use Rattle.gn_eval.specs.Ends.{IsFailure}
@@ -9,14 +9,19 @@ use Rattle.gn_executions.specs.Units.{build_file_of, load_begins}
 use Rattle.gn_executions.specs.Setups.{secondary_tree_runs}
 use Rattle.gn_executions.specs.Found.{found_load_execution}
 use Rattle.gn_outermost.specs.declared.paused.Paused.{Paused as PausedFile}
-use Rattle.gn_unit.specs.Ends.{IsLoadOf, Executes, rest_then, load_ends}
+use Rattle.gn_unit.specs.Begun.{Reads, load_reads}
+use Rattle.gn_unit.specs.Ends.{IsLoadOf, Executes, rest_then, load_ends, WhereTree}
 use Rattle.gn_unit.specs.declared.unit.Unit.{Unit as Evaluated}
 use Rattle.gn_unit.specs.declared.unit.EvalStop.{EvalStop}
-use Rattle.gn_unit.proofs.Ended.{ended_executes, executes_from, load_begun, load_failed}
+use Rattle.gn_unit.proofs.Ended.{ended_executes, executes_from, load_begun, load_failed, ended_tree, tree_read}
 use Rattle.gn_unit.proofs.evaluation.load_unit.Goals as goal
 
-pub returns-in-Ok : goal.returns-in-Ok
-returns-in-Ok g c =
+pub begin_load-requires : goal.begin_load-requires
+begin_load-requires g c =
+    subst (λ (o : Effects). IfSome c.args.known (Reads (g.L.Library.state c.args.library.now).told (λ a. secondary_tree_runs c.args.base.now.secondary a (load_begins c.args.base.now c.args.directory.now c.args.toolchain.now (build_file_of c.args.directory.now)) o))) (sym c.new-out.ensures) c.requires
+
+pub returns-in-Ok-clause-unit : goal.returns-in-Ok-clause-unit
+returns-in-Ok-clause-unit g c =
     let base = c.args.base.now in
     let before = g.L.Library.state c.args.library.now in
     let middle = g.L.Library.state c.begin_load.new.library in
@@ -25,13 +30,21 @@ returns-in-Ok g c =
     let env = c.in-Ok.env in
     let out = c.begin_load.new.out in
     let p : PausedFile = record { tree = tree; next = 0; env = env; out = out } in
-    executes_from IsLoadOf load_ends before after middle c.load_on.result (found_load_execution base c.args.directory.now c.args.toolchain.now) (rest_then load_ends p) c.in-Ok.ensures.begins.goes c.load_on.ensures
+    executes_from IsLoadOf load_ends before after middle c.load_on.result (found_load_execution base c.args.directory.now c.args.toolchain.now) (rest_then load_ends p) c.in-Ok.ensures.begins.goes c.load_on.ensures.unit
     (λ a i.
     load_begun base a tree env out p refl c.args.directory.now c.args.toolchain.now
-    (subst (λ (o : Effects). secondary_tree_runs c.args.base.now.secondary a (load_begins c.args.base.now c.args.directory.now c.args.toolchain.now (build_file_of c.args.directory.now)) o ≡ ends tree env out) c.new-out.ensures (c.in-Ok.ensures.begins.runs a (told_before c.load_on.ensures.goes a i))))
+    (subst (λ (o : Effects). secondary_tree_runs c.args.base.now.secondary a (load_begins c.args.base.now c.args.directory.now c.args.toolchain.now (build_file_of c.args.directory.now)) o ≡ ends tree env out) c.new-out.ensures (c.in-Ok.ensures.begins.runs a (told_before c.load_on.ensures.unit.goes a i))))
 
-pub returns-in-Err : goal.returns-in-Err
-returns-in-Err g c =
+pub returns-in-Ok-clause-tree : goal.returns-in-Ok-clause-tree
+returns-in-Ok-clause-tree g c =
+    let tree = c.in-Ok.tree in
+    let env = c.in-Ok.env in
+    let out = c.begin_load.new.out in
+    tree_read c.load_on.result tree (g.L.Library.state c.load_on.new.library).told (load_reads c.args.base.now c.args.directory.now c.args.toolchain.now) c.in-Ok.ensures.shallow
+    (λ a i. (env, out, subst (λ (o : Effects). secondary_tree_runs c.args.base.now.secondary a (load_begins c.args.base.now c.args.directory.now c.args.toolchain.now (build_file_of c.args.directory.now)) o ≡ ends tree env out) c.new-out.ensures (c.in-Ok.ensures.begins.runs a (told_before c.load_on.ensures.unit.goes a i)))) c.load_on.ensures.tree
+
+pub returns-in-Err-clause-unit : goal.returns-in-Err-clause-unit
+returns-in-Err-clause-unit g c =
     let base = c.args.base.now in
     let before = g.L.Library.state c.args.library.now in
     let after = g.L.Library.state c.begin_load.new.library in
@@ -43,3 +56,8 @@ returns-in-Err g c =
     (subst (λ (o : Effects). IsFailure after.need c.in-Err.end out (secondary_tree_runs c.args.base.now.secondary a (load_begins c.args.base.now c.args.directory.now c.args.toolchain.now (build_file_of c.args.directory.now)) o)) c.new-out.ensures
     (c.in-Err.ensures.begins.runs a (covers_error (Unit {0}) (BlockTree × Environment) after.told c.in-Err.end a i))))
     c.in-Err.ensures.begins.goes (λ e. c.in-Err.ensures.begins.rose (cc)) c.into_asked.ensures)
+
+pub returns-in-Err-clause-tree : goal.returns-in-Err-clause-tree
+returns-in-Err-clause-tree g c =
+    let P = Reads (g.L.Library.state c.begin_load.new.library).told (load_reads c.args.base.now c.args.directory.now c.args.toolchain.now) in
+    subst (λ (r : Result Evaluated EvalStop). IfErr r (λ stop. WhereTree stop P)) (sym c.ended.ensures) (ended_tree c.in-Err.end c.into_asked.result P)

@@ -1,0 +1,8 @@
+//! A build that was loaded, and its files.
+#![tactic(auto)]
+
+mod built;
+mod files;
+
+pub use built::Built;
+pub use files::WrittenFiles;

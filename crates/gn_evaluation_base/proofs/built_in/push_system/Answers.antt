@@ -1,0 +1,5 @@
+use Rattle.std.proofs.Common.{◌∙◌}
+use Rattle.gn_evaluation_base.proofs.built_in.push_system.Goals as goal
+
+pub returns : goal.returns
+returns c later = c.in_ok-push_overridden-2.ensures later ∙ c.in_ok-push_overridden.ensures _

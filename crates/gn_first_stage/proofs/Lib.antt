@@ -1,0 +1,2 @@
+pub mod FilesAlone
+pub mod FirstStage

@@ -1,0 +1,6 @@
+mod TableLemmas
+mod ExecutionLemmas
+mod GeneratedLemmas
+mod JudgingLemmas
+mod LinkLemmas
+mod LimitLemmas

@@ -1,5 +1,0 @@
-use Rattle.gn_load.proofs.SetupLemmas.{put_shows}
-use Rattle.gn_load.proofs.setup.put.Goals as goal
-
-pub returns : goal.returns
-returns c = rw c.in_ok-_former.ensures.entries (put_shows c.args.known.now.entries c.args.path c.args.content)
