@@ -1,10 +1,13 @@
 // Executions over a library that has one file.
 
+ghost use Rattle.std.specs.Prelude.{None, Option, OnSome};
+ghost use Rattle.gn_unit.specs.Ends.{IsRead, IsExecuted, WhereTree};
+
 use gn_eval::{Found, Imported, LibStop, Library};
 use gn_faults::{Code, Fault};
 use gn_items::{Claim, Key, Outcome, Question, When};
 use gn_paths::{Path, Place, Text, resolve};
-use gn_unit::{Base, EvalStop, Unit, evaluate};
+use gn_unit::{Base, EvalStop, Parsed, Unit, evaluate, evaluate_again};
 use std::alloc::Global;
 use std::test::Fail;
 
@@ -19,8 +22,24 @@ pub(crate) enum File<'a> {
     TooBig,
     /// Nothing is known yet.
     Unread,
+    /// A build file of these bytes, and of other files nothing is known yet.
+    Alone(&'a [u8]),
     // Its bytes, for which there is no memory.
     Unkept,
+}
+
+// What there is at a path.
+fn at<'a>(file: File<'a>, path: &Path) -> File<'a> {
+    match file {
+        File::Alone(bytes) => {
+            if path.as_text().as_bytes().ends_with(b"/BUILD.gn") {
+                File::Bytes(bytes)
+            } else {
+                File::Unread
+            }
+        }
+        _ => file,
+    }
 }
 
 /// A library that tells nothing of which something is claimed.
@@ -47,8 +66,8 @@ impl Library for OneFile<'_> {
         Err(LibStop::Memory)
     }
 
-    fn bytes(&mut self, alloc: Global, _: &Path, _: &Place) -> Result<Found, LibStop> {
-        match self.file {
+    fn bytes(&mut self, alloc: Global, path: &Path, _: &Place) -> Result<Found, LibStop> {
+        match at(self.file, path) {
             File::Bytes(bytes) if bytes.len() <= 16_777_216 => {
                 match Text::from_bytes(alloc, bytes) {
                     Ok(bytes) => Ok(Found::Bytes(bytes)),
@@ -213,5 +232,68 @@ fn files_that_cannot_run_are_wrong(rt: HostRuntime) -> Result<(), Fail> {
     assert!(rt; imports(alloc, File::Bytes(b"\nx = = 1\n"), bad)?);
     assert!(rt; imports(alloc, File::Unread, Expected::Stopped)?);
     assert!(rt; imports(alloc, File::Unkept, Expected::Memory)?);
+    Ok(())
+}
+
+// The tree of a file with which its execution is to begin again.
+fn tree_of(stop: EvalStop) -> Option<Parsed>
+    ensures { OnSome result (λ tree. (base : _) (key : _) → WhereTree stop (IsRead base key None) → IsRead base key None tree) }
+{
+    match stop {
+        EvalStop::Again(tree, _) => Some(tree),
+        _ => None,
+    }
+}
+
+// Whether the execution of a build file that begins again with its tree leaves so many lines, over a library that has this file.
+fn builds_again(
+    alloc: Global,
+    key: &Key,
+    base: &Base,
+    tree: Parsed,
+    file: File<'_>,
+    lines: usize,
+) -> bool
+    requires executed { IsExecuted key.now }
+    requires read { IsRead base.now key.now None tree }
+{
+    let mut library = OneFile { file, stops: 0 };
+    match evaluate_again(alloc, key, base, tree, &mut library) {
+        Ok(Unit::Load(outcome)) => outcome.prints().len() == lines,
+        _ => false,
+    }
+}
+
+// Whether the execution of a build file of these bytes, alone, stops, and leaves so many lines once it begins again over a library that
+// has this file.
+fn begins_again(
+    alloc: Global,
+    bytes: &[u8],
+    file: File<'_>,
+    lines: usize,
+) -> Result<bool, Fail> {
+    let root = Path::root(alloc)?;
+    let key = Key::Load(resolve(alloc, &root, b"//a")?, Text::new(alloc));
+    let base = Base::plain(alloc)?;
+    let mut library = OneFile { file: File::Alone(bytes), stops: 0 };
+    match evaluate(alloc, Claim::issue(key, 0, 0), &base, &mut library) {
+        Ok(_) => Ok(false),
+        Err(end) => {
+            let claim = end.0;
+            let stop = end.1;
+            match tree_of(stop) {
+                None => Ok(false),
+                Some(tree) => Ok(builds_again(alloc, &claim.key, &base, tree, file, lines)),
+            }
+        }
+    }
+}
+
+// What the library has of the build file when its execution begins again is no build file, and isn't read.
+#[test]
+fn a_file_is_parsed_once(rt: HostRuntime) -> Result<(), Fail> {
+    let alloc = rt.alloc();
+    let inner = b"if (true) {\n  print(read_file(\"b\", \"string\"))\n}\n";
+    assert!(rt; begins_again(alloc, inner, File::Bytes(b"= ="), 1)?);
     Ok(())
 }

@@ -7,7 +7,8 @@ use Rattle.gn_top.proofs.AnswerLemmas.{told_by_one, never_two, at_most_two, of_i
 use Rattle.gn_top.proofs.answer.answer.Goals as goal
 
 pub line_answer-requires : goal.line_answer-requires
-line_answer-requires g c = c.arguments_are_short.ensures (texts c.args.words.now) (line_view c.in-Some.line) (sym (rw c.in-Some.is at c.in_ok-read_words.ensures))
+line_answer-requires g c =
+    (c.type_bounds.sync-R, c.arguments_are_short.ensures (texts c.args.words.now) (line_view c.in-Some.line) (sym (rw c.in-Some.is at c.in_ok-read_words.ensures)))
 
 pub returns-in_ok-to_vec-in-None-clause-meaning : goal.returns-in_ok-to_vec-in-None-clause-meaning
 unfolding said

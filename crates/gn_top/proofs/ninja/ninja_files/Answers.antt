@@ -12,11 +12,12 @@ use Rattle.gn_top.proofs.NinjaLemmas.{labels_faultless, told_none}
 use Rattle.gn_top.proofs.ninja.ninja_files.Goals as goal
 
 pub files_of-requires : goal.files_of-requires
-files_of-requires g c = λ sync.
+files_of-requires g c =
     let s = given c.surroundings_of.result in
     let build = build_of c.deref-judged.result.now.loaded in
     let held = ap (λ (b : Build). graph_fault (surroundings_of (build_view b)) (build_of b.loaded)) c.deref-judged.ensures in
     let same = ap (λ (x : Surroundings). graph_fault x build) c.surroundings_of.ensures in
-    told_none s (lent c.as_slice.result.now) (items_of_build build) s.default build.default c.generated.result.now build.generated
-    (ap lent c.as_slice.ensures.value ∙ c.in_ok-items.ensures) (ap (λ (x : Surroundings). x.default) c.surroundings_of.ensures) c.generated.ensures
-    (labels_faultless s build (same ∙ (held ∙ c.args.build.now.faultless)))
+    ( c.type_bounds.sync-R
+    , told_none s (lent c.as_slice.result.now) (items_of_build build) s.default build.default c.generated.result.now build.generated
+      (ap lent c.as_slice.ensures.value ∙ c.in_ok-items.ensures) (ap (λ (x : Surroundings). x.default) c.surroundings_of.ensures) c.generated.ensures
+      (labels_faultless s build (same ∙ (held ∙ c.args.build.now.faultless))))
