@@ -266,16 +266,14 @@ fn builds_again(
 
 // Whether the execution of a build file of these bytes, alone, stops, and leaves so many lines once it begins again over a library that
 // has this file.
-fn begins_again(
-    alloc: Global,
-    bytes: &[u8],
-    file: File<'_>,
-    lines: usize,
-) -> Result<bool, Fail> {
+fn begins_again(alloc: Global, bytes: &[u8], file: File<'_>, lines: usize) -> Result<bool, Fail> {
     let root = Path::root(alloc)?;
     let key = Key::Load(resolve(alloc, &root, b"//a")?, Text::new(alloc));
     let base = Base::plain(alloc)?;
-    let mut library = OneFile { file: File::Alone(bytes), stops: 0 };
+    let mut library = OneFile {
+        file: File::Alone(bytes),
+        stops: 0,
+    };
     match evaluate(alloc, Claim::issue(key, 0, 0), &base, &mut library) {
         Ok(_) => Ok(false),
         Err(end) => {

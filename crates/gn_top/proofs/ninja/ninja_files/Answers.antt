@@ -16,8 +16,9 @@ files_of-requires g c =
     let s = given c.surroundings_of.result in
     let build = build_of c.deref-judged.result.now.loaded in
     let held = ap (λ (b : Build). graph_fault (surroundings_of (build_view b)) (build_of b.loaded)) c.deref-judged.ensures in
-    let same = ap (λ (x : Surroundings). graph_fault x build) c.surroundings_of.ensures in
-    ( c.type_bounds.sync-R
-    , told_none s (lent c.as_slice.result.now) (items_of_build build) s.default build.default c.generated.result.now build.generated
-      (ap lent c.as_slice.ensures.value ∙ c.in_ok-items.ensures) (ap (λ (x : Surroundings). x.default) c.surroundings_of.ensures) c.generated.ensures
-      (labels_faultless s build (same ∙ (held ∙ c.args.build.now.faultless))))
+    let same = ap (λ (x : Surroundings). graph_fault x build) c.surroundings_of.ensures in (
+      c.type_bounds.sync-R,
+      told_none s (lent c.as_slice.result.now) (items_of_build build) s.default build.default c.generated.result.now build.generated
+          (ap lent c.as_slice.ensures.value ∙ c.in_ok-items.ensures) (ap (λ (x : Surroundings). x.default) c.surroundings_of.ensures) c.generated.ensures
+          (labels_faultless s build (same ∙ (held ∙ c.args.build.now.faultless))),
+    )
