@@ -1,6 +1,6 @@
 // Executions over a library that has one file.
 
-ghost use Rattle.std.specs.Prelude.{None, Option, OnSome};
+ghost use Rattle.std.specs.Prelude.{None, IfSome};
 ghost use Rattle.gn_unit.specs.Ends.{IsRead, IsExecuted, WhereTree};
 
 use gn_eval::{Found, Imported, LibStop, Library};
@@ -237,7 +237,7 @@ fn files_that_cannot_run_are_wrong(rt: HostRuntime) -> Result<(), Fail> {
 
 // The tree of a file with which its execution is to begin again.
 fn tree_of(stop: EvalStop) -> Option<Parsed>
-    ensures { OnSome result (λ tree. (base : _) (key : _) → WhereTree stop (IsRead base key None) → IsRead base key None tree) }
+    ensures { IfSome result (λ tree. (base : _) (key : _) → WhereTree stop (IsRead base key None) → IsRead base key None tree) }
 {
     match stop {
         EvalStop::Again(tree, _) => Some(tree),
