@@ -7,3 +7,5 @@ pub mod Laws
 pub mod Reaching
 pub mod Made
 pub mod Labels
+pub mod Examined
+pub mod Captures

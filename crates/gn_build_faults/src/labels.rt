@@ -5,7 +5,8 @@ ghost use Rattle.gn_labelled.specs.Index.{lent};
 ghost use Rattle.gn_toolchains.specs.Frames.{surroundings as given};
 ghost use Rattle.gn_build_faults.specs.Labels.{those_before, beside_toolchain, fault_of_labels};
 
-use crate::fault::{first_of, target_fault};
+use crate::fault::target_fault;
+use crate::first::first_of;
 use gn_faults::Fault;
 use gn_items::Item;
 use gn_labels::Label;
@@ -13,6 +14,7 @@ use gn_paths::Text;
 use gn_toolchain_faults::{ToolchainFault, toolchain_fault};
 use gn_toolchains::Surroundings;
 use std::alloc::{AllocError, Global};
+use std::thread::Threads;
 
 // Puts a copy of a label behind others.
 fn push_copy(alloc: Global, labels: &mut Vec<Label>, label: &Label) -> Result<(), AllocError>
@@ -42,7 +44,8 @@ fn those_before(
 }
 
 // The first fault of the targets before a toolchain, or else that of the toolchain.
-fn up_to<'a>(
+fn up_to<'a, R: Threads + Sync>(
+    rt: &R,
     alloc: Global,
     surroundings: Surroundings<'a>,
     items: &[&'a Item],
@@ -53,12 +56,13 @@ fn up_to<'a>(
 {
     let ToolchainFault { label, fault } = told;
     let before = those_before(alloc, surroundings.default, &label, targets)?;
-    let first = target_fault(alloc, surroundings, items, before.as_slice())?;
+    let first = target_fault(rt, alloc, surroundings, items, before.as_slice())?;
     Ok(first_of(first, Some(fault)))
 }
 
 // The first fault of targets and of a toolchain, if one has a fault.
-fn beside_toolchain<'a>(
+fn beside_toolchain<'a, R: Threads + Sync>(
+    rt: &R,
     alloc: Global,
     surroundings: Surroundings<'a>,
     items: &[&'a Item],
@@ -68,8 +72,8 @@ fn beside_toolchain<'a>(
     ensures { IfOk result (λ fault. fault ≡ beside_toolchain (given surroundings.entry) (lent items.now) targets.now told) }
 {
     match told {
-        None => target_fault(alloc, surroundings, items, targets),
-        Some(told) => up_to(alloc, surroundings, items, targets, told),
+        None => target_fault(rt, alloc, surroundings, items, targets),
+        Some(told) => up_to(rt, alloc, surroundings, items, targets, told),
     }
 }
 
@@ -78,7 +82,8 @@ fn beside_toolchain<'a>(
 /// are no paths, labels that it names and no item has, tools that it needs and its toolchain lacks, the other faults of the graph, and
 /// outputs that a target before it makes too; of a toolchain, pools of its tools, and then its name. None comes exactly where there is none.
 #[tactic(auto, unfolding(crate::specs::Labels::fault_of_labels))]
-pub fn fault_of_labels<'a>(
+pub fn fault_of_labels<'a, R: Threads + Sync>(
+    rt: &R,
     alloc: Global,
     surroundings: Surroundings<'a>,
     items: &[&'a Item],
@@ -87,5 +92,5 @@ pub fn fault_of_labels<'a>(
     ensures { IfOk result (λ fault. fault ≡ fault_of_labels (given surroundings.entry) (lent items.now) targets.now) }
 {
     let told = toolchain_fault(alloc, surroundings, items, targets)?;
-    beside_toolchain(alloc, surroundings, items, targets, told)
+    beside_toolchain(rt, alloc, surroundings, items, targets, told)
 }

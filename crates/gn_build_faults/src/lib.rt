@@ -1,13 +1,16 @@
 //! The fault that is told of the targets which a build generates.
 #![tactic(auto)]
 
+mod examined;
 mod fault;
+mod first;
 mod labels;
 mod laws;
 mod made;
 mod outputs;
 mod paths;
 mod reaching;
+mod shared;
 mod told;
 mod tools;
 

@@ -1,4 +1,3 @@
 pub mod Agreeing
 pub mod Crossing
-pub mod Gathering
 pub mod Knowing

@@ -102,23 +102,6 @@ fn take(
     }
 }
 
-// The same for a call whose place is kept.
-fn take_at(
-    alloc: Global,
-    book: &mut Book<Answer>,
-    claim: &Claim,
-    on: Key,
-    place: &Place,
-) -> Result<Option<Claim>, AllocError>
-    requires claim { IsClaim book.old claim.now }
-    requires unit { is_unit (key_of on) ≡ false }
-    requires lacked { IsLacked book.old claim.now (key_of on) }
-    ensures { IfOk result (TakesAs book.old book.new claim.now (key_of on) place.now) }
-{
-    let call = place.copy(alloc)?;
-    take(book, claim, on, call)
-}
-
 // Want of memory ends loading.
 fn lifted(next: Result<Option<Claim>, AllocError>) -> Result<Option<Claim>, Stop>
     ensures { IsLifted next result }
@@ -321,6 +304,15 @@ fn copy_imported(alloc: Global, on: &Key) -> Result<Path, AllocError>
     }
 }
 
+// The path of the file that is imported, and the place of the call.
+fn copy_call(alloc: Global, on: &Key, place: &Place) -> Result<(Path, Place), AllocError>
+    ensures { IfOk result (λ call. ((layer : Layer) × (key_of on.now ≡ Import layer call.0)) × (call.1 ≡ place.now)) }
+{
+    let path = copy_imported(alloc, on)?;
+    let place = place.copy(alloc)?;
+    Ok((path, place))
+}
+
 // The first claim needs an import: the seat claims that too, or the wait closes a cycle, and the first claim has no value. What is kept of its
 // execution is stored.
 fn need_import(
@@ -339,15 +331,15 @@ fn need_import(
         IsNeeded driver.old.base.start driver.old.book claim (key_of on) place (asked_for (key_of on) (asked_so_far kept)) → IsTurn known before now driver.old driver.new (Ok next)) }
     ensures rests { OnOk result (Stores claim.key kept rests.old.items rests.new.items) }
 {
-    let path = copy_imported(alloc, &on)?;
-    match take_at(alloc, &mut driver.book, &claim, on, &place)? {
+    let call = copy_call(alloc, &on, &place)?;
+    match take(&mut driver.book, &claim, on, call.1)? {
         Some(other) => {
             store(alloc, rests, &claim.key, kept)?;
             wait_for(driver, claim, other)
         }
         None => {
-            let asked = asked_until(alloc, kept, &path)?;
-            settle(alloc, driver, claim, Filed::NoValue(path, place, asked))
+            let asked = asked_until(alloc, kept, &call.0)?;
+            settle(alloc, driver, claim, Filed::NoValue(call.0, place, asked))
         }
     }
 }

@@ -290,7 +290,7 @@ fn read_build<R: Threads + Sync, S: Source>(
     ensures failure { IfCannotRead result (λ path. FailsAt path (S.state source.old) (S.state source.new)) }
 {
     let outer = outer_of(alloc, host)?;
-    let end = make_build(alloc, &outer, request, source)?;
+    let end = make_build(rt, alloc, &outer, request, source)?;
     Ok(end_answer(rt, alloc, wanted, request, &end)?)
 }
 

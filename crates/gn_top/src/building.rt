@@ -31,6 +31,7 @@ use gn_toolchains::Surroundings;
 use std::alloc::{AllocError, Global};
 use std::collections::BTreeMap;
 use std::sync::Arc;
+use std::thread::Threads;
 
 /// What a build is loaded from, and the lines that its build arguments have printed.
 #[derive(Drop)]
@@ -116,12 +117,16 @@ pub(crate) fn surroundings_of(build: &Build) -> Surroundings<'_>
 }
 
 // The third stage: a build, unless it has a fault of its graph.
-fn judge_build(alloc: Global, build: Arc<Build>) -> Result<BuildEnd, AllocError>
+fn judge_build<R: Threads + Sync>(
+    rt: &R,
+    alloc: Global,
+    build: Arc<Build>,
+) -> Result<BuildEnd, AllocError>
     ensures { IfOk result (λ end. IsBuild end (graph_judged (shared_view build))) }
 {
     let judged: &Build = &build;
     let units = judged.files;
-    let fault = graph_fault(alloc, surroundings_of(judged), &judged.loaded)?;
+    let fault = graph_fault(rt, alloc, surroundings_of(judged), &judged.loaded)?;
     match fault {
         Some(fault) => Ok(BuildEnd::Failed(Failure { fault, units })),
         None => Ok(BuildEnd::Built(Faultless { build })),
@@ -129,7 +134,8 @@ fn judge_build(alloc: Global, build: Arc<Build>) -> Result<BuildEnd, AllocError>
 }
 
 // The same of what was loaded behind a first stage, of so many build files.
-fn end_build(
+fn end_build<R: Threads + Sync>(
+    rt: &R,
     alloc: Global,
     start: Started,
     built: Built,
@@ -142,11 +148,16 @@ fn end_build(
         loaded: built,
         files,
     };
-    judge_build(alloc, Arc::new(alloc, build)?)
+    judge_build(rt, alloc, Arc::new(alloc, build)?)
 }
 
 // What is made of a build that was loaded behind the first stage.
-fn behind_loading(alloc: Global, start: Started, plain: Plain) -> Result<BuildEnd, RunStop>
+fn behind_loading<R: Threads + Sync>(
+    rt: &R,
+    alloc: Global,
+    start: Started,
+    plain: Plain,
+) -> Result<BuildEnd, RunStop>
     ensures meaning { IfOk result (λ end. (tree : Tree) (host : HostTexts) (request : Asked) → start.setup.build_directory ≡ request.directory →
         IsEndOf (configuration_base host request (started_view start)) (first_paths host request tree) tree plain.end plain.units →
         IsBuild end (behind_first host request tree (Ok (started_view start)))) }
@@ -154,7 +165,7 @@ fn behind_loading(alloc: Global, start: Started, plain: Plain) -> Result<BuildEn
 {
     let Plain { end, units } = plain;
     match end {
-        LoadEnd::Built(built) => Ok(end_build(alloc, start, built, units)?),
+        LoadEnd::Built(built) => Ok(end_build(rt, alloc, start, built, units)?),
         LoadEnd::Wrong(fault) => Ok(BuildEnd::Failed(Failure { fault, units })),
         LoadEnd::Failed(path) => Err(RunStop::CannotRead(path)),
         LoadEnd::Memory => Err(RunStop::Memory),
@@ -162,7 +173,12 @@ fn behind_loading(alloc: Global, start: Started, plain: Plain) -> Result<BuildEn
 }
 
 // Loads a build behind its first stage.
-fn load_build<S: Source>(alloc: Global, start: Started, source: &mut S) -> Result<BuildEnd, RunStop>
+fn load_build<R: Threads + Sync, S: Source>(
+    rt: &R,
+    alloc: Global,
+    start: Started,
+    source: &mut S,
+) -> Result<BuildEnd, RunStop>
     requires { (tree : Tree) → (S.state source.old).tree ≡ Some tree → Agrees start.setup.known.entries tree }
     ensures meaning { IfOk result (λ end. (tree : Tree) (host : HostTexts) (request : Asked) → (S.state source.old).tree ≡ Some tree → given_base start.setup ≡ configuration_base host request (started_view start) →
         KnowsAlso [] (first_paths host request tree) (known_paths start.setup.known.entries) → IsBuild end (behind_first host request tree (Ok (started_view start)))) }
@@ -171,11 +187,12 @@ fn load_build<S: Source>(alloc: Global, start: Started, source: &mut S) -> Resul
     ensures failure { IfCannotRead result (λ path. FailsAt path (S.state source.old) (S.state source.new)) }
 {
     let plain = load_plain(alloc, &start.setup, source);
-    behind_loading(alloc, start, plain)
+    behind_loading(rt, alloc, start, plain)
 }
 
 /// Makes a build from what its source has: stage after stage, as far as there is no fault.
-pub(crate) fn make_build<S: Source>(
+pub(crate) fn make_build<R: Threads + Sync, S: Source>(
+    rt: &R,
     alloc: Global,
     outer: &Outer,
     request: &Request<'_>,
@@ -192,7 +209,7 @@ pub(crate) fn make_build<S: Source>(
     match end {
         FirstEnd::Said(first) => {
             let start = start_of(alloc, outer, request, first, read)?;
-            load_build(alloc, start, source)
+            load_build(rt, alloc, start, source)
         }
         FirstEnd::Failed(fault) => Ok(BuildEnd::Failed(Failure { fault, units: 0 })),
     }

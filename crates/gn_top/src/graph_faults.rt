@@ -23,6 +23,7 @@ use gn_paths::{Path, Text};
 use gn_toolchains::Surroundings;
 use indexmap::IndexSet;
 use std::alloc::{AllocError, Global};
+use std::thread::Threads;
 
 // Whether an item defines the default toolchain as it is named.
 fn defines(default: &Text, named: &DefaultToolchain, item: &Item) -> bool
@@ -191,7 +192,8 @@ fn fault_of_files<'a>(
 }
 
 // The fault that is told of targets, if there is one, by the items of a build and the targets that it generates.
-fn told_fault<'a>(
+fn told_fault<'a, R: Threads + Sync>(
+    rt: &R,
     alloc: Global,
     surroundings: Surroundings<'a>,
     items: &[&'a Item],
@@ -200,12 +202,13 @@ fn told_fault<'a>(
     ensures { IfOk result (λ fault. fault ≡ told_of_targets (given surroundings.entry) (lent items.now) (targets_meant (given surroundings.entry).default (lent items.now) generated.now)) }
 {
     let targets = targets_of(alloc, surroundings.default, items, generated)?;
-    fault_of_labels(alloc, surroundings, items, targets.as_slice())
+    fault_of_labels(rt, alloc, surroundings, items, targets.as_slice())
 }
 
 // The fault that is told of the targets of a build, if there is one, by its items.
 #[tactic(auto, unfolding(crate::specs::GraphFaults::label_fault))]
-fn label_fault<'a>(
+fn label_fault<'a, R: Threads + Sync>(
+    rt: &R,
     alloc: Global,
     surroundings: Surroundings<'a>,
     built: &Built,
@@ -215,11 +218,12 @@ fn label_fault<'a>(
     requires items { lent items.now ≡ items_of_build (build_of built.now) }
     ensures { IfOk result (λ fault. fault ≡ label_fault_meant (given surroundings.entry) (build_of built.now)) }
 {
-    told_fault(alloc, surroundings, items, built.generated())
+    told_fault(rt, alloc, surroundings, items, built.generated())
 }
 
 // The fault of the graph of a build, if there is one, by its items.
-fn fault_by_items<'a>(
+fn fault_by_items<'a, R: Threads + Sync>(
+    rt: &R,
     alloc: Global,
     surroundings: Surroundings<'a>,
     built: &Built,
@@ -231,13 +235,14 @@ fn fault_by_items<'a>(
 {
     match fault_of_files(alloc, surroundings, built, items)? {
         Some(fault) => Ok(Some(fault)),
-        None => label_fault(alloc, surroundings, built, items),
+        None => label_fault(rt, alloc, surroundings, built, items),
     }
 }
 
 /// The fault of the graph of a build that was loaded: those of its files stand before those of its targets. None comes exactly where it
 /// has none.
-pub(crate) fn graph_fault<'a>(
+pub(crate) fn graph_fault<'a, R: Threads + Sync>(
+    rt: &R,
     alloc: Global,
     surroundings: Surroundings<'a>,
     built: &'a Built,
@@ -246,5 +251,5 @@ pub(crate) fn graph_fault<'a>(
     ensures { IfOk result (λ fault. fault ≡ graph_fault (given surroundings.entry) (build_of built.now)) }
 {
     let items = built.items(alloc)?;
-    fault_by_items(alloc, surroundings, built, items.as_slice())
+    fault_by_items(rt, alloc, surroundings, built, items.as_slice())
 }

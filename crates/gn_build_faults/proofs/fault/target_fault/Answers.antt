@@ -6,7 +6,7 @@ use Rattle.gn_build_faults.proofs.Known.{told_of}
 use Rattle.gn_build_faults.proofs.fault.target_fault.Goals as goal
 
 pub returns : goal.returns
-returns c =
+returns g c =
     if_ok c.fault_of.result
     (λ told is. is ∙ told_of (given c.args.surroundings) (lent c.args.items.now) c.in_ok-of.field-0 c.args.targets.now c.in_ok-frames.frames c.in_ok-of.ensures c.in_ok-frames.ensures)
     c.fault_of.ensures

@@ -2,7 +2,7 @@ use Rattle.std.proofs.Common.{ap, ◌∙◌}
 use Rattle.rayon.proofs.ToStd.{slice-AllZip}
 use Rattle.gn_out_files.specs.Files.{put_of}
 use Rattle.gn_files.specs.Making.{file_of}
-use Rattle.gn_files.proofs.Gathering.{Means, gathered}
+use Rattle.gn_threads.proofs.Gathering.{Means, gathered}
 use Rattle.gn_files.proofs.target_files.make_all.Goals as goal
 
 pub returns : goal.returns

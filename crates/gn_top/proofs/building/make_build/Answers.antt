@@ -11,7 +11,10 @@ use Rattle.gn_top.proofs.StageLemmas.{load_started, build_is, failed_build_is, f
 use Rattle.gn_top.proofs.building.make_build.Goals as goal
 
 pub load_build-requires : goal.load_build-requires
-load_build-requires g c = λ tree told. subst (λ (es : List (List ℕ × FileContent)). Agrees es tree) (sym c.in_ok-start-in-Said.ensures.read) (c.in_ok-end.ensures.agrees tree (sym ((c.in_ok-end.ensures.reads).1).tree ∙ told))
+load_build-requires g c = (
+  c.type_bounds.sync-R,
+  λ tree told. subst (λ (es : List (List ℕ × FileContent)). Agrees es tree) (sym c.in_ok-start-in-Said.ensures.read) (c.in_ok-end.ensures.agrees tree (sym ((c.in_ok-end.ensures.reads).1).tree ∙ told)),
+)
 
 pub returns-in_err-end-clause-reads : goal.returns-in_err-end-clause-reads
 returns-in_err-end-clause-reads g c = first_reads _ _ _ _ c.in_err-end.ensures.reads

@@ -4,7 +4,7 @@ use Rattle.gn_items.specs.declared.item.Item.{Item}
 use Rattle.gn_labelled.specs.Graphs.{shape_of}
 use Rattle.gn_build_faults.specs.Faults.{facts_in}
 use Rattle.gn_build_faults.proofs.Listed.{others_have_nothing}
-use Rattle.gn_build_faults.proofs.fault.graph_fault.Goals as goal
+use Rattle.gn_build_faults.proofs.examined.graph_fault.Goals as goal
 
 pub returns : goal.returns
 returns c =
