@@ -120,8 +120,16 @@ fn run_over<P: Part>(
     ensures { IfOk result (IsRan base.now key (shown (P.answers told.entry.part.now) (layer_at told.entry.when told.entry.toolchain.now))) }
 {
     match rest {
-        Some(Rest::Paused(rest)) => go_over(alloc, told, &key, rest),
-        Some(Rest::Tree(tree)) => again_over(alloc, base, told, &key, tree),
+        Some(Rest::Paused(rest)) => {
+            let ran = go_over(alloc, told, &key, rest);
+            drop(key);
+            ran
+        }
+        Some(Rest::Tree(tree)) => {
+            let ran = again_over(alloc, base, told, &key, tree);
+            drop(key);
+            ran
+        }
         None => begin_over(alloc, base, told, key),
     }
 }

@@ -71,7 +71,10 @@ pub fn perform<P: Part, S: Source>(
     ensures reads { IsWorkOf (key_of key.now) (S.state source.old) (S.state source.new) result }
 {
     match key {
-        Key::Read(path) => perform_read(alloc, path, source),
+        Key::Read(path) => {
+            drop(rest);
+            perform_read(alloc, path, source)
+        }
         Key::Import(when, toolchain, path) => {
             evaluated(perform_import(alloc, base, part, *when, toolchain, path, rest))
         }
