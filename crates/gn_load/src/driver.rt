@@ -306,6 +306,7 @@ fn copy_imported(alloc: Global, on: &Key) -> Result<Path, AllocError>
 
 // The path of the file that is imported, and the place of the call.
 fn copy_call(alloc: Global, on: &Key, place: &Place) -> Result<(Path, Place), AllocError>
+    requires { (layer : Layer) × (path : List ℕ) × (key_of on.now ≡ Import layer path) }
     ensures { IfOk result (λ call. ((layer : Layer) × (key_of on.now ≡ Import layer call.0)) × (call.1 ≡ place.now)) }
 {
     let path = copy_imported(alloc, on)?;
