@@ -32,7 +32,7 @@ use Rattle.gn_builds.proofs.Steps.{needed_are_of_layer}
 use Rattle.gn_builds.proofs.Going.{going_lacks, going_settled, going_waits, going_closes, closed_keys, going_takes, going_reads, reads_too_many, read_fails_at, read_is_lost}
 use Rattle.gn_answers.specs.Answers.{content_view}
 use Rattle.gn_load.specs.Current.{layer_now, IsCurrent}
-use Rattle.gn_load.specs.Turns.{TakesAs, IsNeeded, KeepsKnown, Goes, IsStill, Settles, Waits, IsCounted, IsReadAt, IsReadOf, IsTaken, IsFiledKnown, IsReadKnown, ReadsOnce, room_of, IsTurned, IsLifted, MayGoOn, IsTurn, IsReadFor, IsFinish, IsStop}
+use Rattle.gn_load.specs.Turns.{TakesAs, AwaitsImport, IsNeeded, KeepsKnown, Goes, IsStill, Settles, Waits, IsCounted, IsReadAt, IsReadOf, IsTaken, IsFiledKnown, IsReadKnown, ReadsOnce, room_of, IsTurned, IsLifted, MayGoOn, IsTurn, IsReadFor, IsFinish, IsStop}
 use Rattle.gn_answers.specs.declared.answer.FileContent.{FileContent}
 use Rattle.gn_load.specs.declared.current.CurrentBase.{CurrentBase}
 use Rattle.gn_load.specs.declared.driver.Driver.{Driver}
@@ -225,6 +225,12 @@ module _ (known : List (List ℕ)) (before now : SourceState) (old : Driver) (c 
             does.next,
             may_next new next cs,
           )
+
+    -- the one or the other
+    pub turn_awaits : (mid new : Driver) → (state_of old.book).filed (Import m path) ≡ None → (taken : Option Claim) → TakesAs old.book mid.book c (Import m path) place taken → IsStill old mid → mid.waiting ≡ old.waiting
+        → (next : Option Claim) → AwaitsImport mid new c path place asked taken next → IsTurn known before now old new (Ok next)
+    turn_awaits mid new none (Some other) takes still waiting next does = turn_waits mid new other takes still waiting next does
+    turn_awaits mid new none None takes still waiting next does = turn_closes mid new none takes still waiting next does
 
   -- what ends a function for want of memory
   pub lifted_turn : {E : Type 0} (new : Driver) (r : Result (Option Claim) E) (s : Result (Option Claim) Stop) → IfOk r (λ next. IsTurn known before now old new (Ok next)) → IsLifted r s → IsTurn known before now old new s

@@ -10,7 +10,7 @@ use Rattle.gn_values.specs.Tables.{at_name, without_name}
 use Rattle.gn_closure.specs.Closure.{In}
 use Rattle.gn_closure.specs.Reach.{Unit_key}
 use Rattle.gn_executions.specs.Base.{BaseState}
-use Rattle.gn_core.specs.Keys.{Key, Read, Unit_of, Answer, found}
+use Rattle.gn_core.specs.Keys.{Key, Read, Unit_of, Answer, found, no_value}
 use Rattle.gn_core.specs.Machine.{Block, File, Leads, read_limit}
 use Rattle.gn_core.specs.Layered.{IsPart}
 use Rattle.gn_book.specs.Keys.{key_of}
@@ -178,6 +178,11 @@ pub record Waits (old new : Driver) (c other : Claim) (first : Option Claim) : T
   pub waiting : new.waiting.items ≡ c ∷ old.waiting.items
   pub book : new.book ≡ old.book
   pub rest : IsStill old new
+
+-- a claim waits for the import that was taken for it, or it has no value, where its wait has closed a cycle
+abbrev pub AwaitsImport : Driver → Driver → Claim → List ℕ → Place → List Question → Option Claim → Option Claim → Type 0
+AwaitsImport old new c path place asked (Some other) next = Waits old new c other next
+AwaitsImport old new c path place asked None next = Settles old new c (no_value path place asked) next
 
 -- how many files it can still read, and take of those that were read before
 abbrev pub room_of : Driver → ℕ

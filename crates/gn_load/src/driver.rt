@@ -1,9 +1,10 @@
 // Loading by one seat: what it has claimed waits for one another, the last claim first.
 
-ghost use Rattle.std.specs.Prelude.{◌≡◌, ◌<◌, ◌≤◌, ◌+◌, ◌∷◌, ℕ, List, Ok, Some, IfOk, IfErr, OnOk, OnErr, false};
+ghost use Rattle.std.specs.Prelude.{◌≡◌, None, ◌<◌, ◌≤◌, ◌+◌, ◌∷◌, ℕ, List, Ok, Some, IfOk, IfErr, OnOk, OnErr, false};
 ghost use Rattle.gn_outside.specs.States.{SourceState};
-ghost use Rattle.gn_runs.specs.Runs.{Question as Asked};
-ghost use Rattle.gn_core.specs.Keys.{Read, Import, Layer};
+ghost use Rattle.gn_runs.specs.Runs.{Question as Asked, import_of};
+ghost use Rattle.gn_eval.specs.Ends.{asked_until as asked_for_import};
+ghost use Rattle.gn_core.specs.Keys.{Read, Import, Layer, no_value};
 ghost use Rattle.gn_core.specs.Machine.{File as filed, read_limit};
 ghost use Rattle.gn_book.specs.Keys.{key_of};
 ghost use Rattle.gn_book.specs.Graphs.{is_unit};
@@ -14,7 +15,7 @@ ghost use Rattle.gn_answers.specs.Answers.{meaning_of};
 ghost use Rattle.gn_load.specs.Current.{base_now};
 ghost use Rattle.gn_perform.specs.Kept.{asked_so_far, asked_for, AreKept, Stores};
 ghost use Rattle.gn_perform.specs.Performing.{IsPerformedOver, KeepsFor, IsWorkOf};
-ghost use Rattle.gn_load.specs.Turns.{TakesAs, IsNeeded, Goes, Settles, ReadsAs, IsRead, IsKnownAt, IsFiledFrom, IsReadOnce, Waits, IsLifted, IsTurn, IsReadFor, IsFinish};
+ghost use Rattle.gn_load.specs.Turns.{TakesAs, AwaitsImport, IsNeeded, Goes, Settles, ReadsAs, IsRead, IsKnownAt, IsFiledFrom, IsReadOnce, Waits, IsLifted, IsTurn, IsReadFor, IsFinish};
 
 use crate::current::CurrentBase;
 use gn_answers::{Answer, FileContent, Filed, PerformStop};
@@ -314,6 +315,94 @@ fn copy_call(alloc: Global, on: &Key, place: &Place) -> Result<(Path, Place), Al
     Ok((path, place))
 }
 
+// The key of a claim needs an import: the seat claims that too, or the wait closes a cycle. The path of the file that is imported comes beside.
+fn take_import(
+    alloc: Global,
+    book: &mut Book<Answer>,
+    claim: &Claim,
+    on: Key,
+    place: &Place,
+) -> Result<(Option<Claim>, Path), AllocError>
+    requires named { (layer : Layer) × (path : List ℕ) × (key_of on ≡ Import layer path) }
+    requires claim { IsClaim book.old claim.now }
+    requires lacked { IsLacked book.old claim.now (key_of on) }
+    ensures { IfOk result (λ taken. ((layer : Layer) × (key_of on ≡ Import layer taken.1)) × TakesAs book.old book.new claim.now (key_of on) place.now taken.0) }
+{
+    let call = copy_call(alloc, &on, place)?;
+    let other = take(book, claim, on, call.1)?;
+    Ok((other, call.0))
+}
+
+// The first claim waits for another one of the seat. What is kept of its execution is stored.
+fn store_and_wait(
+    alloc: Global,
+    driver: &mut Driver,
+    claim: Claim,
+    other: Claim,
+    kept: Kept,
+    rests: &mut VecDeque<KeyRest>,
+) -> Result<Option<Claim>, AllocError>
+    ensures waits { IfOk result (Waits driver.old driver.new claim other) }
+    ensures rests { OnOk result (Stores claim.key kept rests.old.items rests.new.items) }
+{
+    match store(alloc, rests, &claim.key, kept) {
+        Ok(()) => wait_for(driver, claim, other),
+        Err(error) => {
+            drop(other);
+            drop(claim);
+            Err(error)
+        }
+    }
+}
+
+// The first claim has no value, since the import at the path doesn't. Its answer is filed.
+fn settle_without_value(
+    alloc: Global,
+    driver: &mut Driver,
+    claim: Claim,
+    path: Path,
+    place: Place,
+    kept: Kept,
+) -> Result<Option<Claim>, AllocError>
+    requires { IsClaim driver.old.book claim }
+    ensures { IfOk result (Settles driver.old driver.new claim (no_value path place (asked_for_import (import_of path) (asked_so_far kept)))) }
+{
+    match asked_until(alloc, kept, &path) {
+        Ok(asked) => settle(alloc, driver, claim, Filed::NoValue(path, place, asked)),
+        Err(error) => {
+            drop(place);
+            drop(path);
+            drop(claim);
+            Err(error)
+        }
+    }
+}
+
+// What becomes of the first claim once an import was taken that it needs, or its wait has closed a cycle.
+fn await_import(
+    alloc: Global,
+    driver: &mut Driver,
+    claim: Claim,
+    taken: (Option<Claim>, Path),
+    place: Place,
+    kept: Kept,
+    rests: &mut VecDeque<KeyRest>,
+) -> Result<Option<Claim>, AllocError>
+    requires { taken.0 ≡ None → IsClaim driver.old.book claim }
+    ensures turn { IfOk result (AwaitsImport driver.old driver.new claim taken.1 place (asked_for_import (import_of taken.1) (asked_so_far kept)) taken.0) }
+    ensures rests { OnOk result (Stores claim.key kept rests.old.items rests.new.items) }
+{
+    let (other, path) = taken;
+    match other {
+        Some(other) => {
+            drop(path);
+            drop(place);
+            store_and_wait(alloc, driver, claim, other, kept, rests)
+        }
+        None => settle_without_value(alloc, driver, claim, path, place, kept),
+    }
+}
+
 // The first claim needs an import: the seat claims that too, or the wait closes a cycle, and the first claim has no value. What is kept of its
 // execution is stored.
 fn need_import(
@@ -332,15 +421,13 @@ fn need_import(
         IsNeeded driver.old.base.start driver.old.book claim (key_of on) place (asked_for (key_of on) (asked_so_far kept)) → IsTurn known before now driver.old driver.new (Ok next)) }
     ensures rests { OnOk result (Stores claim.key kept rests.old.items rests.new.items) }
 {
-    let call = copy_call(alloc, &on, &place)?;
-    match take(&mut driver.book, &claim, on, call.1)? {
-        Some(other) => {
-            store(alloc, rests, &claim.key, kept)?;
-            wait_for(driver, claim, other)
-        }
-        None => {
-            let asked = asked_until(alloc, kept, &call.0)?;
-            settle(alloc, driver, claim, Filed::NoValue(call.0, place, asked))
+    match take_import(alloc, &mut driver.book, &claim, on, &place) {
+        Ok(taken) => await_import(alloc, driver, claim, taken, place, kept, rests),
+        Err(error) => {
+            drop(kept);
+            drop(place);
+            drop(claim);
+            Err(error)
         }
     }
 }
