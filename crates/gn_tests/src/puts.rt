@@ -215,6 +215,39 @@ const FAULTS: &str = runs! {
         "//a/BUILD.gn": "group(\"b\") {\n}\ntoolchain(\"u\") {\n  tool(\"stamp\") {\n    command = \"touch {{output}}\"\n  }\n}\n",
         "//z/BUILD.gn": "group(\"b\") {\n}\ntoolchain(\"u\") {\n  tool(\"stamp\") {\n    command = \"touch {{output}}\"\n  }\n}\n",
         puts => 1 "ERROR at //z/BUILD.gn:3:1: Output \"//out/u/toolchain.ninja\" is made twice.\n";
+    // A name that begins with the prefix of its tool has it once.
+    "gen out",
+        "//t/BUILD.gn": "toolchain(\"t\") {\n  tool(\"alink\") {\n    command = \"ar {{output}}\"\n    outputs = [ \"{{target_output_name}}\" ]\n    output_prefix = \"lib\"\n  }\n}\n",
+        "//BUILD.gn": "static_library(\"libx\") {\n}\nstatic_library(\"x\") {\n}\n",
+        puts => 1 "ERROR at //BUILD.gn:3:1: Output \"//out/libx\" is made twice.\n";
+    // The stamp of an action is made too.
+    "gen out",
+        "//BUILD.gn": "write_file(\"out/obj/a.stamp\", \"\")\naction(\"a\") {\n  script = \"s.py\"\n  outputs = [ \"out/x\" ]\n}\n",
+        puts => 1 "ERROR at //BUILD.gn:1:1: Output \"//out/obj/a.stamp\" is made twice.\n";
+    // A tool that is lacking is told before a cycle, and what a target has by itself before an output that is made twice.
+    "gen out",
+        "//BUILD.gn": "executable(\"e\") {\n  sources = [ \"a.s\" ]\n  deps = [ \":e\" ]\n}\n",
+        puts => 1 "ERROR at //BUILD.gn:1:1: \"//:e\" needs \"asm\", which is not defined.\n";
+    "gen out",
+        "//BUILD.gn": "copy(\"c\") {\n  sources = [ \"a/x\", \"b/x\" ]\n  outputs = [ \"out/{{source_file_part}}\" ]\n  deps = [ \":no\" ]\n}\n",
+        puts => 1 "ERROR at //BUILD.gn:1:1: \"//:c\" needs \"//:no\", which is not defined.\n";
+    // Of two toolchains the first is told, and of its pools the first.
+    "gen out",
+        "//t/BUILD.gn":
+            "toolchain(\"t\") {\n  tool(\"copy\") {\n    command = \"x\"\n    pool = \"//:b\"\n  }\n  tool(\"stamp\") {\n    command = \"x\"\n    pool = \"//:a\"\n  }\n}\n"
+            "toolchain(\"u\") {\n  tool(\"stamp\") {\n    command = \"x\"\n    pool = \"//:a\"\n  }\n}\n",
+        "//BUILD.gn": "group(\"g\") {\n  deps = [ \":k(//t:u)\" ]\n}\ngroup(\"k\") {\n}\n",
+        puts => 1 "ERROR at //t/BUILD.gn:1:1: \"//t:t\" needs \"//:a\", which is not defined.\n";
+    // A default directory that is no path is told, and a text that uses it isn't looked at.
+    "gen out",
+        "//t/BUILD.gn": "toolchain(\"t\") {\n  tool(\"link\") {\n    command = \"x\"\n    outputs = [ \"../..{{output_dir}}\" ]\n    default_output_dir = \"\"\n  }\n}\n",
+        "//BUILD.gn": "executable(\"e\") {\n}\n",
+        puts => 1 "ERROR at //BUILD.gn:1:1: Invalid path.\n";
+    // Of two texts of a shared library the lesser fault is told.
+    "gen out",
+        "//t/BUILD.gn": "toolchain(\"t\") {\n  tool(\"solink\") {\n    command = \"x\"\n    outputs = [ \"a\" ]\n    link_output = \"\"\n    depend_output = \"../../a\"\n  }\n}\n",
+        "//BUILD.gn": "shared_library(\"s\") {\n}\n",
+        puts => 1 "ERROR at //BUILD.gn:1:1: Path is above the source root.\n";
 };
 
 // A sink that records what is put and said, in order: of a file its path, the byte 31, its bytes and the byte 29.
