@@ -12,7 +12,7 @@ use Rattle.std.proofs.lemmas.Option.{slice_get_within, slice_get-get_or, get_or_
 use Rattle.std.proofs.lemmas.Slice.Eq.{bytes_eq-Decides}
 use Rattle.gn_basics.proofs.Texts.{bytes_eq-itself}
 use Rattle.gn_text.specs.declared.names.Names.TheInside.{Inside}
-use Rattle.gn_text.specs.Kept.{texts_of, HasDistinctKeys}
+use Rattle.gn_text.specs.Kept.{texts_of}
 use Rattle.gn_text.specs.Names.{AllDifferent, with_name, number_of}
 
 -- two places with one text aren't in order, where no text is equal to a later one
@@ -89,7 +89,7 @@ found_key a name n h =
     found_at (texts_of a) name n (ap (λ m. cond (nat_lt m (length (texts_of a))) (Some m) None) (position_or_len-map (λ v. v.items) (bytes_eq name) a.texts.keys) ∙ ap (λ m. cond (nat_lt (position_or_len (λ k. bytes_eq name k.items) a.texts.keys) m) (Some (position_or_len (λ k. bytes_eq name k.items) a.texts.keys)) None) (length-map a.texts.keys (λ v. v.items)) ∙ h)
 
 -- a table's names are all different
-pub different : (a : Inside) → HasDistinctKeys a → AllDifferent (texts_of a)
+pub different : (a : Inside) → IsDistinct (λ x y. bytes_eq x.items y.items) a.texts.keys → AllDifferent (texts_of a)
 different a h = AllDifferent-map (λ v. v.items) a.texts.keys h
 
 -- the table after a text was put in

@@ -6,6 +6,7 @@ ghost use Rattle.std.specs.Option.{option_copied};
 ghost use Rattle.std.specs.Str.{bytes_eq};
 ghost use Rattle.gn_text.specs.Names.{AllDifferent, number_of, with_name};
 
+use crate::marks::Marks;
 use indexmap::IndexSet;
 use std::alloc::{AllocError, Global};
 use std::marker::Model;
@@ -19,6 +20,7 @@ pub type Name = usize;
 pub struct Names {
     alloc: Global,
     texts: IndexSet<Vec<u8>>,
+    marks: Marks,
 }
 
 impl Model for Names {
@@ -29,11 +31,11 @@ impl Model for Names {
 
     ghost coded = { coded_list (coded_list coded_ℕ) };
 
-    ghost use Rattle.gn_text.specs.Kept.{texts_of, HasDistinctKeys};
+    ghost use Rattle.gn_text.specs.Kept.{texts_of, KeepsNames};
 
     ghost view = { texts_of };
 
-    ghost invariant = { HasDistinctKeys };
+    ghost invariant = { KeepsNames };
 }
 
 impl Names {
@@ -44,6 +46,7 @@ impl Names {
         Names {
             alloc,
             texts: IndexSet::new(alloc),
+            marks: Marks::new(),
         }
     }
 
@@ -60,6 +63,7 @@ impl Names {
         }
         let text = Vec::from_slice(self.alloc, name)?;
         let (number, _) = self.texts.insert_full(text)?;
+        self.marks = self.marks.with(name);
         Ok(number)
     }
 
@@ -70,6 +74,9 @@ impl Names {
         ensures lacking { IfNone result (list_any (bytes_eq name.now) self.now ≡ false) }
         ensures different { AllDifferent self.now }
     {
+        if !self.marks.has(name) {
+            return None;
+        }
         self.texts.get_index_of(name)
     }
 

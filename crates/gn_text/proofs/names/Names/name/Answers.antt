@@ -3,10 +3,10 @@ use Rattle.gn_text.proofs.NamesLemmas.{different, slice_get-key}
 use Rattle.gn_text.proofs.names.Names.name.Goals as goal
 
 pub returns-in-Some-clause-different : goal.returns-in-Some-clause-different
-returns-in-Some-clause-different c = rw (← c.self.view_is) (different c.self.inside c.self.invariant)
+returns-in-Some-clause-different c = rw (← c.self.view_is) (different c.self.inside c.self.invariant.distinct)
 
 pub returns-in-None-clause-different : goal.returns-in-None-clause-different
-returns-in-None-clause-different c = rw (← c.self.view_is) (different c.self.inside c.self.invariant)
+returns-in-None-clause-different c = rw (← c.self.view_is) (different c.self.inside c.self.invariant.distinct)
 
 pub returns-in-None-clause-value : goal.returns-in-None-clause-value
 returns-in-None-clause-value c =
