@@ -21,7 +21,8 @@ module _ (k : List ℕ) (v : Val) where
   set_step : (b : List ℕ × Val) (bs : List (List ℕ × Val)) (r : Ordering) → order k b.0 ≡ r → with_entry (b ∷ bs) k v ≡ match_ordering r ((k, v) ∷ b ∷ bs) ((b.0, v) ∷ bs) (b ∷ with_entry bs k v)
   set_step b bs r h = ap (λ o. match_ordering o ((k, v) ∷ b ∷ bs) ((b.0, v) ∷ bs) (b ∷ with_entry bs k v)) h
 
-  all_with : (P : List ℕ → Type 0) (bs : List (List ℕ × Val)) → P k → AllByRecursion P (names_of bs) → AllByRecursion P (names_of (with_entry bs k v))
+  -- what holds of the names and of this one holds of all after it is set
+  pub all_with : (P : List ℕ → Type 0) (bs : List (List ℕ × Val)) → P k → AllByRecursion P (names_of bs) → AllByRecursion P (names_of (with_entry bs k v))
   all_with P [] p a = (p, tt)
   all_with P (b ∷ bs) p a = by_answer (order k b.0)
       (λ h. subst (λ (l : List (List ℕ × Val)). AllByRecursion P (names_of l)) (sym (set_step b bs Less h)) (p, a))
@@ -49,7 +50,8 @@ module _ (k : List ℕ) (v : Val) where
       (λ h. subst (λ (l : List (List ℕ × Val)). (depth_of v ≤ deepest_entry (binds_of l)) × (deepest_entry (binds_of l) ≤ max (deepest_entry (binds_of (b ∷ bs))) (depth_of v))) (sym (set_step b bs Equal h)) (omega arith, omega arith))
       (λ h. let r = depth_with bs in subst (λ (l : List (List ℕ × Val)). (depth_of v ≤ deepest_entry (binds_of l)) × (deepest_entry (binds_of l) ≤ max (deepest_entry (binds_of (b ∷ bs))) (depth_of v))) (sym (set_step b bs Greater h)) (omega arith, omega arith))
 
-  found_here : (b : List ℕ × Val) (bs : List (List ℕ × Val)) (r : Ordering) → order k b.0 ≡ r → value_at k (b ∷ bs) ≡ cond (is_eq r) (Some b.1) (value_at k bs)
+  -- a look at the first entry
+  pub found_here : (b : List ℕ × Val) (bs : List (List ℕ × Val)) (r : Ordering) → order k b.0 ≡ r → value_at k (b ∷ bs) ≡ cond (is_eq r) (Some b.1) (value_at k bs)
   found_here b bs r h = ap (λ o. cond (is_eq o) (Some b.1) (value_at k bs)) h
 
   -- with a new name it is as deep as the deeper of the two

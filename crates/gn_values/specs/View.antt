@@ -1,6 +1,8 @@
 -- What a value stands for, and what its parts keep.
 use Rattle.std.specs.Prelude.{◌≡◌, ℕ, List, map}
-use Rattle.gn_values.specs.Val.{Val, vbool, vint, vstr, vlist, vscope, vals_of, binds_of, list_depth, scope_depth}
+use Rattle.gn_text.specs.Marks.{AllMarked}
+use Rattle.gn_text.specs.declared.marks.Marks.{Marks}
+use Rattle.gn_values.specs.Val.{Val, vbool, vint, vstr, vlist, vscope, vals_of, binds_of, list_depth, scope_depth, names_of, IsSortedByName}
 use Rattle.gn_values.specs.Limits.{IsList, IsScope}
 use Rattle.gn_values.specs.declared.value.Value.{Value}
 use Rattle.gn_values.specs.declared.value.Value.TheVariants.{Bool, Int, Str, List as VList, Scope}
@@ -31,3 +33,8 @@ pub record KeepsItems (vs : List Val) (depth : ℕ) : Type 0 where
 pub record KeepsEntries (bs : List (List ℕ × Val)) (depth : ℕ) : Type 0 where
   pub counted : depth ≡ scope_depth bs
   pub limits : IsScope bs
+
+-- bindings are sorted, and the mark of each name is there
+pub record KeepsNames (bs : List (List ℕ × Val)) (marks : Marks) : Type 0 where
+  pub sorted : IsSortedByName bs
+  pub marked : AllMarked marks (names_of bs)

@@ -3,4 +3,4 @@ use Rattle.gn_values.proofs.bindings.Bindings.new.Goals as goal
 
 pub invariant_of-result : goal.invariant_of-result
 unfolding IsStrictlySortedBy
-invariant_of-result c = rw c.new.ensures.items tt
+invariant_of-result c = rw c.new.ensures.items (record { sorted = tt; marked = tt })
