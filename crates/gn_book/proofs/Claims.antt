@@ -1,11 +1,11 @@
 -- Claims are given, and stay.
-use Rattle.std.proofs.Common.{◌≡◌, ℕ, ◌<◌, ◌+◌, List, [], ◌∷◌, ◌++◌, length, Option, Some, None, unwrap_or, slice_get, if◌then◌else◌, Bool, true, false, cond, refl, sym, ◌∙◌, ap, subst, arith}
+use Rattle.std.proofs.Common.{◌≡◌, ℕ, ◌<◌, ◌+◌, List, [], ◌∷◌, ◌++◌, length, Option, Some, unwrap_or, slice_get, if◌then◌else◌, Bool, true, false, cond, refl, sym, ◌∙◌, ap, arith}
 use Rattle.std.specs.List.{list_any}
 use Rattle.std.proofs.lemmas.List.{length-append}
 use Rattle.gn_core.specs.Keys.{Key, Read, same_key, put}
 use Rattle.gn_core.specs.Machine.{State, Event, happens}
 use Rattle.gn_core.proofs.Puts.{same_key_is, put_own, put_grows, put_other}
-use Rattle.gn_book.specs.Logs.{Log, opening, state_of, key_at, with_key, with_event}
+use Rattle.gn_book.specs.Logs.{Log, opening, state_of, key_at, with_event}
 use Rattle.gn_book.specs.Claims.{HasClaim, ClaimsAreGiven, ClaimsStay}
 use Rattle.gn_book.proofs.Keeping.{replay_push}
 use Rattle.gn_book.proofs.Numbering.{get_more}

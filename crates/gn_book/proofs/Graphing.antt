@@ -5,7 +5,7 @@ use Rattle.std.specs.List.{list_any}
 use Rattle.std.proofs.lemmas.Bool.{cases_lt}
 use Rattle.std.proofs.lemmas.List.{length-append, append_assoc, append-nil}
 use Rattle.gn_closure.specs.Closure.{In}
-use Rattle.gn_closure.specs.Reach.{Unit_key, Setup, Load, Done, Fact, Is_reached, Is_wanted, Is_generated, Units, Holds}
+use Rattle.gn_closure.specs.Reach.{Unit_key, Done, Fact, Is_reached, Is_wanted, Is_generated, Units, Holds}
 use Rattle.gn_closure.specs.Ground.{Step, Holding, Asked, Used, Defined, Set_up}
 use Rattle.gn_closure.specs.Computed.{is_reached, same_unit, is_too_large}
 use Rattle.gn_graph.specs.Needs.{home}
@@ -14,17 +14,15 @@ use Rattle.gn_graph.specs.Graphs.{Answers}
 use Rattle.gn_graph.specs.Replies.{Reply, reply, units_in}
 use Rattle.gn_graph.specs.Laws.{MoreReachMore}
 use Rattle.gn_core.specs.Keys.{Key, Read, Import, Unit_of, Resolve, Answer, Filed, units, unit_in, same_key, put}
-use Rattle.gn_core.specs.Machine.{State, Event, Claim, Block, File, Stop, happens, replay}
+use Rattle.gn_core.specs.Machine.{State, Event, File, happens, replay}
 use Rattle.gn_book.specs.declared.event.Event.{Event as Logged}
 use Rattle.gn_book.specs.declared.event.Cause.{Cause as Reason}
-use Rattle.gn_book.specs.Standings.{Standing}
 use Rattle.gn_book.specs.Logs.{Log, opening, state_of, with_event, with_key}
 use Rattle.gn_book.specs.Books.{log_in, IsWhole}
 use Rattle.gn_book.specs.Rosters.{Table, with_number, with_key as with_more}
-use Rattle.gn_book.specs.NextLaws.{HasNumber}
 use Rattle.gn_book.specs.Graphs.{is_unit, with_told, with_answer, IsNew, IsGraphOf, UnitsHaveNumbers, HasMoreKeys, OnlyUnitsAreNew, with_fact, Looked, none, more, AreNumbered, IsGraphed}
 use Rattle.gn_book.proofs.Keeping.{replay_push}
-use Rattle.gn_book.proofs.Numbering.{get_more, get_last, found as has_number, number_step}
+use Rattle.gn_book.proofs.Numbering.{get_more, get_last, number_step}
 use Rattle.gn_book.proofs.Rostering.{got_within, at_end}
 use Rattle.gn_core.proofs.Puts.{same_key_is}
 

@@ -1,5 +1,5 @@
 -- The seats that have claimed keys.
-use Rattle.std.specs.Prelude.{◌≡◌, ℕ, ◌<◌, List, length, Some, Bool, false}
+use Rattle.std.specs.Prelude.{◌≡◌, ℕ, ◌<◌, length, Some, Bool}
 use Rattle.gn_paths.specs.declared.place.Place.{Place}
 use Rattle.gn_core.specs.Keys.{Key, Answer}
 use Rattle.gn_core.specs.Machine.{Claim, File, Stop, Cause}

@@ -159,19 +159,24 @@ impl<A: Answer> Book<A> {
     pub fn new(alloc: Global, seats: u32) -> Result<Book<A>, AllocError>
         ensures { IfOk result (λ book. book ≡ record { seats = seats; keys = []; events = [] }) }
     {
-        let graph = start_graph(alloc)?;
         let mut log = Vec::new(alloc);
         log.reserve(seats as usize)?;
-        Ok(Book {
-            alloc,
-            seats,
-            left: seats,
-            roster: Roster::new(alloc),
-            log,
-            stop: None,
-            graph,
-            seen: 0,
-        })
+        match start_graph(alloc) {
+            Ok(graph) => Ok(Book {
+                alloc,
+                seats,
+                left: seats,
+                roster: Roster::new(alloc),
+                log,
+                stop: None,
+                graph,
+                seen: 0,
+            }),
+            Err(error) => {
+                drop(log);
+                Err(error)
+            }
+        }
     }
 
     /// How many keys have numbers: the numbers are those below. It takes no memory.

@@ -83,10 +83,17 @@ fn add_unit<A: Answer>(
     ensures found { OnOk result (IsMore graph.old.found graph.new.found) }
     ensures err { OnErr result (graph.new ≡ graph.old) }
 {
-    match answer.mentions(alloc)? {
-        Mentions::NoUnit => Ok(()),
-        Mentions::Nothing => graph.add_answer(unit, None),
-        Mentions::Needs(needs) => graph.add_answer(unit, Some(needs)),
+    match answer.mentions(alloc) {
+        Ok(Mentions::NoUnit) => {
+            drop(unit);
+            Ok(())
+        }
+        Ok(Mentions::Nothing) => graph.add_answer(unit, None),
+        Ok(Mentions::Needs(needs)) => graph.add_answer(unit, Some(needs)),
+        Err(error) => {
+            drop(unit);
+            Err(error)
+        }
     }
 }
 

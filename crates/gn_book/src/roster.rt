@@ -188,7 +188,10 @@ impl<A: Answer> Roster<A> {
         ensures err { OnErr result (self.new ≡ self.old) }
     {
         match number_of(&self.keys, &key) {
-            Some(number) => Ok(number),
+            Some(number) => {
+                drop(key);
+                Ok(number)
+            }
             None => self.add(key),
         }
     }
@@ -200,12 +203,25 @@ impl<A: Answer> Roster<A> {
         ensures ok { OnOk result (self.new ≡ with_key self.old (key_of key)) }
         ensures err { OnErr result (self.new ≡ self.old) }
     {
-        make_places(&mut self.keys, &mut self.statuses)?;
+        match make_places(&mut self.keys, &mut self.statuses) {
+            Ok(()) => {}
+            Err(error) => {
+                drop(key);
+                return Err(error);
+            }
+        }
         let number = self.keys.len();
-        offer(self.alloc, &mut self.ready, &key, number)?;
-        put_key(&mut self.keys, key);
-        put_open(&mut self.statuses);
-        Ok(number)
+        match offer(self.alloc, &mut self.ready, &key, number) {
+            Ok(()) => {
+                put_key(&mut self.keys, key);
+                put_open(&mut self.statuses);
+                Ok(number)
+            }
+            Err(error) => {
+                drop(key);
+                Err(error)
+            }
+        }
     }
 
     // A seat claims an open key, of which a copy is given out. After want of memory nothing is changed.
@@ -217,9 +233,16 @@ impl<A: Answer> Roster<A> {
         ensures err { OnErr result (self.new ≡ self.old) }
     {
         let named = self.key(number).copy(self.alloc)?;
-        hold(&mut self.held, number, seat)?;
-        stand(&mut self.statuses, number, Status::Claimed(seat));
-        Ok(withdraw(&mut self.ready, named))
+        match hold(&mut self.held, number, seat) {
+            Ok(()) => {
+                stand(&mut self.statuses, number, Status::Claimed(seat));
+                Ok(withdraw(&mut self.ready, named))
+            }
+            Err(error) => {
+                drop(named);
+                Err(error)
+            }
+        }
     }
 
     // A key that a seat has claimed waits for another.

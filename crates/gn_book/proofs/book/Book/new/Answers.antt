@@ -12,5 +12,5 @@ invariant_of-result g c = (
       (vec_len c.reserve.new.self) (vec_capacity c.reserve.new.self)
       c.new.ensures (c.reserve.ensures.items ∙ c.new-log.ensures.items)
       (omega (arith, c.reserve.ensures.len, c.new-log.ensures.len)) (omega (arith, c.reserve.ensures.len, c.new-log.ensures.len, c.in_ok-reserve.ensures.ok)),
-  graphed_new _ c.args.seats c.in_ok-graph.graph (ap (λ (t : Table). log_in c.args.seats t.keys t.standings c.reserve.new.self.items) c.new.ensures ∙ ap (λ (z : List Logged). log_in c.args.seats [] [] z) (c.reserve.ensures.items ∙ c.new-log.ensures.items)) c.in_ok-graph.ensures,
+  graphed_new _ c.args.seats c.in-Ok.graph (ap (λ (t : Table). log_in c.args.seats t.keys t.standings c.reserve.new.self.items) c.new.ensures ∙ ap (λ (z : List Logged). log_in c.args.seats [] [] z) (c.reserve.ensures.items ∙ c.new-log.ensures.items)) c.in-Ok.ensures,
 )

@@ -1,6 +1,6 @@
-use Rattle.std.proofs.Common.{Result, Ok, Err, OnOk, vec_len, vec_capacity, ◌≡◌, length, ℕ, subst}
+use Rattle.std.proofs.Common.{vec_len, vec_capacity}
 use Rattle.gn_book.specs.Books.{log_in}
-use Rattle.gn_book.proofs.Graphing.{looked_at, all_looked_at, numbered_all}
+use Rattle.gn_book.proofs.Graphing.{looked_at, numbered_all}
 use Rattle.gn_book.proofs.book.Book.number_reached.Goals as goal
 
 pub number_facts-requires : goal.number_facts-requires
