@@ -9,6 +9,19 @@ use gn_labels::Label;
 use std::alloc::{AllocError, Global};
 use std::collections::BTreeMap;
 
+// Makes room for one more item. Where there is none it grows by half, since most files define few items.
+fn make_room(items: &mut Vec<Item>) -> Result<(), AllocError>
+    ensures items { items.new.items ≡ items.old.items }
+    ensures room { OnOk result (vec_len items.new < vec_capacity items.new) }
+{
+    let count = items.len();
+    if count < items.capacity() {
+        Ok(())
+    } else {
+        items.reserve_exact(count / 2 + 1)
+    }
+}
+
 /// Makes room for one more item, and puts down where it will stand, unless its label has a place. After want of memory nothing is
 /// changed.
 pub(crate) fn make_place(
@@ -22,7 +35,7 @@ pub(crate) fn make_place(
     ensures ok { OnOk result (IsNoted ⟦<Label as Ord>⟧.cmp places.old places.new label.now (length items.old.items)) }
     ensures err { OnErr result (IsUnchanged places.old places.new) }
 {
-    items.reserve(1)?;
+    make_room(items)?;
     note_place(alloc, places, label, items.as_slice().len())
 }
 
