@@ -100,11 +100,19 @@ pub fn resolve_all<'a>(
     requires ends { AllEnd (lent items.now) targets.now }
     ensures { IfOk result (AreResolved (given surroundings.entry) (lent items.now) targets.now) }
 {
-    let index = ItemIndex::of(alloc, items)?;
-    let graph = ItemGraph {
-        default: surroundings.default,
-        items: index,
-        records: Resolved::new(alloc),
-    };
-    resolved_in(alloc, frames, graph, targets)
+    let records = Resolved::with_room(alloc, targets.len())?;
+    match ItemIndex::of(alloc, items) {
+        Ok(index) => {
+            let graph = ItemGraph {
+                default: surroundings.default,
+                items: index,
+                records,
+            };
+            resolved_in(alloc, frames, graph, targets)
+        }
+        Err(error) => {
+            drop(records);
+            Err(error)
+        }
+    }
 }

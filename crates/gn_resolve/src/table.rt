@@ -1,6 +1,6 @@
 // What is kept of targets that are resolved.
 
-ghost use Rattle.std.specs.Prelude.{◌≡◌, List, option_map, OnOk, OnErr, None};
+ghost use Rattle.std.specs.Prelude.{◌≡◌, List, option_map, IfOk, OnOk, OnErr, None};
 ghost use Rattle.indexmap.specs.IndexMap.{IsUnchanged};
 ghost use Rattle.gn_labels.specs.declared.label.Label.{Label as Named};
 ghost use Rattle.gn_items.specs.declared.item.Item.{Item};
@@ -46,6 +46,16 @@ impl Resolved {
         Resolved {
             entries: IndexMap::new(alloc),
         }
+    }
+
+    // No target is resolved, and there is room for so many.
+    pub(crate) fn with_room(alloc: Global, count: usize) -> Result<Resolved, AllocError>
+        ensures none { IfOk result (λ r. (q : Named) → entry_in r q ≡ None) }
+        ensures held { IfOk result (λ r. (s : Surroundings) (items : List Item) → IsHeld s items r) }
+    {
+        let mut entries = IndexMap::new(alloc);
+        entries.reserve_exact(count)?;
+        Ok(Resolved { entries })
     }
 
     // What is kept of a label.

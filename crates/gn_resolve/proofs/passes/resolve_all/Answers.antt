@@ -16,17 +16,17 @@ resolved_in-requires c =
     let frames = c.args.frames.now in
     let ts = c.args.targets.now in
     record {
-      fit = fit_at frames s.default s.default items c.in_ok-index.index refl c.in_ok-index.ensures (fit_over s items ts frames c.requires.over);
-      held = c.new.ensures.held (surroundings_of frames) c.in_ok-index.index;
-      can = can_at frames items c.in_ok-index.index ts c.in_ok-index.ensures (can_over s items ts frames c.requires.over c.requires.closed c.requires.ends);
+      fit = fit_at frames s.default s.default items c.in-Ok.index refl c.in-Ok.ensures (fit_over s items ts frames c.requires.over);
+      held = c.in_ok-records.ensures.held (surroundings_of frames) c.in-Ok.index;
+      can = can_at frames items c.in-Ok.index ts c.in-Ok.ensures (can_over s items ts frames c.requires.over c.requires.closed c.requires.ends);
     }
 
-pub returns : goal.returns
-returns c =
+pub returns-in-Ok : goal.returns-in-Ok
+returns-in-Ok c =
     let s = surroundings c.args.surroundings in
     let items = lent c.args.items.now in
     let frames = c.args.frames.now in
     let ts = c.args.targets.now in
-    IfOk-weaker c.resolved_in.result (AreResolved (surroundings_of frames) c.in_ok-index.index ts) (AreResolved s items ts) (λ r all.
-    resolved_over s items ts frames c.requires.over r (subst (λ (z : List Item). AreResolved (surroundings_of frames) z ts r) c.in_ok-index.ensures all))
+    IfOk-weaker c.resolved_in.result (AreResolved (surroundings_of frames) c.in-Ok.index ts) (AreResolved s items ts) (λ r all.
+    resolved_over s items ts frames c.requires.over r (subst (λ (z : List Item). AreResolved (surroundings_of frames) z ts r) c.in-Ok.ensures all))
     c.resolved_in.ensures
