@@ -36,6 +36,8 @@ fn target_text(alloc: Global, written: Option<&Written>) -> Result<Text, AllocEr
     if let Some(written) = written {
         append_target(alloc, &mut text, written)?;
     }
+    // All files are held until the first one is put.
+    text.shrink_to_fit();
     Ok(Text::from_vec(text))
 }
 
