@@ -8,7 +8,7 @@ use Rattle.gn_closure.specs.Ground.{Step}
 use Rattle.gn_closure.specs.Computed.{same_unit, start_rules}
 use Rattle.gn_closure.proofs.SameStep.{unit_is, unit_own}
 use Rattle.gn_closure.proofs.Opened.{in_append}
-use Rattle.gn_graph.specs.Replies.{Reply, units_in, AreSingle, default_in, reply_rules, rules_by, all_rules, more_rules, after}
+use Rattle.gn_graph.specs.Replies.{Reply, units_in, AreSingle, default_in, named, reply_rules, rules_by, all_rules, more_rules, after}
 
 abbrev pub or_else : {A : Type 0} → Option A → Option A → Option A
 or_else None y = y
@@ -32,10 +32,6 @@ single_more rs r s n q i = units_in-append rs (r ∷ []) q.unit ∙ go (in_appen
     go (inl a) = ap (λ z. or_else z (units_in (r ∷ []) q.unit)) (s q a)
     go (inr (inl e)) = subst (λ (z : Reply). or_else (units_in rs z.unit) (units_in (r ∷ []) z.unit) ≡ Some z.done) e (ap (λ z. or_else z (units_in (r ∷ []) r.unit)) n ∙ own_in r)
     go (inr (inr b)) = absurd b
-
--- what an answer by itself names
-abbrev pub named : Reply → Option (List ℕ)
-named r = default_in (units_in (r ∷ []) (Setup []))
 
 not_named : (rs : List Reply) (r : Reply) (x : Option Done) → units_in rs r.unit ≡ None → units_in rs (Setup []) ≡ Some x → named r ≡ None
 not_named rs r x n e = by (same_unit r.unit (Setup [])) refl

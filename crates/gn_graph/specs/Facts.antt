@@ -1,7 +1,7 @@
 -- The code's facts and rules, as the rules of loading have them.
-use Rattle.std.specs.Prelude.{List, [], ◌∷◌, ◌++◌, map}
+use Rattle.std.specs.Prelude.{ℕ, List, [], ◌∷◌, ◌++◌, map}
 use Rattle.gn_closure.specs.Closure.{Horn}
-use Rattle.gn_closure.specs.Reach.{Unit_key, Setup, Load, label}
+use Rattle.gn_closure.specs.Reach.{source_root, Unit_key, Setup, Load, label}
 use Rattle.gn_closure.specs.Ground.{Step, Asked, Used, Defined, Set_up}
 use Rattle.gn_closure.specs.Computed.{is_reached, is_wanted, is_generated}
 use Rattle.gn_graph.specs.declared.unit_key.UnitKey.{UnitKey}
@@ -11,7 +11,14 @@ use Rattle.gn_graph.specs.declared.fact.Fact.TheVariants.{Reached, Wanted, Gener
 use Rattle.gn_graph.specs.declared.fact.Mention.{Mention}
 use Rattle.gn_graph.specs.declared.fact.Mention.TheVariants.{Reached as at_unit, ReachedSetup, ReachedFirst, ReachedLoad, Wanted as at_wanted, Generated as at_generated}
 use Rattle.gn_graph.specs.declared.fact.Mention.TheVariants.{Asked as at_asked, AskedFor, Used as at_used, Defined as at_defined, SetUp as at_set_up, SetUpFirst}
+use Rattle.gn_graph.specs.declared.fact.Place.{Place}
+use Rattle.gn_graph.specs.declared.fact.Place.TheVariants.{Dir, Home, Root}
+use Rattle.gn_graph.specs.declared.rule.Needs.{Needs}
+use Rattle.gn_graph.specs.declared.rule.Needs.TheVariants.{Nothing, One, Two, Three}
 use Rattle.gn_graph.specs.declared.rule.Rule.{Rule}
+use Rattle.gn_graph.specs.declared.rule.UnitRule.{UnitRule}
+use Rattle.gn_graph.specs.declared.rule.UnitRule.TheVariants.{Plain, Under}
+use Rattle.gn_graph.specs.Needs.{home}
 
 abbrev pub unit_of : UnitKey → Unit_key
 unit_of (setup_key toolchain) = Setup toolchain
@@ -26,13 +33,19 @@ step_of (used toolchain) = Used toolchain
 step_of (defined toolchain) = Defined toolchain
 step_of (SetUp toolchain) = Set_up toolchain
 
+-- the directory that is named
+abbrev pub place_of : Place → List ℕ
+place_of (Dir dir) = dir.now
+place_of (Home toolchain) = home toolchain.now
+place_of Root = source_root
+
 -- the fact that is named
 abbrev pub meant : Mention → Step
 meant (at_unit unit) = is_reached (unit_of unit.now)
 meant (ReachedSetup toolchain) = is_reached (Setup toolchain.now)
 meant ReachedFirst = is_reached (Setup [])
-meant (ReachedLoad dir toolchain) = is_reached (Load dir.now toolchain.now)
-meant (at_wanted dir toolchain) = is_wanted dir.now toolchain.now
+meant (ReachedLoad dir toolchain) = is_reached (Load (place_of dir) toolchain.now)
+meant (at_wanted dir toolchain) = is_wanted (place_of dir) toolchain.now
 meant (at_generated dir name toolchain) = is_generated (label dir.now name.now toolchain.now)
 meant (at_asked l) = Asked l.now
 meant (AskedFor dir name toolchain) = Asked (label dir.now name.now toolchain.now)
@@ -41,8 +54,15 @@ meant (at_defined toolchain) = Defined toolchain.now
 meant (at_set_up toolchain) = Set_up toolchain.now
 meant SetUpFirst = Set_up []
 
+-- the facts that a rule needs
+abbrev pub needed : Needs → List Step
+needed Nothing = []
+needed (One a) = meant a ∷ []
+needed (Two a b) = meant a ∷ meant b ∷ []
+needed (Three a b c) = meant a ∷ meant b ∷ meant c ∷ []
+
 abbrev pub horn_in : Rule → Horn Step
-horn_in r = record { needs = map step_of r.needs.items; gives = step_of r.gives }
+horn_in r = record { needs = needed r.needs; gives = meant r.gives }
 
 abbrev pub rules_in : List Rule → List (Horn Step)
 rules_in rs = map horn_in rs
@@ -50,6 +70,13 @@ rules_in rs = map horn_in rs
 -- the rule that needs also that the unit is reached
 abbrev pub under : Unit_key → Horn Step → Horn Step
 under unit h = record { needs = h.needs ++ is_reached unit ∷ []; gives = h.gives }
+
+abbrev pub unit_horn : UnitRule → Horn Step
+unit_horn (Plain r) = horn_in r
+unit_horn (Under unit r) = under (unit_of unit.now) (horn_in r)
+
+abbrev pub unit_rules_in : List UnitRule → List (Horn Step)
+unit_rules_in rs = map unit_horn rs
 
 abbrev pub steps_in : List Fact → List Step
 steps_in facts = map step_of facts

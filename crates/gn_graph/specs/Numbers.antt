@@ -77,3 +77,9 @@ IsMore {A} old new = (rest : List A) × (new ≡ old ++ rest)
 pub record IsWhole (k : Known) : Type 0 where
   pub whole : (s : Step) → In k.found s ↔ Derived k.rules s
   pub once : IsTable k.found
+
+-- rules were added, and what follows from them
+pub record HasAdded (old new : Known) (more : List (Horn Step)) : Type 0 where
+  pub rules : new.rules ≡ old.rules ++ more
+  pub found : IsMore old.found new.found
+  pub whole : IsWhole new

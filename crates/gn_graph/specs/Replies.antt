@@ -31,6 +31,10 @@ default_in None = None
 default_in (Some None) = None
 default_in (Some (Some d)) = Some d.default
 
+-- what an answer by itself names
+abbrev pub named : Reply → Option (List ℕ)
+named r = default_in (units_in (r ∷ []) (Setup []))
+
 -- the rules of an answer, each of which needs that the unit is reached
 abbrev pub reply_rules : List ℕ → Reply → List (Horn Step)
 reply_rules default r = map (under r.unit) (unit_rules home default (Some r.done) r.unit)

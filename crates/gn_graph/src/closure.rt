@@ -7,15 +7,16 @@ ghost use Rattle.gn_closure.specs.Closure.{In};
 ghost use Rattle.gn_closure.specs.Ground.{Step};
 ghost use Rattle.gn_graph.specs.Clauses.{has, horn_of, horns, waits_at};
 ghost use Rattle.gn_graph.specs.Plans.{IsClosed, IsUsed, IsPlan};
-ghost use Rattle.gn_graph.specs.Facts.{rules_in, step_of, steps_in};
-ghost use Rattle.gn_graph.specs.Numbers.{Extends, StandFor, IsKnown, IsMore, IsTable, IsWhole, Derived};
+ghost use Rattle.gn_graph.specs.Facts.{unit_rules_in, step_of, steps_in};
+ghost use Rattle.gn_graph.specs.Numbers.{Extends, StandFor, IsTable, HasAdded, Derived};
 ghost use Rattle.std.specs.Option.{option_map};
 
 use crate::clause::{Clause, Uses, use_extra};
 use crate::consequences::{consequences, fact_at};
 use crate::fact::Fact;
+use crate::hints::Hints;
 use crate::numbering::all_numbered;
-use crate::rule::Rule;
+use crate::rule::UnitRule;
 use indexmap::IndexSet;
 use std::alloc::{AllocError, Global};
 use std::collections::BTreeMap;
@@ -32,20 +33,21 @@ struct Planned {
 fn make_plan(
     alloc: Global,
     facts: &mut IndexSet<Fact>,
+    hints: &mut Hints,
     clauses: &[Clause],
     holds: &IndexSet<usize>,
     uses: &mut Uses,
-    rules: Vec<Rule>,
+    rules: &[UnitRule<'_>],
 ) -> Result<Planned, AllocError>
     requires closed { IsClosed (horns clauses.now) (has holds.now.keys) }
     requires used { IsUsed (horns clauses.now) (waits_at uses.old) }
     ensures grows { Extends (steps_in facts.old.keys) (steps_in facts.new.keys) }
     ensures kept { (q j : ℕ) → has (waits_at uses.old q) j ≡ true → has (waits_at uses.new q) j ≡ true }
-    ensures stand { IfOk result (λ p. StandFor (steps_in facts.new.keys) (horns p.clauses.items) (rules_in rules.items)) }
+    ensures stand { IfOk result (λ p. StandFor (steps_in facts.new.keys) (horns p.clauses.items) (unit_rules_in rules.now)) }
     ensures used { IfOk result (λ p. IsUsed (horns clauses.now ++ horns p.clauses.items) (waits_at uses.new)) }
     ensures plan { IfOk result (λ p. IsPlan (horns clauses.now ++ horns p.clauses.items) (has holds.now.keys) p.new.keys) }
 {
-    let extra = all_numbered(alloc, facts, rules)?;
+    let extra = all_numbered(alloc, facts, hints, rules)?;
     use_extra(alloc, uses, clauses, &extra)?;
     let new = consequences(alloc, clauses, &extra, holds, uses)?;
     Ok(Planned {
@@ -68,12 +70,31 @@ fn commit(holds: &mut IndexSet<usize>, new: &IndexSet<usize>)
     }
 }
 
+// What was planned is done, or nothing is.
+fn carry_out(
+    clauses: &mut Vec<Clause>,
+    holds: &mut IndexSet<usize>,
+    plan: &mut Planned,
+) -> Result<(), AllocError>
+    requires distinct { IsDistinct nat_eq plan.old.new.keys }
+    requires fresh { (f : ℕ) → has plan.old.new.keys f ≡ true → has holds.old.keys f ≡ false }
+    ensures clauses { OnOk result (clauses.new.items ≡ clauses.old.items ++ plan.old.clauses.items) }
+    ensures holds { OnOk result (holds.new.keys ≡ holds.old.keys ++ plan.old.new.keys) }
+    ensures err { OnErr result ((clauses.new.items ≡ clauses.old.items) × (holds.new.keys ≡ holds.old.keys)) }
+{
+    holds.reserve(plan.new.len())?;
+    clauses.append(&mut plan.clauses)?;
+    commit(holds, &plan.new);
+    Ok(())
+}
+
 /// Rules, and all that follows from them.
 #[derive(Drop)]
 pub(crate) struct Closure {
     alloc: Global,
     // The facts that rules name: a fact's number is its place.
     facts: IndexSet<Fact>,
+    hints: Hints,
     clauses: Vec<Clause>,
     // The facts that hold, in the order in which they were found.
     holds: IndexSet<usize>,
@@ -99,6 +120,7 @@ impl Closure {
         Closure {
             alloc,
             facts: IndexSet::new(alloc),
+            hints: Hints::new(),
             clauses: Vec::new(alloc),
             holds: IndexSet::new(alloc),
             uses: BTreeMap::new(alloc),
@@ -106,26 +128,22 @@ impl Closure {
     }
 
     /// More rules, and what follows. After want of memory nothing is changed.
-    pub(crate) fn add(&mut self, rules: Vec<Rule>) -> Result<(), AllocError>
-        ensures rules { OnOk result (self.new.rules ≡ self.old.rules ++ rules_in rules.items) }
-        ensures found { OnOk result (IsMore self.old.found self.new.found) }
-        ensures whole { OnOk result (IsWhole self.new) }
+    pub(crate) fn add(&mut self, rules: &[UnitRule<'_>]) -> Result<(), AllocError>
+        ensures added { OnOk result (HasAdded self.old self.new (unit_rules_in rules.now)) }
         ensures err { OnErr result (self.new ≡ self.old) }
     {
-        let Planned {
-            clauses: mut extra,
-            new,
-        } = make_plan(
+        let mut plan = make_plan(
             self.alloc,
             &mut self.facts,
+            &mut self.hints,
             &self.clauses,
             &self.holds,
             &mut self.uses,
             rules,
         )?;
-        self.holds.reserve(new.len())?;
-        self.clauses.append(&mut extra)?;
-        commit(&mut self.holds, &new);
+        let done = carry_out(&mut self.clauses, &mut self.holds, &mut plan);
+        drop(plan);
+        done?;
         Ok(())
     }
 

@@ -3,10 +3,11 @@
 ghost use Rattle.std.specs.Prelude.{◌≡◌, IfOk};
 ghost use Rattle.gn_closure.specs.Reach.{Setup, Load, label};
 ghost use Rattle.gn_closure.specs.Ground.{Asked, Used, Defined, Set_up};
-ghost use Rattle.gn_graph.specs.Facts.{step_of, unit_of, meant};
+ghost use Rattle.gn_graph.specs.Facts.{step_of, unit_of, place_of, meant};
 ghost use Rattle.gn_closure.specs.Computed.{is_reached, is_wanted, is_generated};
 
-use crate::unit_key::{UnitKey, load_key, setup_key};
+use crate::home::home;
+use crate::unit_key::{UnitKey, setup_key};
 use gn_labels::Label;
 use gn_paths::{Path, Text};
 use std::alloc::{AllocError, Global};
@@ -30,6 +31,31 @@ pub enum Fact {
     SetUp(Text),
 }
 
+/// Names a directory by a reference.
+#[derive(Clone, Copy)]
+pub(crate) enum Place<'a> {
+    /// The directory itself.
+    Dir(&'a Path),
+    /// The directory of the file that defines the toolchain.
+    Home(&'a Text),
+    /// The source root.
+    Root,
+}
+
+impl Place<'_> {
+    /// The directory that is named.
+    #[tactic(auto, unfolding(gn_closure::specs::Reach::source_root))]
+    pub(crate) fn path(self, alloc: Global) -> Result<Path, AllocError>
+        ensures { IfOk result (λ dir. dir ≡ place_of self.entry) }
+    {
+        match self {
+            Place::Dir(dir) => dir.copy(alloc),
+            Place::Home(toolchain) => home(alloc, toolchain),
+            Place::Root => Path::root(alloc),
+        }
+    }
+}
+
 /// Names a fact by references.
 #[derive(Clone, Copy)]
 pub(crate) enum Mention<'a> {
@@ -40,9 +66,9 @@ pub(crate) enum Mention<'a> {
     /// That of the default toolchain is reached.
     ReachedFirst,
     /// The build file of the directory is reached under the toolchain.
-    ReachedLoad(&'a Path, &'a Text),
+    ReachedLoad(Place<'a>, &'a Text),
     /// The directory's build file is wanted under the toolchain.
-    Wanted(&'a Path, &'a Text),
+    Wanted(Place<'a>, &'a Text),
     /// The target is generated: its directory, name and toolchain.
     Generated(&'a Path, &'a Text, &'a Text),
     /// A generated target depends on the label.
@@ -106,16 +132,18 @@ fn reached_setup(alloc: Global, toolchain: &Text) -> Result<Fact, AllocError>
     Ok(Fact::Reached(setup_key(alloc, toolchain)?))
 }
 
-fn reached_load(alloc: Global, dir: &Path, toolchain: &Text) -> Result<Fact, AllocError>
-    ensures { IfOk result (λ fact. step_of fact ≡ is_reached (Load dir.now toolchain.now)) }
+fn reached_load(alloc: Global, dir: Place<'_>, toolchain: &Text) -> Result<Fact, AllocError>
+    ensures { IfOk result (λ fact. step_of fact ≡ is_reached (Load (place_of dir.entry) toolchain.now)) }
 {
-    Ok(Fact::Reached(load_key(alloc, dir, toolchain)?))
+    let dir = dir.path(alloc)?;
+    let toolchain = toolchain.copy(alloc)?;
+    Ok(Fact::Reached(UnitKey::Load(dir, toolchain)))
 }
 
-fn wanted(alloc: Global, dir: &Path, toolchain: &Text) -> Result<Fact, AllocError>
-    ensures { IfOk result (λ fact. step_of fact ≡ is_wanted dir.now toolchain.now) }
+fn wanted(alloc: Global, dir: Place<'_>, toolchain: &Text) -> Result<Fact, AllocError>
+    ensures { IfOk result (λ fact. step_of fact ≡ is_wanted (place_of dir.entry) toolchain.now) }
 {
-    let dir = dir.copy(alloc)?;
+    let dir = dir.path(alloc)?;
     let toolchain = toolchain.copy(alloc)?;
     Ok(Fact::Wanted(dir, toolchain))
 }

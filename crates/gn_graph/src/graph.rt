@@ -6,18 +6,19 @@ ghost use Rattle.gn_closure.specs.Reach.{Setup, Fact as Held, Holds};
 ghost use Rattle.gn_closure.specs.Ground.{Holding};
 ghost use Rattle.gn_closure.specs.Computed.{holds_in, is_too_large, load_limit, setup_limit};
 ghost use Rattle.gn_closure.specs.Least.{IsTooLarge};
-ghost use Rattle.gn_graph.specs.Facts.{step_of, unit_of, rules_in};
+ghost use Rattle.gn_graph.specs.Facts.{step_of, unit_of, unit_rules_in};
 ghost use Rattle.gn_graph.specs.Needs.{home, done_in};
-ghost use Rattle.gn_graph.specs.Numbers.{IsMore, IsTable};
-ghost use Rattle.gn_graph.specs.Replies.{reply, units_in, rules_by, reply_rules, more_rules, default_in, after};
+ghost use Rattle.gn_graph.specs.Numbers.{IsMore, IsTable, HasAdded};
+ghost use Rattle.gn_graph.specs.Replies.{reply, units_in, rules_by, reply_rules, more_rules, named, after};
 ghost use Rattle.gn_graph.specs.Graphs.{reply_of};
 ghost use Rattle.gn_graph.specs.Counts.{AreCounts};
 
 use crate::closure::Closure;
 use crate::counts::{Counts, counted};
+use crate::default_toolchain::DefaultToolchain;
 use crate::fact::{Fact, Mention};
 use crate::needs::UnitNeeds;
-use crate::rule::{Rule, put};
+use crate::rule::{Needs, Rule, UnitRule};
 use crate::unit_key::UnitKey;
 use crate::unit_rules::unit_rules;
 use gn_paths::Text;
@@ -44,57 +45,91 @@ pub(crate) struct Answered {
     pub(crate) needs: Option<UnitNeeds>,
 }
 
-// The rules of an answer.
-fn rules_of(alloc: Global, default: &Text, answered: &Answered) -> Result<Vec<Rule>, AllocError>
-    ensures { IfOk result (λ rules. rules_in rules.items ≡ reply_rules default.now (reply_of answered.now)) }
+// The rules of an answer are put behind the others.
+fn rules_of<'a>(
+    alloc: Global,
+    default: &'a DefaultToolchain,
+    answered: &'a Answered,
+    rules: &mut Vec<UnitRule<'a>>,
+) -> Result<(), AllocError>
+    ensures { OnOk result (unit_rules_in rules.new.items ≡ unit_rules_in rules.old.items ++ reply_rules default.now (reply_of answered.now)) }
 {
     match &answered.needs {
-        None => Ok(Vec::new(alloc)),
-        Some(needs) => unit_rules(alloc, default, &answered.unit, needs),
+        None => Ok(()),
+        Some(needs) => unit_rules(alloc, default, &answered.unit, needs, rules),
     }
 }
 
-// The rules of all that was answered, and of one more answer.
-fn all_rules(
+// The rules of all that was answered.
+fn all_rules<'a>(
     alloc: Global,
-    default: &Text,
-    answers: &[Answered],
-    last: &Answered,
-) -> Result<Vec<Rule>, AllocError>
-    ensures { IfOk result (λ rules. rules_in rules.items ≡ rules_by (Some default.now) (map reply_of answers.now ++ reply_of last.now ∷ [])) }
+    default: &'a DefaultToolchain,
+    answers: &'a [Answered],
+    rules: &mut Vec<UnitRule<'a>>,
+) -> Result<(), AllocError>
+    ensures { OnOk result (unit_rules_in rules.new.items ≡ unit_rules_in rules.old.items ++ rules_by (Some default.now) (map reply_of answers.now)) }
 {
-    let mut rules = Vec::new(alloc);
     for answered in answers {
-        let mut more = rules_of(alloc, default, answered)?;
-        rules.append(&mut more)?;
+        rules_of(alloc, default, answered, rules)?;
     }
-    let mut more = rules_of(alloc, default, last)?;
-    rules.append(&mut more)?;
-    Ok(rules)
+    Ok(())
+}
+
+// Those, and the rules of one more answer.
+fn waiting_rules<'a>(
+    alloc: Global,
+    default: &'a DefaultToolchain,
+    answers: &'a [Answered],
+    last: &'a Answered,
+    rules: &mut Vec<UnitRule<'a>>,
+) -> Result<(), AllocError>
+    ensures { OnOk result (unit_rules_in rules.new.items ≡ unit_rules_in rules.old.items ++ rules_by (Some default.now) (map reply_of answers.now ++ reply_of last.now ∷ [])) }
+{
+    all_rules(alloc, default, answers, rules)?;
+    rules_of(alloc, default, last, rules)
 }
 
 // The rules that one more answer adds.
-fn added_rules(
+fn added_rules<'a>(
     alloc: Global,
-    before: Option<&Text>,
-    after: Option<&Text>,
-    answers: &[Answered],
-    last: &Answered,
-) -> Result<Vec<Rule>, AllocError>
-    ensures { IfOk result (λ rules. rules_in rules.items ≡ more_rules (option_copied before.entry) (option_copied after.entry) (map reply_of answers.now) (reply_of last.now)) }
+    before: Option<&'a DefaultToolchain>,
+    after: Option<&'a DefaultToolchain>,
+    answers: &'a [Answered],
+    last: &'a Answered,
+    rules: &mut Vec<UnitRule<'a>>,
+) -> Result<(), AllocError>
+    ensures { OnOk result (unit_rules_in rules.new.items
+        ≡ unit_rules_in rules.old.items ++ more_rules (option_copied before.entry) (option_copied after.entry) (map reply_of answers.now) (reply_of last.now)) }
 {
     match before {
-        Some(default) => rules_of(alloc, default, last),
+        Some(default) => rules_of(alloc, default, last, rules),
         None => match after {
-            None => Ok(Vec::new(alloc)),
-            Some(default) => all_rules(alloc, default, answers, last),
+            None => Ok(()),
+            Some(default) => waiting_rules(alloc, default, answers, last, rules),
         },
     }
 }
 
+// The rules of one more answer are added, and what follows from them.
+fn follow(
+    alloc: Global,
+    closure: &mut Closure,
+    before: Option<&DefaultToolchain>,
+    after: Option<&DefaultToolchain>,
+    answers: &[Answered],
+    last: &Answered,
+) -> Result<(), AllocError>
+    ensures added { OnOk result (HasAdded closure.old closure.new (more_rules (option_copied before.entry) (option_copied after.entry) (map reply_of answers.now) (reply_of last.now))) }
+    ensures err { OnErr result (closure.new ≡ closure.old) }
+{
+    let mut rules = Vec::new(alloc);
+    added_rules(alloc, before, after, answers, last, &mut rules)?;
+    closure.add(&rules)
+}
+
 // The default toolchain that an answer names.
 fn named(answered: &Answered) -> Option<&Text>
-    ensures { option_copied result ≡ default_in (units_in (reply_of answered.now ∷ []) (Setup [])) }
+    ensures { option_copied result ≡ named (reply_of answered.now) }
 {
     match &answered.unit {
         UnitKey::Load(_, _) => None,
@@ -111,17 +146,34 @@ fn named(answered: &Answered) -> Option<&Text>
     }
 }
 
-fn copy_text(alloc: Global, text: Option<&Text>) -> Result<Option<Text>, AllocError>
-    ensures { IfOk result (λ t. t ≡ option_copied text.entry) }
+fn default_of(alloc: Global, name: Option<&Text>) -> Result<Option<DefaultToolchain>, AllocError>
+    ensures { IfOk result (λ t. t ≡ option_copied name.entry) }
 {
-    match text {
+    match name {
         None => Ok(None),
-        Some(text) => Ok(Some(text.copy(alloc)?)),
+        Some(name) => Ok(Some(DefaultToolchain::new(alloc, name)?)),
     }
 }
 
+// One more answer's rules are added. The default toolchain is told that the answer names.
+fn follow_named(
+    alloc: Global,
+    closure: &mut Closure,
+    before: Option<&DefaultToolchain>,
+    answers: &[Answered],
+    last: &Answered,
+) -> Result<Option<DefaultToolchain>, AllocError>
+    ensures named { IfOk result (λ default. default ≡ named (reply_of last.now)) }
+    ensures added { OnOk result (HasAdded closure.old closure.new (more_rules (option_copied before.entry) (named (reply_of last.now)) (map reply_of answers.now) (reply_of last.now))) }
+    ensures err { OnErr result (closure.new ≡ closure.old) }
+{
+    let default = default_of(alloc, named(last))?;
+    follow(alloc, closure, before, default.as_ref(), answers, last)?;
+    Ok(default)
+}
+
 // The default toolchain stays once it is named.
-fn set_default(default: &mut Option<Text>, named: Option<Text>)
+fn set_default(default: &mut Option<DefaultToolchain>, named: Option<DefaultToolchain>)
     ensures { default.new ≡ after default.old named }
 {
     if default.is_none() {
@@ -137,13 +189,57 @@ fn keep(answers: &mut Vec<Answered>, answered: Answered)
     let _ = answers.push(answered);
 }
 
+// One more answer's rules are added, and there is room for it.
+fn follow_with_room(
+    alloc: Global,
+    closure: &mut Closure,
+    before: Option<&DefaultToolchain>,
+    answers: &mut Vec<Answered>,
+    last: &Answered,
+) -> Result<Option<DefaultToolchain>, AllocError>
+    ensures named { IfOk result (λ default. default ≡ named (reply_of last.now)) }
+    ensures room { OnOk result (vec_len answers.new < vec_capacity answers.new) }
+    ensures items { answers.new.items ≡ answers.old.items }
+    ensures added { OnOk result (HasAdded closure.old closure.new (more_rules (option_copied before.entry) (named (reply_of last.now)) (map reply_of answers.old.items) (reply_of last.now))) }
+    ensures err { OnErr result (closure.new ≡ closure.old) }
+{
+    answers.reserve(1)?;
+    follow_named(alloc, closure, before, answers, last)
+}
+
+// One more answer and its rules.
+fn take(
+    alloc: Global,
+    closure: &mut Closure,
+    before: Option<&DefaultToolchain>,
+    answers: &mut Vec<Answered>,
+    answered: Answered,
+) -> Result<Option<DefaultToolchain>, AllocError>
+    ensures named { IfOk result (λ default. default ≡ named (reply_of answered)) }
+    ensures answers { OnOk result (answers.new.items ≡ answers.old.items ++ answered ∷ []) }
+    ensures added { OnOk result (HasAdded closure.old closure.new (more_rules (option_copied before.entry) (named (reply_of answered)) (map reply_of answers.old.items) (reply_of answered))) }
+    ensures err { OnErr result ((closure.new ≡ closure.old) × (answers.new.items ≡ answers.old.items)) }
+{
+    let followed = follow_with_room(alloc, closure, before, answers, &answered);
+    match followed {
+        Ok(default) => {
+            keep(answers, answered);
+            Ok(default)
+        }
+        Err(error) => {
+            drop(answered);
+            Err(error)
+        }
+    }
+}
+
 /// Which units are reached and which labels are generated over the answers of units that were added. It keeps the answers,
 /// and the facts that hold over them, in the order in which they were found. Each answer is looked at once, and so is each edge.
 #[derive(Drop)]
 pub struct Graph {
     alloc: Global,
     answers: Vec<Answered>,
-    default: Option<Text>,
+    default: Option<DefaultToolchain>,
     closure: Closure,
     counts: Counts,
 }
@@ -173,14 +269,18 @@ fn all_counted(closure: &Closure) -> Counts
     )
 }
 
+// The default toolchain's build configuration is reached.
+const FIRST: UnitRule<'static> = UnitRule::Plain(Rule {
+    needs: Needs::Nothing,
+    gives: Mention::ReachedFirst,
+});
+
 /// The graph over no answers: the default toolchain's build configuration is reached.
 pub fn start_graph(alloc: Global) -> Result<Graph, AllocError>
     ensures { IfOk result (λ graph. graph.replies ≡ []) }
 {
-    let mut rules = Vec::new(alloc);
-    put(alloc, &mut rules, &[], Mention::ReachedFirst)?;
     let mut closure = Closure::new(alloc);
-    closure.add(rules)?;
+    closure.add(&[FIRST])?;
     let counts = all_counted(&closure);
     Ok(Graph {
         alloc,
@@ -201,20 +301,15 @@ impl Graph {
         ensures found { OnOk result (IsMore self.old.found self.new.found) }
         ensures err { OnErr result (self.new ≡ self.old) }
     {
-        let answered = Answered { unit, needs };
-        let default = copy_text(self.alloc, named(&answered))?;
-        let rules = added_rules(
+        let default = take(
             self.alloc,
+            &mut self.closure,
             self.default.as_ref(),
-            default.as_ref(),
-            &self.answers,
-            &answered,
+            &mut self.answers,
+            Answered { unit, needs },
         )?;
-        self.answers.reserve(1)?;
-        self.closure.add(rules)?;
         self.counts = counted(&self.closure, self.counts);
         set_default(&mut self.default, default);
-        keep(&mut self.answers, answered);
         Ok(())
     }
 

@@ -2,12 +2,14 @@
 
 ghost use Rattle.std.specs.Prelude.{◌≡◌, ◌++◌, IfOk, OnOk, Some, map, slice_get};
 ghost use Rattle.gn_graph.specs.Clauses.{horn_of, horns};
-ghost use Rattle.gn_graph.specs.Facts.{step_of, steps_in, horn_in, rules_in};
+ghost use Rattle.gn_graph.specs.Facts.{step_of, unit_of, meant, needed, steps_in, horn_in, under, unit_horn, unit_rules_in};
 ghost use Rattle.gn_graph.specs.Numbers.{Extends, AreAt, StandsFor, StandFor};
 
 use crate::clause::Clause;
-use crate::fact::Fact;
-use crate::rule::Rule;
+use crate::fact::{Fact, Mention};
+use crate::hints::{Hints, hinted};
+use crate::rule::{Needs, Rule, UnitRule};
+use crate::unit_key::UnitKey;
 use indexmap::IndexSet;
 use std::alloc::{AllocError, Global};
 
@@ -20,44 +22,129 @@ fn number(facts: &mut IndexSet<Fact>, fact: Fact) -> Result<usize, AllocError>
     Ok(number)
 }
 
+fn new_number(
+    alloc: Global,
+    facts: &mut IndexSet<Fact>,
+    mention: Mention<'_>,
+) -> Result<usize, AllocError>
+    ensures grows { Extends (steps_in facts.old.keys) (steps_in facts.new.keys) }
+    ensures at { IfOk result (λ n. slice_get (steps_in facts.new.keys) n ≡ Some (meant mention.entry)) }
+{
+    let fact = mention.fact(alloc)?;
+    number(facts, fact)
+}
+
+// The number of the fact that is named: it isn't made where it was named a moment ago.
+fn number_of(
+    alloc: Global,
+    facts: &mut IndexSet<Fact>,
+    hints: &mut Hints,
+    mention: Mention<'_>,
+) -> Result<usize, AllocError>
+    ensures grows { Extends (steps_in facts.old.keys) (steps_in facts.new.keys) }
+    ensures at { IfOk result (λ n. slice_get (steps_in facts.new.keys) n ≡ Some (meant mention.entry)) }
+{
+    if let Some(number) = hinted(facts, *hints, mention) {
+        return Ok(number);
+    }
+    let number = new_number(alloc, facts, mention)?;
+    hints.note(mention, number);
+    Ok(number)
+}
+
 fn numbers(
     alloc: Global,
     facts: &mut IndexSet<Fact>,
-    list: Vec<Fact>,
+    hints: &mut Hints,
+    list: &[Mention<'_>],
 ) -> Result<Vec<usize>, AllocError>
     ensures grows { Extends (steps_in facts.old.keys) (steps_in facts.new.keys) }
-    ensures at { IfOk result (λ numbers. AreAt (steps_in facts.new.keys) numbers.items (steps_in list.items)) }
+    ensures at { IfOk result (λ numbers. AreAt (steps_in facts.new.keys) numbers.items (map meant list.now)) }
 {
     let mut numbers = Vec::new(alloc);
-    for fact in list {
-        let number = number(facts, fact)?;
+    for mention in list {
+        let number = number_of(alloc, facts, hints, *mention)?;
         numbers.push(number)?;
     }
     Ok(numbers)
 }
 
-fn numbered(alloc: Global, facts: &mut IndexSet<Fact>, rule: Rule) -> Result<Clause, AllocError>
+fn needs_numbered(
+    alloc: Global,
+    facts: &mut IndexSet<Fact>,
+    hints: &mut Hints,
+    needs: Needs<'_>,
+) -> Result<Vec<usize>, AllocError>
     ensures grows { Extends (steps_in facts.old.keys) (steps_in facts.new.keys) }
-    ensures stands { IfOk result (λ clause. StandsFor (steps_in facts.new.keys) (horn_of clause) (horn_in rule)) }
+    ensures at { IfOk result (λ numbers. AreAt (steps_in facts.new.keys) numbers.items (needed needs.entry)) }
 {
-    let Rule { needs, gives } = rule;
-    let gives = number(facts, gives)?;
-    let needs = numbers(alloc, facts, needs)?;
+    match needs {
+        Needs::Nothing => Ok(Vec::new(alloc)),
+        Needs::One(a) => numbers(alloc, facts, hints, &[a]),
+        Needs::Two(a, b) => numbers(alloc, facts, hints, &[a, b]),
+        Needs::Three(a, b, c) => numbers(alloc, facts, hints, &[a, b, c]),
+    }
+}
+
+fn numbered(
+    alloc: Global,
+    facts: &mut IndexSet<Fact>,
+    hints: &mut Hints,
+    rule: &Rule<'_>,
+) -> Result<Clause, AllocError>
+    ensures grows { Extends (steps_in facts.old.keys) (steps_in facts.new.keys) }
+    ensures stands { IfOk result (λ clause. StandsFor (steps_in facts.new.keys) (horn_of clause) (horn_in rule.now)) }
+{
+    let gives = number_of(alloc, facts, hints, rule.gives)?;
+    let needs = needs_numbered(alloc, facts, hints, rule.needs)?;
     Ok(Clause { needs, gives })
+}
+
+// The rule, which needs also that the unit is reached.
+fn hung(
+    alloc: Global,
+    facts: &mut IndexSet<Fact>,
+    hints: &mut Hints,
+    unit: &UnitKey,
+    rule: &Rule<'_>,
+) -> Result<Clause, AllocError>
+    ensures grows { Extends (steps_in facts.old.keys) (steps_in facts.new.keys) }
+    ensures stands { IfOk result (λ clause. StandsFor (steps_in facts.new.keys) (horn_of clause) (under (unit_of unit.now) (horn_in rule.now))) }
+{
+    let unit = number_of(alloc, facts, hints, Mention::Reached(unit))?;
+    let mut clause = numbered(alloc, facts, hints, rule)?;
+    clause.needs.push(unit)?;
+    Ok(clause)
+}
+
+fn unit_numbered(
+    alloc: Global,
+    facts: &mut IndexSet<Fact>,
+    hints: &mut Hints,
+    rule: &UnitRule<'_>,
+) -> Result<Clause, AllocError>
+    ensures grows { Extends (steps_in facts.old.keys) (steps_in facts.new.keys) }
+    ensures stands { IfOk result (λ clause. StandsFor (steps_in facts.new.keys) (horn_of clause) (unit_horn rule.now)) }
+{
+    match rule {
+        UnitRule::Plain(rule) => numbered(alloc, facts, hints, rule),
+        UnitRule::Under(unit, rule) => hung(alloc, facts, hints, unit, rule),
+    }
 }
 
 /// The rules over numbers.
 pub(crate) fn all_numbered(
     alloc: Global,
     facts: &mut IndexSet<Fact>,
-    rules: Vec<Rule>,
+    hints: &mut Hints,
+    rules: &[UnitRule<'_>],
 ) -> Result<Vec<Clause>, AllocError>
     ensures grows { Extends (steps_in facts.old.keys) (steps_in facts.new.keys) }
-    ensures stand { IfOk result (λ clauses. StandFor (steps_in facts.new.keys) (horns clauses.items) (rules_in rules.items)) }
+    ensures stand { IfOk result (λ clauses. StandFor (steps_in facts.new.keys) (horns clauses.items) (unit_rules_in rules.now)) }
 {
     let mut clauses = Vec::new(alloc);
     for rule in rules {
-        let clause = numbered(alloc, facts, rule)?;
+        let clause = unit_numbered(alloc, facts, hints, rule)?;
         clauses.push(clause)?;
     }
     Ok(clauses)

@@ -2,121 +2,105 @@
 
 ghost use Rattle.std.specs.Prelude.{◌≡◌, ◌++◌, OnOk};
 ghost use Rattle.gn_closure.specs.Computed.{default_rules, other_rules, wanted_rules};
-ghost use Rattle.gn_graph.specs.Facts.{rules_in};
+ghost use Rattle.gn_graph.specs.Facts.{place_of, rules_in};
 ghost use Rattle.gn_graph.specs.Needs.{home, home_wanted, set_up_first};
 
-use crate::fact::Mention;
-use crate::home::home;
-use crate::rule::{Rule, put};
-use gn_paths::{Path, Text};
-use std::alloc::{AllocError, Global};
+use crate::default_toolchain::DefaultToolchain;
+use crate::fact::{Mention, Place};
+use crate::rule::{Needs, Rule, put};
+use gn_paths::Text;
+use std::alloc::AllocError;
 
 // Under the default toolchain the build file is reached.
 fn default_rules<'a>(
-    alloc: Global,
     default: &'a Text,
-    dir: &'a Path,
-    rules: &mut Vec<Rule>,
+    dir: Place<'a>,
+    rules: &mut Vec<Rule<'a>>,
 ) -> Result<(), AllocError>
-    ensures { OnOk result (rules_in rules.new.items ≡ rules_in rules.old.items ++ default_rules default.now dir.now) }
+    ensures { OnOk result (rules_in rules.new.items ≡ rules_in rules.old.items ++ default_rules default.now (place_of dir.entry)) }
 {
     put(
-        alloc,
         rules,
-        &[Mention::SetUpFirst, Mention::Wanted(dir, default)],
+        Needs::Two(Mention::SetUpFirst, Mention::Wanted(dir, default)),
         Mention::ReachedLoad(dir, default),
     )
 }
 
 // Under another one, the file that defines the toolchain is wanted.
 fn home_wanted<'a>(
-    alloc: Global,
     default: &'a Text,
-    home: &'a Path,
-    dir: &'a Path,
+    home: Place<'a>,
+    dir: Place<'a>,
     toolchain: &'a Text,
-    rules: &mut Vec<Rule>,
+    rules: &mut Vec<Rule<'a>>,
 ) -> Result<(), AllocError>
-    ensures { OnOk result (rules_in rules.new.items ≡ rules_in rules.old.items ++ home_wanted default.now home.now dir.now toolchain.now) }
+    ensures { OnOk result (rules_in rules.new.items ≡ rules_in rules.old.items ++ home_wanted default.now (place_of home.entry) (place_of dir.entry) toolchain.now) }
 {
     put(
-        alloc,
         rules,
-        &[Mention::SetUpFirst, Mention::Wanted(dir, toolchain)],
+        Needs::Two(Mention::SetUpFirst, Mention::Wanted(dir, toolchain)),
         Mention::Wanted(home, default),
     )?;
     put(
-        alloc,
         rules,
-        &[Mention::SetUpFirst, Mention::Wanted(home, default)],
+        Needs::Two(Mention::SetUpFirst, Mention::Wanted(home, default)),
         Mention::ReachedLoad(home, default),
     )
 }
 
 // Where it is defined there, its build configuration is reached, and once that is done the build file is.
 fn set_up_first<'a>(
-    alloc: Global,
-    dir: &'a Path,
+    dir: Place<'a>,
     toolchain: &'a Text,
-    rules: &mut Vec<Rule>,
+    rules: &mut Vec<Rule<'a>>,
 ) -> Result<(), AllocError>
-    ensures { OnOk result (rules_in rules.new.items ≡ rules_in rules.old.items ++ set_up_first dir.now toolchain.now) }
+    ensures { OnOk result (rules_in rules.new.items ≡ rules_in rules.old.items ++ set_up_first (place_of dir.entry) toolchain.now) }
 {
     put(
-        alloc,
         rules,
-        &[
+        Needs::Three(
             Mention::SetUpFirst,
             Mention::Wanted(dir, toolchain),
             Mention::Defined(toolchain),
-        ],
+        ),
         Mention::ReachedSetup(toolchain),
     )?;
     put(
-        alloc,
         rules,
-        &[
+        Needs::Three(
             Mention::SetUpFirst,
             Mention::Wanted(dir, toolchain),
             Mention::SetUp(toolchain),
-        ],
+        ),
         Mention::ReachedLoad(dir, toolchain),
     )
 }
 
-fn other_rules(
-    alloc: Global,
-    default: &Text,
-    dir: &Path,
-    toolchain: &Text,
-    rules: &mut Vec<Rule>,
+fn other_rules<'a>(
+    default: &'a Text,
+    dir: Place<'a>,
+    toolchain: &'a Text,
+    rules: &mut Vec<Rule<'a>>,
 ) -> Result<(), AllocError>
-    ensures { OnOk result (rules_in rules.new.items ≡ rules_in rules.old.items ++ other_rules home default.now dir.now toolchain.now) }
+    ensures { OnOk result (rules_in rules.new.items ≡ rules_in rules.old.items ++ other_rules home default.now (place_of dir.entry) toolchain.now) }
 {
-    home_wanted(
-        alloc,
-        default,
-        &home(alloc, toolchain)?,
-        dir,
-        toolchain,
-        rules,
-    )?;
-    set_up_first(alloc, dir, toolchain, rules)
+    home_wanted(default, Place::Home(toolchain), dir, toolchain, rules)?;
+    set_up_first(dir, toolchain, rules)
 }
 
 /// The rules for a directory that some answer wants under a toolchain.
-pub(crate) fn wanted_rules(
-    alloc: Global,
-    default: &Text,
-    dir: &Path,
-    toolchain: &Text,
-    rules: &mut Vec<Rule>,
+pub(crate) fn wanted_rules<'a>(
+    default: &'a DefaultToolchain,
+    dir: Place<'a>,
+    toolchain: &'a Text,
+    rules: &mut Vec<Rule<'a>>,
 ) -> Result<(), AllocError>
-    ensures { OnOk result (rules_in rules.new.items ≡ rules_in rules.old.items ++ wanted_rules home default.now dir.now toolchain.now) }
+    ensures { OnOk result (rules_in rules.new.items ≡ rules_in rules.old.items ++ wanted_rules home default.now (place_of dir.entry) toolchain.now) }
 {
+    let default = default.name();
     if toolchain == default {
-        default_rules(alloc, default, dir, rules)
+        default_rules(default, dir, rules)
     } else {
-        other_rules(alloc, default, dir, toolchain, rules)
+        other_rules(default, dir, toolchain, rules)
     }
 }

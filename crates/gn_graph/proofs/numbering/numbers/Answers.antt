@@ -1,26 +1,26 @@
-use Rattle.std.proofs.Common.{◌∷◌, ◌++◌, [], ℕ, List, sym, ap, subst, ◌∙◌}
-use Rattle.std.specs.Vec.Iter.{into_iter_items}
-use Rattle.std.proofs.lemmas.List.{append_assoc}
+use Rattle.std.proofs.Common.{◌≡◌, ◌+◌, ◌∷◌, ◌++◌, [], ℕ, List, map, take, sym, ap, subst, ◌∙◌, arith}
+use Rattle.std.proofs.lemmas.List.{take_more, map-append}
 use Rattle.gn_closure.specs.Ground.{Step}
-use Rattle.gn_graph.specs.Facts.{step_of, steps_in}
+use Rattle.gn_graph.specs.declared.fact.Mention.{Mention}
+use Rattle.gn_graph.specs.Facts.{meant, steps_in}
 use Rattle.gn_graph.specs.Numbers.{AreAt}
 use Rattle.gn_graph.proofs.Table.{extends_on, at_grows, at_push}
 use Rattle.gn_graph.proofs.numbering.numbers.Goals as goal
 
-pub loop-fact-preserved : goal.loop-fact-preserved
-loop-fact-preserved c =
-    let old = steps_in c.loop-fact.facts.keys in
-    let new = steps_in c.number.new.facts.keys in
-    let d = c.loop-fact.invariant.done in
-    let t : Step = step_of c.in-Some.fact in
-    let rest : List Step = steps_in (into_iter_items c.next.new.self) in
-    let a : AreAt new (c.loop-fact.numbers.items ++ c.in_ok-number.number ∷ []) (d.0 ++ t ∷ [])
-    = at_push new c.loop-fact.numbers.items d.0 c.in_ok-number.number t (at_grows old new c.in_ok-number.ensures.grows.0 c.loop-fact.numbers.items d.0 d.1) c.in_ok-number.ensures.at in
+pub loop-mention-preserved : goal.loop-mention-preserved
+loop-mention-preserved c =
+    let old = steps_in c.loop-mention.facts.keys in
+    let new = steps_in c.number_of.new.facts.keys in
+    let list : List Mention = c.args.list.now in
+    let k : ℕ = c.loop-mention.mention-index in
+    let x : Mention = c.mention-item.result in
+    let done : List Step = map meant (take k list) in
+    let now : map meant (take (k + 1) list) ≡ done ++ meant x ∷ []
+    = ap (map meant) (take_more list k x (omega arith) ∙ ap (λ (z : Mention). take k list ++ z ∷ []) (sym c.mention-item.is)) ∙ map-append meant (take k list) (x ∷ []) in
+    let a : AreAt new (c.loop-mention.numbers.items ++ c.in_ok-number.number ∷ []) (done ++ meant x ∷ [])
+    = at_push new c.loop-mention.numbers.items done c.in_ok-number.number (meant x) (at_grows old new c.in_ok-number.ensures.grows.0 c.loop-mention.numbers.items done c.loop-mention.invariant.at) c.in_ok-number.ensures.at in
     record {
-      grows = extends_on (steps_in c.args.facts.now.keys) old new c.loop-fact.invariant.grows c.in_ok-number.ensures.grows;
-      done = (
-        d.0 ++ t ∷ [],
-        subst (λ (z : List ℕ). AreAt new z (d.0 ++ t ∷ [])) (sym c.in_ok-push.ensures.items) a,
-        d.2 ∙ ap (λ z. d.0 ++ steps_in z) c.in-Some.ensures.steps.0 ∙ sym (append_assoc d.0 (t ∷ []) rest),
-      );
+      grows = extends_on (steps_in c.args.facts.now.keys) old new c.loop-mention.invariant.grows c.in_ok-number.ensures.grows;
+      at = subst (λ (z : List ℕ). AreAt new z (map meant (take (k + 1) list))) (sym c.in_ok-push.ensures.items)
+          (subst (λ (z : List Step). AreAt new (c.loop-mention.numbers.items ++ c.in_ok-number.number ∷ []) z) (sym now) a);
     }

@@ -1,12 +1,10 @@
-use Rattle.std.proofs.Common.{◌≡◌, List, ◌++◌}
-use Rattle.std.specs.Vec.Iter.{into_iter_items}
-use Rattle.gn_closure.specs.Ground.{Step}
-use Rattle.gn_graph.specs.Facts.{steps_in}
+use Rattle.std.proofs.Common.{map, take}
+use Rattle.gn_graph.specs.Facts.{meant, steps_in}
 use Rattle.gn_graph.specs.Numbers.{Extends, AreAt}
 use Rattle.gn_graph.proofs.numbering.numbers.Given as goal
 
-abbrev pub invariant-loop-fact : goal.invariant-loop-fact
-invariant-loop-fact l = record {
-  grows : Extends (steps_in l.fn.facts.keys) (steps_in l.facts.keys);
-  done : (done : List Step) × AreAt (steps_in l.facts.keys) l.numbers.items done × (steps_in l.fn.list.items ≡ done ++ steps_in (into_iter_items l.fact-iterator));
+abbrev pub invariant-loop-mention : goal.invariant-loop-mention
+invariant-loop-mention l = record {
+  grows : Extends (steps_in l.initial.facts.keys) (steps_in l.facts.keys);
+  at : AreAt (steps_in l.facts.keys) l.numbers.items (map meant (take l.mention-index l.list));
 }

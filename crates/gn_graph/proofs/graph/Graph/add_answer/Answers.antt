@@ -2,10 +2,9 @@ use Rattle.std.proofs.Common.{◌≡◌, ◌∷◌, ◌++◌, [], List, None, ma
 use Rattle.std.proofs.lemmas.List.{map-append}
 use Rattle.gn_closure.specs.Reach.{Setup}
 use Rattle.gn_graph.specs.declared.graph.Answered.{Answered}
-use Rattle.gn_graph.specs.Facts.{rules_in}
 use Rattle.gn_graph.specs.Graphs.{Answers, reply_of}
-use Rattle.gn_graph.specs.Replies.{Reply, units_in, AreSingle, default_in, after, all_rules, more_rules}
-use Rattle.gn_graph.proofs.Answers.{named, single_more, default_more, rules_more}
+use Rattle.gn_graph.specs.Replies.{Reply, units_in, AreSingle, default_in, named, after, all_rules, more_rules}
+use Rattle.gn_graph.proofs.Answers.{single_more, default_more, rules_more}
 use Rattle.gn_graph.proofs.graph.Graph.add_answer.Goals as goal
 
 pub invariant_of-self-2 : goal.invariant_of-self-2
@@ -15,21 +14,17 @@ invariant_of-self-2 c =
     let old : List Answered = c.self.inside.answers.items in
     let rs : List Reply = map reply_of old in
     let fresh : units_in rs r.unit ≡ None = subst (λ (z : Answers). units_in z.replies r.unit ≡ None) (sym c.self.view_is) c.requires in
-    let items : c.keep.new.answers.items ≡ old ++ a ∷ [] = c.keep.ensures ∙ ap (λ (z : List Answered). z ++ a ∷ []) c.in_ok-reserve.ensures.items in
-    let now : map reply_of c.keep.new.answers.items ≡ rs ++ r ∷ [] = ap (map reply_of) items ∙ map-append reply_of old (a ∷ []) in
+    let now : map reply_of c.take.new.answers.items ≡ rs ++ r ∷ [] = ap (map reply_of) c.in_ok-default.ensures.answers ∙ map-append reply_of old (a ∷ []) in
     let before : option_copied c.as_ref.result ≡ default_in (units_in rs (Setup [])) = c.as_ref.ensures.value ∙ c.self.invariant.default in
-    let names : option_copied c.as_ref-2.result ≡ named r = c.as_ref-2.ensures.value ∙ c.in_ok-default.ensures ∙ c.named.ensures in
-    let more : rules_in c.in_ok-rules.rules.items ≡ more_rules (default_in (units_in rs (Setup []))) (named r) rs r
-    = c.in_ok-rules.ensures ∙ (λ i. more_rules (before i) (names i) (map reply_of (c.deref.ensures.value i)) r) in
-    let rules : c.add.new.self.rules ≡ all_rules (rs ++ r ∷ [])
-    = c.in_ok-add.ensures.rules ∙ (λ i. c.self.invariant.rules i ++ more i) ∙ rules_more rs r fresh in
+    let rules : c.take.new.closure.rules ≡ all_rules (rs ++ r ∷ [])
+    = c.in_ok-default.ensures.added.rules ∙ (λ i. c.self.invariant.rules i ++ more_rules (before i) (named r) rs r) ∙ rules_more rs r fresh in
     let default : c.set_default.new.default ≡ default_in (units_in (rs ++ r ∷ []) (Setup []))
-    = c.set_default.ensures ∙ (λ i. after (c.self.invariant.default i) ((c.in_ok-default.ensures ∙ c.named.ensures) i)) ∙ sym (default_more rs r fresh) in
+    = c.set_default.ensures ∙ (λ i. after (c.self.invariant.default i) (c.in_ok-default.ensures.named i)) ∙ sym (default_more rs r fresh) in
     record {
       rules = rules ∙ ap all_rules (sym now);
       default = default ∙ ap (λ (z : List Reply). default_in (units_in z (Setup []))) (sym now);
       single = subst AreSingle (sym now) (single_more rs r c.self.invariant.single fresh);
       counts = c.counted-self-inside.ensures.counts;
       all = c.counted-self-inside.ensures.all;
-      whole = c.in_ok-add.ensures.whole;
+      whole = c.in_ok-default.ensures.added.whole;
     }
