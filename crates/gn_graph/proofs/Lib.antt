@@ -1,5 +1,6 @@
 mod Results
 mod Has
+mod Uses
 mod PlanSteps
 mod Table
 mod Known

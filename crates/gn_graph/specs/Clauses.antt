@@ -1,8 +1,6 @@
 -- Rules over numbers of facts, and which rules use a fact.
 use Rattle.std.specs.Prelude.{◌≡◌, ℕ, List, [], Option, Some, None, map, Vec, Bool, true, nat_eq, slice_get}
 use Rattle.std.specs.List.{list_any}
-use Rattle.std.specs.BTreeMap.{BTreeMap, get}
-use Rattle.std.specs.Ordering.{nat_cmp}
 use Rattle.std.specs.declared.alloc.Global.{Global}
 use Rattle.gn_closure.specs.Closure.{Horn}
 use Rattle.gn_graph.specs.declared.clause.Clause.{Clause}
@@ -22,8 +20,8 @@ items_of None = []
 items_of (Some v) = v.items
 
 -- the rules that use a fact, and maybe others
-abbrev pub waits_at : BTreeMap ℕ (Vec ℕ Global) → ℕ → List ℕ
-waits_at m p = items_of (get nat_cmp m p)
+abbrev pub waits_at : Vec (Vec ℕ Global) Global → ℕ → List ℕ
+waits_at lists p = items_of (slice_get lists.items p)
 
 -- what follows from rules
 pub data Derivable (rs : List (Horn ℕ)) : ℕ → Type 0 where

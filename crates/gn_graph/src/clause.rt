@@ -1,11 +1,10 @@
 // Rules over numbers, and which rules use a number.
 
-ghost use Rattle.std.specs.Prelude.{◌≡◌, ℕ, ◌+◌, ◌++◌, OnOk, true, slice_get, Some, length};
+ghost use Rattle.std.specs.Prelude.{◌≡◌, ℕ, ◌+◌, ◌<◌, ◌++◌, OnOk, true, slice_get, Some, length};
 ghost use Rattle.gn_graph.specs.Clauses.{has, horn_of, horns, waits_at};
 ghost use Rattle.gn_graph.specs.Plans.{IsUsed};
 
 use std::alloc::{AllocError, Global};
-use std::collections::BTreeMap;
 
 /// A rule over numbers of facts: where all that it needs holds, what it gives holds.
 #[derive(Drop)]
@@ -14,23 +13,39 @@ pub(crate) struct Clause {
     pub(crate) gives: usize,
 }
 
-// The rules that use each fact.
-pub(crate) type Uses = BTreeMap<usize, Vec<usize>>;
+// For each fact, by its number, the rules that use it.
+pub(crate) type Uses = Vec<Vec<usize>>;
+
+// There is a list for the fact p.
+fn make_room(alloc: Global, uses: &mut Uses, p: usize) -> Result<(), AllocError>
+    ensures same { (q : ℕ) → waits_at uses.new q ≡ waits_at uses.old q }
+    ensures room { OnOk result (p < length uses.new.items) }
+{
+    let mut n = uses.len();
+    while n <= p {
+        uses.push(Vec::new(alloc))?;
+        n += 1;
+    }
+    Ok(())
+}
+
+// Notes in a list that there is that the rule of number i uses the fact p.
+fn note_use(uses: &mut Uses, p: usize, i: usize) -> Result<(), AllocError>
+    requires { p < length uses.old.items }
+    ensures kept { (q j : ℕ) → has (waits_at uses.old q) j ≡ true → has (waits_at uses.new q) j ≡ true }
+    ensures added { OnOk result (has (waits_at uses.new p) i ≡ true) }
+{
+    uses[p].push(i)?;
+    Ok(())
+}
 
 // Notes that the rule of number i uses the fact p.
 fn use_one(alloc: Global, uses: &mut Uses, p: usize, i: usize) -> Result<(), AllocError>
     ensures kept { (q j : ℕ) → has (waits_at uses.old q) j ≡ true → has (waits_at uses.new q) j ≡ true }
     ensures added { OnOk result (has (waits_at uses.new p) i ≡ true) }
 {
-    match uses.get_mut(&p) {
-        Some(list) => list.push(i)?,
-        None => {
-            let mut list = Vec::new(alloc);
-            list.push(i)?;
-            uses.insert(p, list)?;
-        }
-    }
-    Ok(())
+    make_room(alloc, uses, p)?;
+    note_use(uses, p, i)
 }
 
 // Notes that the rule of number i uses these facts.
@@ -67,7 +82,7 @@ pub(crate) fn use_extra(
 pub(crate) fn users(uses: &Uses, p: usize) -> &[usize]
     ensures { result.now ≡ waits_at uses.now p }
 {
-    match uses.get(&p) {
+    match uses.get(p) {
         None => &[],
         Some(list) => list,
     }

@@ -19,7 +19,6 @@ use crate::numbering::all_numbered;
 use crate::rule::UnitRule;
 use indexmap::IndexSet;
 use std::alloc::{AllocError, Global};
-use std::collections::BTreeMap;
 use std::marker::Model;
 
 // Rules over numbers, and the facts that they add to those that hold.
@@ -123,7 +122,7 @@ impl Closure {
             hints: Hints::new(),
             clauses: Vec::new(alloc),
             holds: IndexSet::new(alloc),
-            uses: BTreeMap::new(alloc),
+            uses: Vec::new(alloc),
         }
     }
 
