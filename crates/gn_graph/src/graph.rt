@@ -4,7 +4,7 @@ ghost use Rattle.std.specs.Prelude.{◌≡◌, ◌++◌, ◌∷◌, [], None, So
 ghost use Rattle.gn_closure.specs.Closure.{In};
 ghost use Rattle.gn_closure.specs.Reach.{Setup, Fact as Held, Holds};
 ghost use Rattle.gn_closure.specs.Ground.{Holding};
-ghost use Rattle.gn_closure.specs.Computed.{holds_in, is_too_large, load_limit, setup_limit};
+ghost use Rattle.gn_closure.specs.Computed.{holds_in, is_too_large, load_limit, setup_limit, start_rules};
 ghost use Rattle.gn_closure.specs.Least.{IsTooLarge};
 ghost use Rattle.gn_graph.specs.Facts.{step_of, unit_of, unit_rules_in};
 ghost use Rattle.gn_graph.specs.Needs.{home, done_in};
@@ -110,6 +110,24 @@ fn added_rules<'a>(
     }
 }
 
+// The rules of one more answer are added, and what follows from them; they are written into an empty list.
+fn follow_by<'a>(
+    alloc: Global,
+    closure: &mut Closure,
+    before: Option<&'a DefaultToolchain>,
+    after: Option<&'a DefaultToolchain>,
+    answers: &'a [Answered],
+    last: &'a Answered,
+    rules: &mut Vec<UnitRule<'a>>,
+) -> Result<(), AllocError>
+    requires { rules.old.items ≡ [] }
+    ensures added { OnOk result (HasAdded closure.old closure.new (more_rules (option_copied before.entry) (option_copied after.entry) (map reply_of answers.now) (reply_of last.now))) }
+    ensures err { OnErr result (closure.new ≡ closure.old) }
+{
+    added_rules(alloc, before, after, answers, last, rules)?;
+    closure.add(rules)
+}
+
 // The rules of one more answer are added, and what follows from them.
 fn follow(
     alloc: Global,
@@ -123,8 +141,9 @@ fn follow(
     ensures err { OnErr result (closure.new ≡ closure.old) }
 {
     let mut rules = Vec::new(alloc);
-    added_rules(alloc, before, after, answers, last, &mut rules)?;
-    closure.add(&rules)
+    let done = follow_by(alloc, closure, before, after, answers, last, &mut rules);
+    drop(rules);
+    done
 }
 
 // The default toolchain that an answer names.
@@ -275,12 +294,24 @@ const FIRST: UnitRule<'static> = UnitRule::Plain(Rule {
     gives: Mention::ReachedFirst,
 });
 
+fn started(alloc: Global) -> Result<Closure, AllocError>
+    ensures added { IfOk result (λ closure. HasAdded (record { rules = []; found = [] }) closure start_rules) }
+{
+    let mut closure = Closure::new(alloc);
+    match closure.add(&[FIRST]) {
+        Ok(()) => Ok(closure),
+        Err(error) => {
+            drop(closure);
+            Err(error)
+        }
+    }
+}
+
 /// The graph over no answers: the default toolchain's build configuration is reached.
 pub fn start_graph(alloc: Global) -> Result<Graph, AllocError>
     ensures { IfOk result (λ graph. graph.replies ≡ []) }
 {
-    let mut closure = Closure::new(alloc);
-    closure.add(&[FIRST])?;
+    let closure = started(alloc)?;
     let counts = all_counted(&closure);
     Ok(Graph {
         alloc,

@@ -3,7 +3,7 @@
 ghost use Rattle.std.specs.Prelude.{◌≡◌, ◌++◌, ◌∷◌, [], map, OnOk};
 ghost use Rattle.gn_closure.specs.Ground.{Set_up};
 ghost use Rattle.gn_closure.specs.Computed.{rule_of};
-ghost use Rattle.gn_graph.specs.Facts.{unit_of, meant, needed, rules_in, unit_rules_in, under};
+ghost use Rattle.gn_graph.specs.Facts.{unit_of, meant, needed, horn_in, rules_in, unit_rules_in, under};
 
 use crate::fact::Mention;
 use crate::unit_key::UnitKey;
@@ -53,6 +53,17 @@ pub(crate) fn put_first<'a>(rules: &mut Vec<Rule<'a>>, gives: Mention<'a>) -> Re
     put(rules, Needs::One(Mention::SetUpFirst), gives)
 }
 
+fn hang_one<'a>(
+    unit: &'a UnitKey,
+    rule: &Rule<'a>,
+    done: &mut Vec<UnitRule<'a>>,
+) -> Result<(), AllocError>
+    ensures { OnOk result (unit_rules_in done.new.items ≡ unit_rules_in done.old.items ++ under (unit_of unit.now) (horn_in rule.now) ∷ []) }
+{
+    done.push(UnitRule::Under(unit, *rule))?;
+    Ok(())
+}
+
 /// The rules of a unit stand behind the others, each of which needs also that the unit is reached.
 pub(crate) fn hang<'a>(
     unit: &'a UnitKey,
@@ -62,7 +73,7 @@ pub(crate) fn hang<'a>(
     ensures { OnOk result (unit_rules_in done.new.items ≡ unit_rules_in done.old.items ++ map (under (unit_of unit.now)) (rules_in rules.now)) }
 {
     for rule in rules {
-        done.push(UnitRule::Under(unit, *rule))?;
+        hang_one(unit, rule, done)?;
     }
     Ok(())
 }

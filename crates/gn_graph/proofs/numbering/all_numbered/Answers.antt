@@ -1,5 +1,5 @@
 use Rattle.std.proofs.Common.{◌≡◌, ◌+◌, ◌∷◌, ◌++◌, [], ℕ, List, map, take, sym, ap, subst, ◌∙◌, arith}
-use Rattle.std.proofs.lemmas.List.{take_more, map-append}
+use Rattle.std.proofs.lemmas.List.{take_more, take_all, map-append}
 use Rattle.gn_closure.specs.Closure.{Horn}
 use Rattle.gn_closure.specs.Ground.{Step}
 use Rattle.gn_graph.specs.declared.rule.UnitRule.{UnitRule}
@@ -32,3 +32,8 @@ loop-rule-preserved c =
       grows = extends_on (steps_in c.args.facts.now.keys) old new c.loop-rule.invariant.grows c.in_ok-clause.ensures.grows;
       stand = subst (λ (z : List (Horn ℕ)). StandFor new z (unit_rules_in (take (k + 1) rules))) (sym e) (subst (λ (z : List (Horn Step)). StandFor new (before ++ r ∷ []) z) (sym now) a);
     }
+
+pub returns-clause-stand : goal.returns-clause-stand
+returns-clause-stand c =
+    let P : List UnitRule → Type 0 = λ z. StandFor (steps_in c.loop-rule.facts.keys) (horns c.loop-rule.clauses.items) (unit_rules_in z) in
+    subst P (take_all c.loop-rule.rule-index c.args.rules.now (omega arith)) c.loop-rule.invariant.stand
