@@ -5,6 +5,7 @@ ghost use Rattle.gn_records.specs.Around.{around};
 ghost use Rattle.gn_records.specs.Actions.{with_runs, action_record, foreach_record};
 
 use crate::context::Context;
+use crate::keeping::beside;
 use crate::paths::paths_at;
 use crate::rules::{rule_of_action, script_of};
 use crate::runs::{only_run, runs_for};
@@ -24,10 +25,11 @@ fn with_runs(
 ) -> Result<Action, AllocError>
     ensures { IfOk result (λ a. a ≡ with_runs (around context.now) item.now runs dones) }
 {
-    let script = script_of(alloc, context, item)?;
-    let inputs = paths_at(alloc, context, item, Variable::Inputs)?;
-    let rule = rule_of_action(alloc, context, item)?;
-    let stamp = stamp_step(alloc, context, &item.label)?;
+    let script = beside((runs, dones), script_of(alloc, context, item))?;
+    let inputs = beside(script, paths_at(alloc, context, item, Variable::Inputs))?;
+    let rule = beside(inputs, rule_of_action(alloc, context, item))?;
+    let made = beside(rule, stamp_step(alloc, context, &item.label))?;
+    let (((((runs, dones), script), inputs), rule), stamp) = made;
     Ok(Action {
         rule,
         script,
@@ -47,7 +49,7 @@ pub(crate) fn action(
 ) -> Result<Written, AllocError>
     ensures { IfOk result (λ w. w ≡ action_record (around context.now) item.now dones) }
 {
-    let runs = only_run(alloc, context, item)?;
+    let (dones, runs) = beside(dones, only_run(alloc, context, item))?;
     Ok(Written::Action(with_runs(alloc, context, item, runs, dones)?))
 }
 
@@ -60,6 +62,7 @@ pub(crate) fn action_foreach(
 ) -> Result<Written, AllocError>
     ensures { IfOk result (λ w. w ≡ foreach_record (around context.now) item.now dones) }
 {
-    let runs = runs_for(alloc, context, item, item.fields.paths(Variable::Sources))?;
+    let runs = runs_for(alloc, context, item, item.fields.paths(Variable::Sources));
+    let (dones, runs) = beside(dones, runs)?;
     Ok(Written::Action(with_runs(alloc, context, item, runs, dones)?))
 }

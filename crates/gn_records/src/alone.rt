@@ -46,7 +46,10 @@ fn alone(alloc: Global, context: &Context<'_>, item: &Item) -> Result<Record, Al
 {
     let none = no_inherited(alloc);
     let hard = Texts::new(alloc);
-    record_of(alloc, context, item, &[], &none, no_dones(alloc), &hard)
+    let record = record_of(alloc, context, item, &[], &none, no_dones(alloc), &hard);
+    drop(none);
+    drop(hard);
+    record
 }
 
 // Copies of the left sides of the build lines of a target's file.
@@ -54,7 +57,9 @@ fn left_sides(alloc: Global, written: &Written) -> Result<Texts, AllocError>
     ensures { IfOk result (λ outs. outs ≡ made (target_blocks written.now)) }
 {
     let outs = made_by(alloc, written)?;
-    copies_of_lent(alloc, outs.as_slice())
+    let copies = copies_of_lent(alloc, outs.as_slice());
+    drop(outs);
+    copies
 }
 
 /// What a target makes: the left sides of the build lines of its file, in order. No configuration and no dependency changes it.
@@ -63,5 +68,7 @@ pub fn made(alloc: Global, context: &Context<'_>, item: &Item) -> Result<Texts, 
     ensures { IfOk result (λ outs. outs ≡ made_at (around context.now) item.now) }
 {
     let record = alone(alloc, context, item)?;
-    left_sides(alloc, &record.written)
+    let outs = left_sides(alloc, &record.written);
+    drop(record);
+    outs
 }

@@ -14,6 +14,7 @@ use crate::exports::exports_of;
 use crate::flags::compile_flags;
 use crate::inherited::Inherited;
 use crate::joining::{join_of, join_step};
+use crate::keeping::beside;
 use crate::linking::link_flags_where;
 use crate::output::{Output, names_for, output_of, own_tool, tool_of_kind};
 use crate::records::{Exports, Record};
@@ -56,9 +57,10 @@ fn label_texts(
 ) -> Result<LabelTexts, AllocError>
     ensures { IfOk result (λ texts. texts ≡ label_texts (around context.now) label.now) }
 {
-    let no_toolchain = bound_label(alloc, context.bound.label_no_toolchain, label)?;
     let name = label.name.copy(alloc)?;
-    let label = label.print(alloc, context.default)?;
+    let (name, printed) = beside(name, label.print(alloc, context.default))?;
+    let bound = bound_label(alloc, context.bound.label_no_toolchain, label);
+    let ((name, label), no_toolchain) = beside((name, printed), bound)?;
     Ok(LabelTexts {
         label,
         name,
@@ -85,8 +87,8 @@ fn output_texts(
     ensures { IfOk result (λ texts. texts ≡ output_texts (around context.now) output.now) }
 {
     let directory = seen_if(alloc, context.build, output.directory.as_ref())?;
-    let extension = output.extension.copy(alloc)?;
-    let name = output.name.copy(alloc)?;
+    let ends = beside(directory, output.extension.copy(alloc))?;
+    let ((directory, extension), name) = beside(ends, output.name.copy(alloc))?;
     Ok(OutputTexts {
         directory,
         extension,
@@ -119,15 +121,14 @@ fn directories_of(
 {
     let bound = context.bound;
     let build = context.build;
-    let root_gen_dir = bound_directory(alloc, bound.root_gen_dir, build, context.generated)?;
-    let target_gen_dir = bound_directory(
-        alloc,
-        bound.target_gen_dir,
-        build,
-        &output.around.generated,
-    )?;
+    let own = &output.around;
     let root_out_dir = context.out.seen_from(alloc, build)?;
-    let target_out_dir = output.around.objects.seen_from(alloc, build)?;
+    let outs = beside(root_out_dir, own.objects.seen_from(alloc, build))?;
+    let root = bound_directory(alloc, bound.root_gen_dir, build, context.generated);
+    let roots = beside(outs, root)?;
+    let target = bound_directory(alloc, bound.target_gen_dir, build, &own.generated);
+    let made = beside(roots, target)?;
+    let (((root_out_dir, target_out_dir), root_gen_dir), target_gen_dir) = made;
     Ok(Directories {
         root_gen_dir,
         root_out_dir,
@@ -207,10 +208,12 @@ fn bindings_of(
     ensures { IfOk result (λ b. b ≡ bindings_of (around context.now) item.now (fields_of configs.now) inherited.now output.now) }
 {
     let names = label_texts(alloc, context, &item.label)?;
-    let link = linked(alloc, context, item, configs, inherited)?;
-    let directories = directories_of(alloc, context, output)?;
-    let compile = compile_flags(alloc, context.build, &item.fields, configs)?;
-    let output = output_texts(alloc, context, output)?;
+    let texts = beside(names, output_texts(alloc, context, output))?;
+    let called = beside(texts, directories_of(alloc, context, output))?;
+    let link = linked(alloc, context, item, configs, inherited);
+    let linked = beside(called, link)?;
+    let compile = compile_flags(alloc, context.build, &item.fields, configs);
+    let ((((names, output), directories), link), compile) = beside(linked, compile)?;
     Ok(Bindings {
         compile,
         link,
@@ -252,11 +255,15 @@ fn with_output(
     ensures { IfOk result (λ r. r ≡ with_output (around context.now) item.now (fields_of configs.now) inherited.now dones.now hard.now output.now) }
 {
     let step = step_of(alloc, context, item, output)?;
-    let exports = exports_of(alloc, context, item, configs, output, &step.outs)?;
-    let sources = sources_of(alloc, context, item, output, hard)?;
+    let exports = exports_of(alloc, context, item, configs, output, &step.outs);
+    let (step, exports) = beside(step, exports)?;
+    let sources = sources_of(alloc, context, item, output, hard);
+    let ((step, exports), sources) = beside((step, exports), sources)?;
     let is_linked = is_linked(item.kind);
-    let join = join_of(alloc, is_linked, step, dones, &sources.objects, inherited)?;
-    let bindings = bindings_of(alloc, context, item, configs, inherited, output)?;
+    let join = join_of(alloc, is_linked, step, dones, &sources.objects, inherited);
+    let parts = beside((exports, sources), join)?;
+    let bindings = bindings_of(alloc, context, item, configs, inherited, output);
+    let (((exports, sources), join), bindings) = beside(parts, bindings)?;
     Ok(record_with(bindings, sources, join, exports))
 }
 
@@ -274,7 +281,9 @@ pub(crate) fn compiled(
     ensures { IfOk result (λ r. r ≡ compiled_record (around context.now) item.now (fields_of configs.now) inherited.now dones.now hard.now) }
 {
     let output = output_of(alloc, context, item, tool_of_kind(context, item.kind))?;
-    with_output(
+    let record = with_output(
         alloc, context, item, configs, inherited, dones, hard, &output,
-    )
+    );
+    drop(output);
+    record
 }

@@ -10,6 +10,7 @@ ghost use Rattle.gn_records.specs.Plain.{copied, copy_record};
 ghost use Rattle.gn_records.specs.Steps.{where_had};
 
 use crate::context::Context;
+use crate::keeping::beside;
 use crate::outputs::source_outs;
 use crate::stamps::stamp_step;
 use gn_items::Item;
@@ -43,7 +44,7 @@ fn copied(
     ensures { IfOk result (λ file. file ≡ copied (around context.now) item.now source.now) }
 {
     let outs = copied_outs(alloc, context, item, source)?;
-    let source = source.seen_from(alloc, context.build)?;
+    let (outs, source) = beside(outs, source.seen_from(alloc, context.build))?;
     Ok(Copied { source, outs })
 }
 
@@ -87,9 +88,10 @@ pub(crate) fn copy(
 ) -> Result<Written, AllocError>
     ensures { IfOk result (λ w. w ≡ copy_record (around context.now) item.now dones) }
 {
-    let rule = tool_rule(alloc, context.prefix, ToolName::Copy)?;
-    let stamp = stamp_step(alloc, context, &item.label)?;
-    let files = all_copied(alloc, context, item, item.fields.paths(Variable::Sources))?;
+    let rule = beside(dones, tool_rule(alloc, context.prefix, ToolName::Copy))?;
+    let stamp = beside(rule, stamp_step(alloc, context, &item.label))?;
+    let files = all_copied(alloc, context, item, item.fields.paths(Variable::Sources));
+    let (((dones, rule), stamp), files) = beside(stamp, files)?;
     Ok(Written::Copy(CopyTarget {
         rule,
         files,

@@ -8,14 +8,13 @@ ghost use Rattle.gn_records.specs.Output.{tool_given};
 ghost use Rattle.gn_records.specs.Outputs.{for_none};
 
 use crate::context::Context;
-use crate::output::substs_of_tool;
-use crate::outputs::for_none;
+use crate::output::{given_alone, substs_of_tool};
 use crate::stamps::stamp;
 use gn_items::{Item, ItemKind, Tool};
 use gn_paths::{Text, Texts};
 use gn_rows::Variable;
 use gn_substs::{Position, Subst};
-use gn_writing::{OutputNames, given_for, tool_outputs};
+use gn_writing::{OutputNames, tool_outputs};
 use std::alloc::{AllocError, Global};
 
 // The first of some paths; nothing where there is none.
@@ -37,8 +36,10 @@ fn outs_at(
 ) -> Result<Texts, AllocError>
     ensures { IfOk result (λ outs. outs ≡ tool_outputs (values_of names.now) (tool_given position (values_of names.now) for_none) texts.now) }
 {
-    let given = given_for(alloc, position, names, &for_none(alloc))?;
-    tool_outputs(alloc, names, &given, texts)
+    let given = given_alone(alloc, position, names)?;
+    let outs = tool_outputs(alloc, names, &given, texts);
+    drop(given);
+    outs
 }
 
 // The first path that a tool's own text stands for where it is set, and else the first that the tool makes.
@@ -55,7 +56,9 @@ fn first_set(
         return first_path(alloc, outs);
     }
     let set = outs_at(alloc, names, position, texts)?;
-    first_path(alloc, &set)
+    let path = first_path(alloc, &set);
+    drop(set);
+    path
 }
 
 // The done file of a target, by what its tool makes.

@@ -10,6 +10,7 @@ ghost use Rattle.gn_records.specs.Records.{gives_libs, done_with, linked_with, e
 use crate::context::Context;
 use crate::done::{done_of, linked_of};
 use crate::flags::{all_seen_at, all_texts};
+use crate::keeping::beside;
 use crate::output::{Output, names_for, tool_of_kind};
 use crate::records::Exports;
 use gn_define::Fields;
@@ -97,10 +98,12 @@ pub(crate) fn exports_of(
 ) -> Result<Exports, AllocError>
     ensures { IfOk result (λ e. e ≡ exports_of (around context.now) item.now (fields_of configs.now) output.now outs.now) }
 {
+    let fields = &item.fields;
     let done = done_given(alloc, context, item, output, outs)?;
-    let linked = linked_given(alloc, context, item, output, outs)?;
-    let libs = libs_given(alloc, item.kind, &item.fields, configs)?;
-    let lib_dirs = lib_dirs_given(alloc, item.kind, context.build, &item.fields, configs)?;
+    let files = beside(done, linked_given(alloc, context, item, output, outs))?;
+    let libs = beside(files, libs_given(alloc, item.kind, fields, configs))?;
+    let dirs = lib_dirs_given(alloc, item.kind, context.build, fields, configs);
+    let (((done, linked), libs), lib_dirs) = beside(libs, dirs)?;
     Ok(Exports {
         done,
         linked,

@@ -6,6 +6,7 @@ ghost use Rattle.gn_paths.specs.Rebase.{seen_from};
 ghost use Rattle.gn_records.specs.Around.{fields_of};
 ghost use Rattle.gn_records.specs.Flags.{texts_at, seen_at, all_texts, all_seen_at, compile_flags};
 
+use crate::keeping::beside;
 use crate::outputs::once;
 use crate::texts::add_copies;
 use gn_define::Fields;
@@ -65,8 +66,10 @@ pub(crate) fn all_texts(
     ensures { IfOk result (λ list. list ≡ all_texts variable own.now (fields_of configs.now)) }
 {
     let mut list = Texts::new(alloc);
-    add_copies(alloc, &mut list, own.texts(variable))?;
-    add_texts(alloc, &mut list, variable, configs)?;
+    let added = add_copies(alloc, &mut list, own.texts(variable));
+    let (mut list, ()) = beside(list, added)?;
+    let added = add_texts(alloc, &mut list, variable, configs);
+    let (list, ()) = beside(list, added)?;
     Ok(list)
 }
 
@@ -81,7 +84,8 @@ pub(crate) fn all_seen_at(
     ensures { IfOk result (λ list. list ≡ all_seen_at build.now variable own.now (fields_of configs.now)) }
 {
     let mut list = all_seen(alloc, build, own.paths(variable))?;
-    add_paths(alloc, &mut list, build, variable, configs)?;
+    let added = add_paths(alloc, &mut list, build, variable, configs);
+    let (list, ()) = beside(list, added)?;
     Ok(list)
 }
 
@@ -95,7 +99,9 @@ fn include_dirs(
     ensures { IfOk result (λ list. list ≡ (compile_flags build.now own.now (fields_of configs.now)).include_dirs) }
 {
     let list = all_seen_at(alloc, build, Variable::IncludeDirs, own, configs)?;
-    once(alloc, &list)
+    let dirs = once(alloc, &list);
+    drop(list);
+    dirs
 }
 
 /// What the compilers of a target bind: its own flags and those of the configurations applied to it, in their order.
@@ -107,12 +113,13 @@ pub fn compile_flags(
 ) -> Result<CompileFlags, AllocError>
     ensures { IfOk result (λ flags. flags ≡ compile_flags build.now own.now (fields_of configs.now)) }
 {
-    let asmflags = all_texts(alloc, Variable::Asmflags, own, configs)?;
     let cflags = all_texts(alloc, Variable::Cflags, own, configs)?;
-    let cflags_c = all_texts(alloc, Variable::CflagsC, own, configs)?;
-    let cflags_cc = all_texts(alloc, Variable::CflagsCc, own, configs)?;
-    let defines = all_texts(alloc, Variable::Defines, own, configs)?;
-    let include_dirs = include_dirs(alloc, build, own, configs)?;
+    let c = beside(cflags, all_texts(alloc, Variable::CflagsC, own, configs))?;
+    let cc = beside(c, all_texts(alloc, Variable::CflagsCc, own, configs))?;
+    let asm = beside(cc, all_texts(alloc, Variable::Asmflags, own, configs))?;
+    let defined = beside(asm, all_texts(alloc, Variable::Defines, own, configs))?;
+    let made = beside(defined, include_dirs(alloc, build, own, configs))?;
+    let (((((cflags, cflags_c), cflags_cc), asmflags), defines), include_dirs) = made;
     Ok(CompileFlags {
         asmflags,
         cflags,

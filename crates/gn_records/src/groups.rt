@@ -5,6 +5,7 @@ ghost use Rattle.gn_records.specs.Around.{around};
 ghost use Rattle.gn_records.specs.Plain.{group_record};
 
 use crate::context::Context;
+use crate::keeping::beside;
 use crate::stamps::stamp_step;
 use gn_labels::Label;
 use gn_writing::{Dones, Group, Written};
@@ -19,6 +20,6 @@ pub(crate) fn group(
 ) -> Result<Written, AllocError>
     ensures { IfOk result (λ w. w ≡ group_record (around context.now) label.now dones) }
 {
-    let stamp = stamp_step(alloc, context, label)?;
+    let (dones, stamp) = beside(dones, stamp_step(alloc, context, label))?;
     Ok(Written::Group(Group { stamp, dones }))
 }

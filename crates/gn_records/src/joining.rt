@@ -7,6 +7,7 @@ ghost use Rattle.gn_records.specs.Compiled.{tool_step, join_step, rest_where, on
 
 use crate::context::Context;
 use crate::inherited::Inherited;
+use crate::keeping::beside;
 use crate::outputs::for_none;
 use crate::sources::outs_of_tool;
 use crate::stamps::stamp_step;
@@ -27,7 +28,10 @@ fn tool_step(
     ensures { IfOk result (λ step. step ≡ tool_step (around context.now) (values_of names.now) tool) }
 {
     let rule = tool_rule(alloc, context.prefix, tool)?;
-    let outs = outs_of_tool(alloc, names, &for_none(alloc), context.tools.get(tool))?;
+    let none = for_none(alloc);
+    let outs = outs_of_tool(alloc, names, &none, context.tools.get(tool));
+    drop(none);
+    let (rule, outs) = beside(rule, outs)?;
     Ok(Step { rule, outs })
 }
 
@@ -107,10 +111,13 @@ pub(crate) fn join_of(
 ) -> Result<Join, AllocError>
     ensures { IfOk result (λ join. join ≡ join_of is_linked step dones.now objects.now inherited.now) }
 {
-    let rest = rest_where(alloc, is_linked, dones, objects, inherited)?;
-    let set_objects = only_where(alloc, is_linked, &inherited.set_objects)?;
-    let statics = only_where(alloc, is_linked, &inherited.statics)?;
-    let shared = only_where(alloc, is_linked, &inherited.shared)?;
+    let rest = rest_where(alloc, is_linked, dones, objects, inherited);
+    let waiting = beside(step, rest)?;
+    let set_objects = only_where(alloc, is_linked, &inherited.set_objects);
+    let sets = beside(waiting, set_objects)?;
+    let statics = beside(sets, only_where(alloc, is_linked, &inherited.statics))?;
+    let made = beside(statics, only_where(alloc, is_linked, &inherited.shared))?;
+    let ((((step, rest), set_objects), statics), shared) = made;
     Ok(Join {
         step,
         set_objects,

@@ -14,6 +14,7 @@ mod further;
 mod groups;
 mod inherited;
 mod joining;
+mod keeping;
 mod laws;
 mod linking;
 mod output;

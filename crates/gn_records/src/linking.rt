@@ -10,6 +10,7 @@ ghost use Rattle.gn_records.specs.Flags.{text_of_tool, lib_words, lib_dirs_of, l
 
 use crate::flags::{all_seen_at, all_texts};
 use crate::inherited::Inherited;
+use crate::keeping::beside;
 use crate::outputs::once;
 use crate::texts::add_copies;
 use gn_define::Fields;
@@ -44,7 +45,11 @@ fn push_path(alloc: Global, words: &mut Texts, build: &Path, text: &Text) -> Res
     ensures { OnOk result (words.new ≡ words.old ++ paths_meant build.now text.now) }
 {
     match path_meant(alloc, build, text.as_bytes())? {
-        Ok(path) => words.push(path.seen_from(alloc, build)?),
+        Ok(path) => {
+            let seen = path.seen_from(alloc, build);
+            drop(path);
+            words.push(seen?)
+        }
         Err(_) => Ok(()),
     }
 }
@@ -105,8 +110,11 @@ fn libs_of(
     ensures { IfOk result (λ list. list ≡ libs_of own.now (fields_of configs.now) inherited.now) }
 {
     let mut list = all_texts(alloc, Variable::Libs, own, configs)?;
-    add_copies(alloc, &mut list, inherited.libs.as_slice())?;
-    once(alloc, &list)
+    let added = add_copies(alloc, &mut list, inherited.libs.as_slice());
+    let (list, ()) = beside(list, added)?;
+    let libs = once(alloc, &list);
+    drop(list);
+    libs
 }
 
 // The directories of libraries, each once.
@@ -120,8 +128,11 @@ fn lib_dirs_of(
     ensures { IfOk result (λ list. list ≡ lib_dirs_of build.now own.now (fields_of configs.now) inherited.now) }
 {
     let mut list = all_seen_at(alloc, build, Variable::LibDirs, own, configs)?;
-    add_copies(alloc, &mut list, inherited.lib_dirs.as_slice())?;
-    once(alloc, &list)
+    let added = add_copies(alloc, &mut list, inherited.lib_dirs.as_slice());
+    let (list, ()) = beside(list, added)?;
+    let dirs = once(alloc, &list);
+    drop(list);
+    dirs
 }
 
 // The libraries as words of a command.
@@ -137,7 +148,9 @@ fn libs(
 {
     let switch = text_of_tool(tool, Variable::LibSwitch);
     let libs = libs_of(alloc, own, configs, inherited)?;
-    library_words(alloc, build, switch, libs.as_slice())
+    let words = library_words(alloc, build, switch, libs.as_slice());
+    drop(libs);
+    words
 }
 
 // The directories of libraries behind the switch.
@@ -153,7 +166,9 @@ fn switched_dirs(
 {
     let switch = text_of_tool(tool, Variable::LibDirSwitch);
     let dirs = lib_dirs_of(alloc, build, own, configs, inherited)?;
-    behind_switch(alloc, switch, &dirs)
+    let words = behind_switch(alloc, switch, &dirs);
+    drop(dirs);
+    words
 }
 
 // The flags of the linker, and then the directories of libraries behind the switch.
@@ -168,8 +183,11 @@ fn ldflags(
     ensures { IfOk result (λ list. list ≡ (link_flags build.now (option_map (λ t. t.now) tool.entry) own.now (fields_of configs.now) inherited.now).ldflags) }
 {
     let dirs = switched_dirs(alloc, build, tool, own, configs, inherited)?;
-    let mut list = all_texts(alloc, Variable::Ldflags, own, configs)?;
-    add_copies(alloc, &mut list, dirs.as_slice())?;
+    let flags = all_texts(alloc, Variable::Ldflags, own, configs);
+    let (dirs, mut list) = beside(dirs, flags)?;
+    let added = add_copies(alloc, &mut list, dirs.as_slice());
+    drop(dirs);
+    let (list, ()) = beside(list, added)?;
     Ok(list)
 }
 
@@ -184,9 +202,10 @@ fn link_flags(
 ) -> Result<LinkFlags, AllocError>
     ensures { IfOk result (λ flags. flags ≡ link_flags build.now (option_map (λ t. t.now) tool.entry) own.now (fields_of configs.now) inherited.now) }
 {
-    let ldflags = ldflags(alloc, build, tool, own, configs, inherited)?;
-    let libs = libs(alloc, build, tool, own, configs, inherited)?;
     let solibs = inherited.solibs.copy(alloc)?;
+    let words = beside(solibs, libs(alloc, build, tool, own, configs, inherited))?;
+    let flags = ldflags(alloc, build, tool, own, configs, inherited);
+    let ((solibs, libs), ldflags) = beside(words, flags)?;
     Ok(LinkFlags {
         ldflags,
         libs,

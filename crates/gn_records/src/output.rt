@@ -12,12 +12,13 @@ ghost use Rattle.gn_records.specs.Outputs.{for_none};
 ghost use Rattle.gn_writing.specs.Outputs.{values_of};
 
 use crate::context::Context;
+use crate::keeping::beside;
 use crate::linking::text_of_tool;
-use crate::outputs::for_none;
+use crate::outputs::{for_none, meant_path};
 use gn_items::{Item, ItemKind, Tool};
-use gn_paths::{Path, Text, gen_directory, obj_directory, path_meant};
+use gn_paths::{Path, Text, gen_directory, obj_directory};
 use gn_rows::{ToolName, Variable};
-use gn_substs::{Position, Subst};
+use gn_substs::{Given, Position, Subst};
 use gn_writing::{OutputNames, given_for, output_extension, output_name};
 use std::alloc::{AllocError, Global};
 
@@ -122,8 +123,23 @@ fn own_directories(
     ensures { IfOk result (λ d. d ≡ own_directories (around context.now) item.now) }
 {
     let objects = obj_directory(alloc, context.out, &item.label.dir)?;
-    let generated = gen_directory(alloc, context.out, &item.label.dir)?;
+    let generated = gen_directory(alloc, context.out, &item.label.dir);
+    let (objects, generated) = beside(objects, generated)?;
     Ok(OwnDirectories { objects, generated })
+}
+
+// What a target gives at a position of a tool beside no source.
+pub(crate) fn given_alone(
+    alloc: Global,
+    position: Position,
+    names: &OutputNames<'_>,
+) -> Result<Given, AllocError>
+    ensures { IfOk result (λ given. given ≡ tool_given position (values_of names.now) for_none) }
+{
+    let none = for_none(alloc);
+    let given = given_for(alloc, position, names, &none);
+    drop(none);
+    given
 }
 
 // The directory that a tool's text stands for, where it stands for one.
@@ -134,14 +150,10 @@ fn meant_directory(
 ) -> Result<Option<Path>, AllocError>
     ensures { IfOk result (λ d. d ≡ path_if (path_meant names.now.build.now (expanded (tool_given ToolDefaultOutputDir (values_of names.now) for_none) text.now))) }
 {
-    let given = given_for(
-        alloc,
-        Position::ToolDefaultOutputDir,
-        names,
-        &for_none(alloc),
-    )?;
-    let expanded = text.expand(alloc, &given)?;
-    match path_meant(alloc, names.build, expanded.as_bytes())? {
+    let given = given_alone(alloc, Position::ToolDefaultOutputDir, names)?;
+    let meant = meant_path(alloc, names.build, &given, text);
+    drop(given);
+    match meant? {
         Ok(path) => Ok(Some(path)),
         Err(_) => Ok(None),
     }
@@ -226,9 +238,12 @@ pub fn output_of(
     ensures { IfOk result (λ o. o ≡ output_of (around context.now) item.now (option_map (λ t. t.now) tool.entry)) }
 {
     let around = own_directories(alloc, context, item)?;
-    let name = name_of_output(alloc, item, tool)?;
-    let extension = extension_of_output(alloc, item, tool)?;
-    let directory = directory_of_output(alloc, context, item, tool, &around, &name, &extension)?;
+    let (around, name) = beside(around, name_of_output(alloc, item, tool))?;
+    let called = beside((around, name), extension_of_output(alloc, item, tool))?;
+    let ((around, name), extension) = called;
+    let directory = directory_of_output(alloc, context, item, tool, &around, &name, &extension);
+    let called = beside(((around, name), extension), directory)?;
+    let (((around, name), extension), directory) = called;
     Ok(Output {
         name,
         extension,

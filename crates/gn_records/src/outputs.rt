@@ -3,12 +3,14 @@
 ghost use Rattle.std.specs.Prelude.{◌≡◌, [], ◌++◌, IfOk, OnOk};
 ghost use Rattle.std.specs.List.{fold, flat_map};
 ghost use Rattle.gn_text.specs.Names.{with_name};
+ghost use Rattle.gn_paths.specs.Resolve.{path_meant};
+ghost use Rattle.gn_substs.specs.Expansions.{expanded};
 ghost use Rattle.gn_records.specs.Around.{around};
 ghost use Rattle.gn_records.specs.Outputs.{output_position, for_source, for_none, meant_by, outs_given, source_outs, item_outs};
 
 use crate::context::Context;
 use gn_items::{Item, ItemKind};
-use gn_paths::{Path, Texts, path_meant};
+use gn_paths::{Path, PathFault, Texts, path_meant};
 use gn_rows::Variable;
 use gn_substs::{Around, Given, Position, Subst};
 use gn_writing::each_once;
@@ -50,6 +52,21 @@ pub fn for_none(alloc: Global) -> Given
     Given::new(Position::NoNames, Texts::new(alloc))
 }
 
+// The path that a text means with what is given, or why it means none.
+pub(crate) fn meant_path(
+    alloc: Global,
+    current: &Path,
+    given: &Given,
+    text: &Subst,
+) -> Result<Result<Path, PathFault>, AllocError>
+    ensures { IfOk result (λ meant. meant ≡ path_meant current.now (expanded given.now text.now)) }
+{
+    let expanded = text.expand(alloc, given)?;
+    let meant = path_meant(alloc, current, expanded.as_bytes());
+    drop(expanded);
+    meant
+}
+
 // Puts the path that a text means behind the others, where it means one.
 pub(crate) fn push_meant(
     alloc: Global,
@@ -61,9 +78,12 @@ pub(crate) fn push_meant(
 ) -> Result<(), AllocError>
     ensures { OnOk result (paths.new ≡ paths.old ++ meant_by (around context.now) item.now given.now text.now) }
 {
-    let expanded = text.expand(alloc, given)?;
-    match path_meant(alloc, &item.label.dir, expanded.as_bytes())? {
-        Ok(path) => paths.push(path.seen_from(alloc, context.build)?),
+    match meant_path(alloc, &item.label.dir, given, text)? {
+        Ok(path) => {
+            let seen = path.seen_from(alloc, context.build);
+            drop(path);
+            paths.push(seen?)
+        }
         Err(_) => Ok(()),
     }
 }
@@ -109,7 +129,9 @@ fn outs_given(
         given,
         item.fields.substs(Variable::Outputs),
     )?;
-    once(alloc, &paths)
+    let outs = once(alloc, &paths);
+    drop(paths);
+    outs
 }
 
 // What the item makes of a source.
@@ -122,7 +144,9 @@ pub(crate) fn source_outs(
     ensures { IfOk result (λ outs. outs ≡ source_outs (around context.now) item.now source.now) }
 {
     let given = for_source(alloc, context, item, output_position(item.kind), source)?;
-    outs_given(alloc, context, item, &given)
+    let outs = outs_given(alloc, context, item, &given);
+    drop(given);
+    outs
 }
 
 // What the item makes of all its sources together.

@@ -10,6 +10,7 @@ use crate::context::Context;
 use crate::copies::copy;
 use crate::groups::group;
 use crate::inherited::Inherited;
+use crate::keeping::beside;
 use crate::stamps::stamp;
 use gn_define::Fields;
 use gn_items::{Item, ItemKind};
@@ -62,8 +63,8 @@ fn plain_record(
 ) -> Result<Record, AllocError>
     ensures { IfOk result (λ r. r ≡ plain_record (around context.now) item.now dones) }
 {
-    let exports = plain_exports(alloc, context, item)?;
     let written = plain_written(alloc, context, item, dones)?;
+    let (written, exports) = beside(written, plain_exports(alloc, context, item))?;
     Ok(Record { written, exports })
 }
 
@@ -111,5 +112,7 @@ pub fn record_of(
     if is_plain(item.kind) {
         return plain_record(alloc, context, item, dones);
     }
-    compiled(alloc, context, item, configs, inherited, &dones, hard)
+    let record = compiled(alloc, context, item, configs, inherited, &dones, hard);
+    drop(dones);
+    record
 }

@@ -5,6 +5,7 @@ ghost use Rattle.gn_records.specs.Around.{around};
 ghost use Rattle.gn_records.specs.Actions.{first_seen, script_of, first_pool, rule_of_action};
 
 use crate::context::Context;
+use crate::keeping::beside;
 use gn_items::Item;
 use gn_labels::Label;
 use gn_paths::{Path, Text};
@@ -48,7 +49,9 @@ fn command_of(alloc: Global, context: &Context<'_>, item: &Item) -> Result<Text,
     ensures { IfOk result (λ t. t ≡ (rule_of_action (around context.now) item.now).command) }
 {
     let script = script_of(alloc, context, item)?;
-    action_command(alloc, context.program, &script)
+    let command = action_command(alloc, context.program, &script);
+    drop(script);
+    command
 }
 
 // The rule of an action.
@@ -60,9 +63,11 @@ pub(crate) fn rule_of_action(
     ensures { IfOk result (λ rule. rule ≡ rule_of_action (around context.now) item.now) }
 {
     let name = action_rule_name(alloc, &item.label)?;
-    let command = command_of(alloc, context, item)?;
-    let description = action_description(alloc, &item.label, context.default)?;
-    let pool = first_pool(alloc, context.default, item.fields.labels(Variable::Pool))?;
+    let command = beside(name, command_of(alloc, context, item))?;
+    let description = action_description(alloc, &item.label, context.default);
+    let described = beside(command, description)?;
+    let pool = first_pool(alloc, context.default, item.fields.labels(Variable::Pool));
+    let (((name, command), description), pool) = beside(described, pool)?;
     Ok(ActionRule {
         name,
         command,

@@ -1,6 +1,7 @@
 // The runs of actions.
 
 ghost use Rattle.std.specs.Prelude.{◌≡◌, [], ◌∷◌, ◌++◌, IfOk, OnOk, map};
+ghost use Rattle.gn_paths.specs.Rebase.{seen_from};
 ghost use Rattle.gn_rows.specs.declared.variable.Variable.TheVariants.{ResponseFileContents};
 ghost use Rattle.gn_substs.specs.Expansions.{expanded};
 ghost use Rattle.gn_define.specs.Fields.{field_at, texts_of};
@@ -9,12 +10,13 @@ ghost use Rattle.gn_records.specs.Actions.{args_given, first_of, first_meant, de
 ghost use Rattle.gn_records.specs.Outputs.{meant_by};
 
 use crate::context::Context;
-use crate::outputs::{for_none, for_source, item_outs, source_outs};
+use crate::keeping::beside;
+use crate::outputs::{for_none, for_source, item_outs, meant_path, source_outs};
 use crate::paths::paths_at;
 use crate::stamps::response;
 use crate::texts::{copies, only};
 use gn_items::Item;
-use gn_paths::{Path, Text, Texts, path_meant};
+use gn_paths::{Path, Text, Texts};
 use gn_rows::Variable;
 use gn_substs::{Given, Position, Subst};
 use gn_writing::{Run, Runs};
@@ -64,9 +66,12 @@ fn path_of(
 ) -> Result<Option<Text>, AllocError>
     ensures { IfOk result (λ path. path ≡ first_of (meant_by (around context.now) item.now given.now text.now)) }
 {
-    let expanded = text.expand(alloc, given)?;
-    match path_meant(alloc, &item.label.dir, expanded.as_bytes())? {
-        Ok(path) => Ok(Some(path.seen_from(alloc, context.build)?)),
+    match meant_path(alloc, &item.label.dir, given, text)? {
+        Ok(path) => {
+            let seen = path.seen_from(alloc, context.build);
+            drop(path);
+            Ok(Some(seen?))
+        }
         Err(_) => Ok(None),
     }
 }
@@ -119,19 +124,33 @@ fn args_of(alloc: Global, context: &Context<'_>, item: &Item) -> Result<Texts, A
     ensures { IfOk result (λ args. args ≡ (run_of (around context.now) item.now).args) }
 {
     let file = only(alloc, response(alloc, context, &item.label)?)?;
-    args_given(alloc, item, &Given::new(Position::ActionArgs, file))
+    let given = Given::new(Position::ActionArgs, file);
+    let args = args_given(alloc, item, &given);
+    drop(given);
+    args
+}
+
+// The file that says what an action's run has read.
+fn depfile_of(alloc: Global, context: &Context<'_>, item: &Item) -> Result<Option<Text>, AllocError>
+    ensures { IfOk result (λ path. path ≡ (run_of (around context.now) item.now).depfile) }
+{
+    let none = for_none(alloc);
+    let depfile = depfile_given(alloc, context, item, &none);
+    drop(none);
+    depfile
 }
 
 // The one run of an action.
 pub(crate) fn run_of(alloc: Global, context: &Context<'_>, item: &Item) -> Result<Run, AllocError>
     ensures { IfOk result (λ run. run ≡ run_of (around context.now) item.now) }
 {
-    let depfile = depfile_given(alloc, context, item, &for_none(alloc))?;
-    let response_file = response_file(alloc, context, item)?;
-    let response = response_words(alloc, item)?;
     let outs = item_outs(alloc, context, item)?;
-    let sources = paths_at(alloc, context, item, Variable::Sources)?;
-    let args = args_of(alloc, context, item)?;
+    let ends = beside(outs, paths_at(alloc, context, item, Variable::Sources))?;
+    let used = beside(ends, args_of(alloc, context, item))?;
+    let files = beside(used, depfile_of(alloc, context, item))?;
+    let answered = beside(files, response_file(alloc, context, item))?;
+    let made = beside(answered, response_words(alloc, item))?;
+    let (((((outs, sources), args), depfile), response_file), response) = made;
     Ok(Run {
         outs,
         ins: Texts::new(alloc),
@@ -153,7 +172,9 @@ fn args_for(
     ensures { IfOk result (λ args. args ≡ (run_for (around context.now) item.now source.now).args) }
 {
     let given = for_source(alloc, context, item, Position::ForeachArgs, source)?;
-    args_given(alloc, item, &given)
+    let args = args_given(alloc, item, &given);
+    drop(given);
+    args
 }
 
 // The file that says what a run for a source has read.
@@ -166,7 +187,16 @@ fn depfile_for(
     ensures { IfOk result (λ path. path ≡ (run_for (around context.now) item.now source.now).depfile) }
 {
     let given = for_source(alloc, context, item, Position::ForeachDepfile, source)?;
-    depfile_given(alloc, context, item, &given)
+    let depfile = depfile_given(alloc, context, item, &given);
+    drop(given);
+    depfile
+}
+
+// The source of a run, as a list.
+fn ins_for(alloc: Global, context: &Context<'_>, source: &Path) -> Result<Texts, AllocError>
+    ensures { IfOk result (λ ins. ins ≡ (seen_from context.now.build.now source.now) ∷ []) }
+{
+    only(alloc, source.seen_from(alloc, context.build)?)
 }
 
 // The run for a source.
@@ -179,9 +209,10 @@ fn run_for(
     ensures { IfOk result (λ run. run ≡ run_for (around context.now) item.now source.now) }
 {
     let outs = source_outs(alloc, context, item, source)?;
-    let depfile = depfile_for(alloc, context, item, source)?;
-    let args = args_for(alloc, context, item, source)?;
-    let ins = only(alloc, source.seen_from(alloc, context.build)?)?;
+    let ends = beside(outs, ins_for(alloc, context, source))?;
+    let files = beside(ends, depfile_for(alloc, context, item, source))?;
+    let made = beside(files, args_for(alloc, context, item, source))?;
+    let (((outs, ins), depfile), args) = made;
     Ok(Run {
         outs,
         ins,

@@ -12,6 +12,7 @@ ghost use Rattle.gn_records.specs.Compiled.{outs_of_tool, unit_of, first_alone, 
 ghost use Rattle.gn_records.specs.Outputs.{for_source};
 
 use crate::context::Context;
+use crate::keeping::beside;
 use crate::outputs::for_source;
 use crate::paths::paths_at;
 use gn_items::{Item, Tool};
@@ -33,7 +34,9 @@ fn outs_by(
     ensures { IfOk result (λ outs. outs ≡ outs_of_tool (values_of names.now) given.now (Some tool.now)) }
 {
     let given = given_for(alloc, Position::ToolOutputs, names, given)?;
-    tool_outputs(alloc, names, &given, tool.fields.substs(Variable::Outputs))
+    let outs = tool_outputs(alloc, names, &given, tool.fields.substs(Variable::Outputs));
+    drop(given);
+    outs
 }
 
 // What a tool makes by the texts of its outputs; nothing where the toolchain lacks it.
@@ -63,7 +66,9 @@ fn outs_of_source(
     ensures { IfOk result (λ outs. outs ≡ (unit_of (around context.now) item.now (values_of names.now) tool source.now).outs) }
 {
     let given = for_source(alloc, context, item, Position::ToolOutputs, source)?;
-    outs_of_tool(alloc, names, &given, context.tools.get(tool))
+    let outs = outs_of_tool(alloc, names, &given, context.tools.get(tool));
+    drop(given);
+    outs
 }
 
 // A source that a tool builds.
@@ -78,10 +83,12 @@ fn unit_of(
     ensures { IfOk result (λ unit. unit ≡ unit_of (around context.now) item.now (values_of names.now) tool source.now) }
 {
     let file_part = part(alloc, source.as_bytes(), PathPart::File)?;
-    let name_part = part(alloc, source.as_bytes(), PathPart::Name)?;
-    let rule = tool_rule(alloc, context.prefix, tool)?;
-    let outs = outs_of_source(alloc, context, item, names, tool, source)?;
-    let source = source.seen_from(alloc, context.build)?;
+    let parts = beside(file_part, part(alloc, source.as_bytes(), PathPart::Name))?;
+    let rule = beside(parts, tool_rule(alloc, context.prefix, tool))?;
+    let outs = outs_of_source(alloc, context, item, names, tool, source);
+    let outs = beside(rule, outs)?;
+    let made = beside(outs, source.seen_from(alloc, context.build))?;
+    let ((((file_part, name_part), rule), outs), source) = made;
     Ok(Unit {
         rule,
         source,

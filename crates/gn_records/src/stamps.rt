@@ -6,6 +6,7 @@ ghost use Rattle.gn_records.specs.Around.{around};
 ghost use Rattle.gn_records.specs.Steps.{rule_of, where_had, stamp_of, stamp_step, response_of};
 
 use crate::context::Context;
+use crate::keeping::beside;
 use crate::texts::only;
 use gn_labels::Label;
 use gn_paths::{Text, Texts};
@@ -30,7 +31,8 @@ pub(crate) fn response(
     ensures { IfOk result (λ t. t ≡ response_of (around context.now) label.now) }
 {
     let mut text = stamp(alloc, context, label)?;
-    text.append(b".rsp")?;
+    let added = text.append(b".rsp");
+    let (text, ()) = beside(text, added)?;
     Ok(text)
 }
 
@@ -53,6 +55,6 @@ pub(crate) fn stamp_step(
     ensures { IfOk result (λ step. step ≡ stamp_step (around context.now) label.now) }
 {
     let rule = tool_rule(alloc, context.prefix, ToolName::Stamp)?;
-    let outs = stamp_outs(alloc, context, label)?;
+    let (rule, outs) = beside(rule, stamp_outs(alloc, context, label))?;
     Ok(Step { rule, outs })
 }

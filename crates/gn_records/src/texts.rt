@@ -2,6 +2,7 @@
 
 ghost use Rattle.std.specs.Prelude.{◌≡◌, [], ◌∷◌, ◌++◌, IfOk, OnOk, map};
 
+use crate::keeping::beside;
 use gn_paths::{Text, Texts};
 use gn_writing::Dones;
 use std::alloc::{AllocError, Global};
@@ -41,7 +42,8 @@ pub(crate) fn both(alloc: Global, first: &Texts, second: &Texts) -> Result<Texts
     ensures { IfOk result (λ list. list ≡ first.now ++ second.now) }
 {
     let mut list = first.copy(alloc)?;
-    add_copies(alloc, &mut list, second.as_slice())?;
+    let added = add_copies(alloc, &mut list, second.as_slice());
+    let (list, ()) = beside(list, added)?;
     Ok(list)
 }
 
@@ -61,6 +63,6 @@ pub fn dones(alloc: Global, deps: &[&Text], data_deps: &[&Text]) -> Result<Dones
     ensures { IfOk result (λ d. d ≡ record { deps = map (λ t. t.now) deps.now; data_deps = map (λ t. t.now) data_deps.now }) }
 {
     let deps = copies_of_lent(alloc, deps)?;
-    let data_deps = copies_of_lent(alloc, data_deps)?;
+    let (deps, data_deps) = beside(deps, copies_of_lent(alloc, data_deps))?;
     Ok(Dones { deps, data_deps })
 }

@@ -8,6 +8,7 @@ ghost use Rattle.gn_records.specs.Around.{around};
 ghost use Rattle.gn_records.specs.ToolTexts.{first_text, rule_text, rule_texts, one_if, tool_with, tool_of, tool_named, tools_written};
 
 use crate::context::Context;
+use crate::keeping::beside;
 use crate::linking::text_of_tool;
 use crate::rules::first_pool;
 use gn_items::Tool;
@@ -61,10 +62,11 @@ fn rule_texts(alloc: Global, tool: &Tool) -> Result<ToolTexts, AllocError>
     ensures { IfOk result (λ texts. texts ≡ rule_texts tool.now) }
 {
     let command = rule_text(alloc, tool, Variable::Command)?;
-    let depfile = rule_text(alloc, tool, Variable::Depfile)?;
-    let description = rule_text(alloc, tool, Variable::Description)?;
-    let rspfile = rule_text(alloc, tool, Variable::Rspfile)?;
-    let rspfile_content = rule_text(alloc, tool, Variable::RspfileContent)?;
+    let depfile = beside(command, rule_text(alloc, tool, Variable::Depfile))?;
+    let described = beside(depfile, rule_text(alloc, tool, Variable::Description))?;
+    let rspfile = beside(described, rule_text(alloc, tool, Variable::Rspfile))?;
+    let made = beside(rspfile, rule_text(alloc, tool, Variable::RspfileContent))?;
+    let ((((command, depfile), description), rspfile), rspfile_content) = made;
     Ok(ToolTexts {
         command,
         depfile,
@@ -89,7 +91,8 @@ fn rule_name(alloc: Global, context: &Context<'_>, tool: &Tool) -> Result<Text, 
     ensures { IfOk result (λ t. t ≡ (around context.now).prefix ++ tool.now.name) }
 {
     let mut name = context.prefix.copy(alloc)?;
-    name.append(tool.name.as_bytes())?;
+    let added = name.append(tool.name.as_bytes());
+    let (name, ()) = beside(name, added)?;
     Ok(name)
 }
 
@@ -102,10 +105,13 @@ fn tool_with(
 ) -> Result<gn_writing::Tool, AllocError>
     ensures { IfOk result (λ t. t ≡ tool_with (around context.now) tool.now texts) }
 {
-    let rule = rule_name(alloc, context, tool)?;
-    let depsformat = Text::from_bytes(alloc, text_of_tool(Some(tool), Variable::Depsformat))?;
-    let pool = first_pool(alloc, context.default, tool.fields.labels(Variable::Pool))?;
-    let restat = restat_of(alloc, tool)?;
+    let rule = beside(texts, rule_name(alloc, context, tool))?;
+    let format = Text::from_bytes(alloc, text_of_tool(Some(tool), Variable::Depsformat));
+    let formed = beside(rule, format)?;
+    let pool = first_pool(alloc, context.default, tool.fields.labels(Variable::Pool));
+    let pooled = beside(formed, pool)?;
+    let made = beside(pooled, restat_of(alloc, tool))?;
+    let ((((texts, rule), depsformat), pool), restat) = made;
     Ok(gn_writing::Tool {
         rule,
         command: texts.command,
