@@ -1,2 +1,3 @@
 pub mod NoDependency
 pub mod Lists
+mod Loops
