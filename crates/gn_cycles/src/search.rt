@@ -68,6 +68,22 @@ impl Search {
         self.labels.add_all(labels.2)?;
         fill(&mut self.sources, self.labels.len(), number)
     }
+
+    // Searches for a label from another along all dependencies, having met nothing yet.
+    fn run<G: Graph>(&mut self, from: &Label, to: &Label, graph: &G) -> Result<(), AllocError>
+        requires labels { self.old.labels ≡ [] }
+        requires sources { self.old.sources.items ≡ [] }
+        ensures { OnOk result (IsSearched (all_deps (G.shape graph.now)) from.now to.now self.new.labels self.new.sources.items) }
+    {
+        self.meet(dependencies(graph, from), 0)?;
+        let mut next = 0;
+        while next < self.labels.len() && !self.labels.has(to) {
+            let found = dependencies(graph, self.labels.at(next));
+            next += 1;
+            self.meet(found, next)?;
+        }
+        Ok(())
+    }
 }
 
 // Searches for a label from another along all dependencies.
@@ -80,12 +96,9 @@ pub(crate) fn searched<G: Graph>(
     ensures { IfOk result (λ s. IsSearched (all_deps (G.shape graph.now)) from.now to.now s.labels s.sources.items) }
 {
     let mut search = Search::new(alloc);
-    search.meet(dependencies(graph, from), 0)?;
-    let mut next = 0;
-    while next < search.labels.len() && !search.labels.has(to) {
-        let found = dependencies(graph, search.labels.at(next));
-        next += 1;
-        search.meet(found, next)?;
+    if let Err(error) = search.run(from, to, graph) {
+        drop(search);
+        return Err(error);
     }
     Ok(search)
 }

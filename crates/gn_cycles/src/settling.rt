@@ -46,7 +46,10 @@ pub fn settled<G: Graph>(alloc: Global, order: &[Label], graph: &G) -> Result<Fi
 {
     let mut settled = Firsts::new(alloc);
     for label in order {
-        settle(&mut settled, graph, label)?;
+        if let Err(error) = settle(&mut settled, graph, label) {
+            drop(settled);
+            return Err(error);
+        }
     }
     Ok(settled)
 }

@@ -12,8 +12,8 @@ use std::alloc::{AllocError, Global};
 fn push_copy(alloc: Global, labels: &mut Vec<Label>, label: &Label) -> Result<(), AllocError>
     ensures { OnOk result (labels.new.items ≡ labels.old.items ++ label.now ∷ []) }
 {
-    let label = label.copy(alloc)?;
-    labels.push(label)?;
+    labels.reserve(1)?;
+    labels.push_reserved(label.copy(alloc)?);
     Ok(())
 }
 
@@ -38,7 +38,10 @@ pub(crate) fn way_to(
     let mut way = Vec::new(alloc);
     let mut left = number;
     while left > 0 {
-        push_copy(alloc, &mut way, search.labels.at(left - 1))?;
+        if let Err(error) = push_copy(alloc, &mut way, search.labels.at(left - 1)) {
+            drop(way);
+            return Err(error);
+        }
         left = source_of(search, left - 1);
     }
     way.reverse();
