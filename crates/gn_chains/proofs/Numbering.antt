@@ -96,6 +96,11 @@ pub some_append : (xs ys : List Label) (o : Option Label) → (has_some xs o || 
 some_append xs ys None = refl
 some_append xs ys (Some q) = sym (has-append xs ys q)
 
+-- the same behind what is known before
+pub some_two : (b : Bool) (xs ys : List Label) (o : Option Label) → ((b || has_some xs o) || has_some ys o) ≡ (b || has_some (xs ++ ys) o)
+some_two true xs ys o = refl
+some_two false xs ys o = some_append xs ys o
+
 -- ---- lists at numbers
 pub list_here : (vs : List (Vec ℕ Global)) (i : ℕ) (v : Vec ℕ Global) → i < length vs → v ≡ get_or vs i v → list_at (lists_in vs) i ≡ v.items
 list_here vs i v l e = ap list_of (slice_get-map (λ (u : Vec ℕ Global). u.items) vs i ∙ ap (option_map (λ (u : Vec ℕ Global). u.items)) (slice_get_read vs (length vs) i v refl l e))

@@ -1,6 +1,5 @@
 -- Three lists that are put in one after the other are put in as one.
-use Rattle.std.proofs.Common.{◌≡◌, List, [], ◌++◌, Bool, filter, Result, OnOk, sym, ap, ◌∙◌, append-nil}
-use Rattle.std.proofs.lemmas.List.Elements.{filter-append}
+use Rattle.std.proofs.Common.{◌≡◌, List, [], ◌++◌, Bool, filter, Result, OnOk, append-nil}
 use Rattle.std.proofs.lemmas.Result.{on_ok_weaker}
 use Rattle.gn_labels.specs.declared.label.Label.{Label}
 use Rattle.gn_dependencies.specs.Lists.{added}

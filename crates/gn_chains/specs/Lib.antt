@@ -2,3 +2,4 @@ pub mod Walking
 pub mod Numbers
 pub mod Counts
 pub mod Candidates
+pub mod Walked

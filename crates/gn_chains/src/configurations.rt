@@ -4,7 +4,7 @@ ghost use Rattle.std.specs.Prelude.{◌≡◌, OnOk, IfOk};
 ghost use Rattle.std.specs.List.{flat_map};
 ghost use Rattle.gn_dependencies.specs.Lists.{added};
 ghost use Rattle.gn_dependencies.specs.Shape.{near, public_near};
-ghost use Rattle.gn_dependencies.specs.Configurations.{own_configs, AreRecorded, IsApplied, IsPushed, IsPushedPublic};
+ghost use Rattle.gn_dependencies.specs.Configurations.{own_configs, applied_from, pushed_from, pushed_public_from, AreRecorded, IsApplied, IsPushed, IsPushedPublic};
 
 use crate::firsts::Firsts;
 use crate::graph::Graph;
@@ -67,6 +67,32 @@ fn add_own<G: Graph>(out: &mut Firsts, graph: &G, target: &Label) -> Result<(), 
     out.add_all(graph.labels(target, Variable::PublicConfigs))
 }
 
+// All that is applied to a target.
+fn add_applied<G: Graph>(out: &mut Firsts, graph: &G, target: &Label) -> Result<(), AllocError>
+    ensures { OnOk result (out.new ≡ added out.old (applied_from (G.shape graph.now) (G.records graph.now) target.now)) }
+{
+    add_own(out, graph, target)?;
+    add_near_pushed(out, graph, target)?;
+    add_near_pushed_public(out, graph, target)
+}
+
+// All that a target hands on to all that depend on it.
+fn add_handed_on<G: Graph>(out: &mut Firsts, graph: &G, target: &Label) -> Result<(), AllocError>
+    ensures { OnOk result (out.new ≡ added out.old (pushed_from (G.shape graph.now) (G.records graph.now) target.now)) }
+{
+    out.add_all(graph.labels(target, Variable::AllDependentConfigs))?;
+    add_near_pushed(out, graph, target)
+}
+
+// All that a target hands on to those that have it as a dependency.
+fn add_handed_next<G: Graph>(out: &mut Firsts, graph: &G, target: &Label) -> Result<(), AllocError>
+    ensures { OnOk result (out.new ≡ added out.old (pushed_public_from (G.shape graph.now) (G.records graph.now) target.now)) }
+{
+    out.add_all(graph.labels(target, Variable::PublicConfigs))?;
+    let dependencies = graph.labels(target, Variable::PublicDeps);
+    add_pushed_public(out, graph, dependencies)
+}
+
 /// The configurations applied to a target: its own ones, then the all-dependent ones of all targets that it reaches by
 /// public and private dependencies, then the public ones of those that it reaches by one of these and public ones behind it;
 /// each once, at its first place. The records of all its dependencies must be there, so it reaches no cycle.
@@ -75,9 +101,10 @@ pub fn applied<G: Graph>(alloc: Global, target: &Label, graph: &G) -> Result<Vec
     ensures { IfOk result (λ labels. IsApplied (G.shape graph.now) target.now labels.items) }
 {
     let mut out = Firsts::new(alloc);
-    add_own(&mut out, graph, target)?;
-    add_near_pushed(&mut out, graph, target)?;
-    add_near_pushed_public(&mut out, graph, target)?;
+    if let Err(error) = add_applied(&mut out, graph, target) {
+        drop(out);
+        return Err(error);
+    }
     out.into_vec()
 }
 
@@ -89,8 +116,10 @@ pub fn pushed<G: Graph>(alloc: Global, target: &Label, graph: &G) -> Result<Vec<
     ensures { IfOk result (λ labels. IsPushed (G.shape graph.now) target.now labels.items) }
 {
     let mut out = Firsts::new(alloc);
-    out.add_all(graph.labels(target, Variable::AllDependentConfigs))?;
-    add_near_pushed(&mut out, graph, target)?;
+    if let Err(error) = add_handed_on(&mut out, graph, target) {
+        drop(out);
+        return Err(error);
+    }
     out.into_vec()
 }
 
@@ -105,7 +134,9 @@ pub fn pushed_public<G: Graph>(
     ensures { IfOk result (λ labels. IsPushedPublic (G.shape graph.now) target.now labels.items) }
 {
     let mut out = Firsts::new(alloc);
-    out.add_all(graph.labels(target, Variable::PublicConfigs))?;
-    add_pushed_public(&mut out, graph, graph.labels(target, Variable::PublicDeps))?;
+    if let Err(error) = add_handed_next(&mut out, graph, target) {
+        drop(out);
+        return Err(error);
+    }
     out.into_vec()
 }

@@ -36,6 +36,19 @@ fn add_numbers(
     Ok(())
 }
 
+// Puts the numbers of the walked labels with the others on which a label depends, by public and private dependencies.
+fn add_near<G: Graph>(
+    out: &mut IndexSet<usize>,
+    graph: &G,
+    walked: &Firsts,
+    label: &Label,
+) -> Result<(), AllocError>
+    ensures { OnOk result ((n : ℕ) → among out.new.keys n ≡ (among out.old.keys n || has_some (near (G.shape graph.now) label.now) (slice_get walked.now n))) }
+{
+    add_numbers(out, walked, graph.labels(label, Variable::PublicDeps))?;
+    add_numbers(out, walked, graph.labels(label, Variable::Deps))
+}
+
 // The numbers, none of them twice.
 fn into_numbers(alloc: Global, numbers: IndexSet<usize>) -> Result<Vec<usize>, AllocError>
     ensures numbers { IfOk result (λ list. list.items ≡ numbers.keys) }
@@ -55,8 +68,10 @@ fn edges_from<G: Graph>(
     ensures once { IfOk result (λ list. IsDistinct nat_eq list.items) }
 {
     let mut out = IndexSet::new(alloc);
-    add_numbers(&mut out, walked, graph.labels(label, Variable::PublicDeps))?;
-    add_numbers(&mut out, walked, graph.labels(label, Variable::Deps))?;
+    if let Err(error) = add_near(&mut out, graph, walked, label) {
+        drop(out);
+        return Err(error);
+    }
     into_numbers(alloc, out)
 }
 

@@ -5,8 +5,10 @@ ghost use Rattle.gn_labels.specs.declared.label.Label.{Label as Named};
 ghost use Rattle.gn_dependencies.specs.Configurations.{AreRecorded};
 ghost use Rattle.gn_dependencies.specs.Inherited.{is_library, AreLibraries, IsInherited};
 ghost use Rattle.gn_chains.specs.Numbers.{among};
+ghost use Rattle.gn_chains.specs.Walked.{AreWalked};
 
 use crate::edges::edges;
+use crate::firsts::Firsts;
 use crate::graph::Graph;
 use crate::kinds::{Walk, is_library, links};
 use crate::order::order;
@@ -52,15 +54,33 @@ fn libraries_at<G: Graph>(
     Ok(labels)
 }
 
+// The libraries among the labels that a walk from a target has met, in their order.
+fn libraries_among<G: Graph>(
+    alloc: Global,
+    graph: &G,
+    walked: &Firsts,
+) -> Result<Vec<Label>, AllocError>
+    requires { (t : Named) × AreRecorded (G.shape graph.now) (G.records graph.now) t × AreWalked (G.shape graph.now) t walked.now }
+    ensures { IfOk result (λ labels. (t : Named) → AreWalked (G.shape graph.now) t walked.now → AreLibraries (G.default graph.now) (G.shape graph.now) t labels.items) }
+{
+    let edges = edges(alloc, graph, walked)?;
+    let ended = order(alloc, graph.default_toolchain(), walked.as_slice(), &edges);
+    drop(edges);
+    let order = ended?;
+    let labels = libraries_at(alloc, graph, walked.as_slice(), &order);
+    drop(order);
+    labels
+}
+
 // The libraries that a target inherits that is linked.
 fn libraries<G: Graph>(alloc: Global, target: &Label, graph: &G) -> Result<Vec<Label>, AllocError>
     requires { AreRecorded (G.shape graph.now) (G.records graph.now) target.now }
     ensures { IfOk result (λ labels. AreLibraries (G.default graph.now) (G.shape graph.now) target.now labels.items) }
 {
     let walked = walked(alloc, Walk::Libraries, target, graph)?;
-    let edges = edges(alloc, graph, &walked)?;
-    let order = order(alloc, graph.default_toolchain(), walked.as_slice(), &edges)?;
-    libraries_at(alloc, graph, walked.as_slice(), &order)
+    let labels = libraries_among(alloc, graph, &walked);
+    drop(walked);
+    labels
 }
 
 /// The libraries that a target inherits: none unless it is an executable, a shared library or a loadable module; else the source

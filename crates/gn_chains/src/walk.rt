@@ -1,6 +1,6 @@
 // Walks along dependencies.
 
-ghost use Rattle.std.specs.Prelude.{◌≡◌, ◌↔◌, ◌++◌, OnOk, IfOk, true};
+ghost use Rattle.std.specs.Prelude.{◌≡◌, ◌↔◌, ◌++◌, [], OnOk, IfOk, true};
 ghost use Rattle.gn_labels.specs.declared.label.Label.{Label as Named};
 ghost use Rattle.gn_dependencies.specs.Lists.{has, added};
 ghost use Rattle.gn_chains.specs.Walking.{looked_at, met, opened, IsMetBy};
@@ -77,6 +77,26 @@ fn seen_from<'a, G: Graph>(
     }
 }
 
+// Puts the labels that a walk from a target meets into an empty list.
+fn add_walked<G: Graph>(
+    out: &mut Firsts,
+    graph: &G,
+    walk: Walk,
+    target: &Label,
+) -> Result<(), AllocError>
+    requires { out.old ≡ [] }
+    ensures { OnOk result ((q : Named) → (has out.new q ≡ true) ↔ IsMetBy walk (G.shape graph.now) target.now q) }
+{
+    add_all_met(out, graph, walk, seen_at(graph, walk, target))?;
+    let mut next = 0;
+    while next < out.len() {
+        let labels = seen_from(graph, walk, out.at(next));
+        add_all_met(out, graph, walk, labels)?;
+        next += 1;
+    }
+    Ok(())
+}
+
 /// The labels that a walk from a target meets: those next to it, and those next to each that it has met and goes through; each
 /// once.
 pub fn walked<G: Graph>(
@@ -88,12 +108,9 @@ pub fn walked<G: Graph>(
     ensures { IfOk result (λ out. (q : Named) → (has out q ≡ true) ↔ IsMetBy walk (G.shape graph.now) target.now q) }
 {
     let mut out = Firsts::new(alloc);
-    add_all_met(&mut out, graph, walk, seen_at(graph, walk, target))?;
-    let mut next = 0;
-    while next < out.len() {
-        let labels = seen_from(graph, walk, out.at(next));
-        add_all_met(&mut out, graph, walk, labels)?;
-        next += 1;
+    if let Err(error) = add_walked(&mut out, graph, walk, target) {
+        drop(out);
+        return Err(error);
     }
     Ok(out)
 }

@@ -1,12 +1,10 @@
-use Rattle.std.proofs.Common.{◌≡◌, List, [], ap, sym, subst, ◌∙◌}
-use Rattle.std.specs.List.{flat_map}
+use Rattle.std.proofs.Common.{◌≡◌, List, sym, subst, ap, ◌∙◌}
 use Rattle.std.proofs.lemmas.Result.{IfOk-weaker}
 use Rattle.gn_labels.specs.declared.label.Label.{Label}
 use Rattle.gn_dependencies.specs.Lists.{added}
-use Rattle.gn_dependencies.specs.Shape.{Shape, public_near}
-use Rattle.gn_dependencies.specs.Configurations.{Records, public_configs, IsPushedPublic}
+use Rattle.gn_dependencies.specs.Shape.{Shape}
+use Rattle.gn_dependencies.specs.Configurations.{Records, pushed_public_from, IsPushedPublic}
 use Rattle.gn_dependencies.proofs.Merge.{pushed_public_settled}
-use Rattle.gn_dependencies.proofs.Joins.{then_two}
 use Rattle.gn_chains.proofs.configurations.pushed_public.Goals as goal
 
 pub returns : goal.returns
@@ -14,10 +12,5 @@ returns g c =
     let s : Shape = g.G.Graph.shape c.args.graph.now in
     let r : Records = g.G.Graph.records c.args.graph.now in
     let t = c.args.target.now in
-    let one : c.add_all.new.self ≡ added [] (public_configs s t)
-    = c.in_ok-add_all.ensures ∙ ap (λ (z : List Label). added z c.labels.result.now) c.new-out.ensures ∙ ap (added []) c.labels.ensures in
-    let two : c.add_pushed_public.new.out ≡ added c.add_all.new.self (flat_map r.pushed_public (public_near s t))
-    = c.in_ok-add_pushed_public.ensures ∙ ap (λ (z : List Label). added c.add_all.new.self (flat_map r.pushed_public z)) c.labels-2.ensures in
-    let all = then_two [] c.add_all.new.self c.add_pushed_public.new.out (public_configs s t) (flat_map r.pushed_public (public_near s t)) one two in
-    IfOk-weaker c.into_vec.result (λ v. v.items ≡ c.add_pushed_public.new.out) (λ v. IsPushedPublic s t v.items)
-    (λ v e. subst (λ (z : List Label). IsPushedPublic s t z) (sym (e ∙ all)) (pushed_public_settled s r t c.requires)) c.into_vec.ensures
+    IfOk-weaker c.into_vec.result (λ v. v.items ≡ c.add_handed_next.new.out) (λ v. IsPushedPublic s t v.items)
+    (λ v e. subst (λ (z : List Label). IsPushedPublic s t z) (sym (e ∙ c.in_default.ensures ∙ ap (λ (z : List Label). added z (pushed_public_from s r t)) c.new-out.ensures)) (pushed_public_settled s r t c.requires)) c.into_vec.ensures

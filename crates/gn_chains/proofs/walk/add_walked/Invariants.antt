@@ -1,7 +1,7 @@
 use Rattle.std.proofs.Common.{◌-◌, length}
 use Rattle.gn_chains.specs.Walking.{looked_at, meets, goes_through}
 use Rattle.gn_chains.proofs.WalkState.{WalkState}
-use Rattle.gn_chains.proofs.walk.walked.Given as goal
+use Rattle.gn_chains.proofs.walk.add_walked.Given as goal
 
 abbrev pub invariant-loop-next : goal.invariant-loop-next
 invariant-loop-next g l =
