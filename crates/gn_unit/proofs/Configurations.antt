@@ -2,7 +2,6 @@
 use Rattle.std.proofs.Common.{◌≡◌, ℕ, List, Option, Some, None, IfSome, Result, Ok, Err, refl, sym, ◌∙◌, ap, subst, arith}
 use Rattle.gn_tree.specs.Tree.{BlockTree}
 use Rattle.gn_tree.specs.Depth.{IsShallow}
-use Rattle.gn_paths.specs.declared.place.Place.{Place}
 use Rattle.gn_grammar.specs.declared.fault.SyntaxFault.{SyntaxFault}
 use Rattle.gn_faults.specs.declared.code.Code.TheVariants as code
 use Rattle.gn_faults.specs.declared.fault.Fault.{Fault}
@@ -22,7 +21,7 @@ use Rattle.gn_executions.specs.Units.{reading_runs, content_runs, own_place, tre
 use Rattle.gn_syntax.specs.Reading.{reading}
 use Rattle.gn_unit.specs.Begun.{BeginsAs, Begins, LeavesTree, Reads}
 use Rattle.gn_unit.specs.Found.{content_view}
-use Rattle.gn_unit.specs.Configuration.{own_content_runs, placed, found_below, found_in, found_runs}
+use Rattle.gn_unit.specs.Configuration.{own_content_runs, placed, found_below, found_in}
 use Rattle.gn_eval.specs.Telling.{covered, told_before, goes_on_further, then_failed, covers_error}
 use Rattle.gn_unit.proofs.Executions.{content_found}
 
@@ -37,7 +36,7 @@ own_content_told path a env found before after h same =
     ap (λ (x : Option Content). content_asked x path (own_place path) before (λ content out1. ends content env out1)) (content_found path a found h)
     ∙ ap (λ (o : Effects). ends (content_view found) env o) (sym same)
 
--- the file is read as its content is
+-- the file is read as the content is that is found
 below_read : (x : Option Content) (other : List ℕ) (env : Environment) (out : Effects)
     → content_asked x other (own_place other) out (λ content out1. other_content_runs other content env out1)
     ≡ then_do (then_do (content_asked x other (own_place other) out (λ content out1. ends content env out1)) (λ content env1 out1. ends content (placed other content env1) out1)) (λ content env1 out1. content_runs content env1 out1)
@@ -46,7 +45,7 @@ below_read (Some is_absent) other env out = refl
 below_read (Some is_too_big) other env out = refl
 below_read (Some (has_bytes bytes)) other env out = refl
 
-in_read : (secondary : Option (List ℕ)) (a : Answers) (content : Content) (env : Environment) (out : Effects)
+pub in_read : (secondary : Option (List ℕ)) (a : Answers) (content : Content) (env : Environment) (out : Effects)
     → content_in secondary a content env out ≡ then_do (found_in secondary a content env out) (λ content1 env1 out1. content_runs content1 env1 out1)
 in_read None a content env out = refl
 in_read (Some tree) a is_absent env out = let other = path_below tree env.setting.file in below_read (a.contents other) other env out
@@ -55,14 +54,17 @@ in_read (Some tree) a (has_bytes bytes) env out = refl
 
 asked_read : (x : Option Content) (path : List ℕ) (secondary : Option (List ℕ)) (a : Answers) (env : Environment) (out : Effects)
     → content_asked x path (own_place path) out (λ content out1. content_in secondary a content env out1)
-    ≡ then_do (then_do (content_asked x path (own_place path) out (λ content out1. ends content env out1)) (λ content env1 out1. found_in secondary a content env1 out1)) (λ content env1 out1. content_runs content env1 out1)
+    ≡ then_do (content_asked x path (own_place path) out (λ content out1. ends content env out1)) (λ content env1 out1. content_in secondary a content env1 out1)
 asked_read None path secondary a env out = refl
-asked_read (Some content) path secondary a env out = in_read secondary a content env (with_asked (content_of path) out)
+asked_read (Some content) path secondary a env out = refl
 
-pub found_read : (secondary : Option (List ℕ)) (a : Answers) (env : Environment) (out : Effects)
-    → secondary_tree_runs secondary a env out ≡ then_do (found_runs secondary a env out) (λ content env1 out1. content_runs content env1 out1)
+-- and that is asked for at its own path first
+found_read : (path : List ℕ) (secondary : Option (List ℕ)) (a : Answers) (env : Environment) (out : Effects)
+    → env.setting.file ≡ path → secondary_tree_runs secondary a env out ≡ then_do (own_content_runs path a env out) (λ content env1 out1. content_in secondary a content env1 out1)
 unfolding secondary_tree_runs
-found_read secondary a env out = asked_read (a.contents env.setting.file) env.setting.file secondary a env out
+found_read path secondary a env out is =
+    ap (λ (file : List ℕ). content_asked (a.contents file) file (own_place file) out (λ content out1. content_in secondary a content env out1)) is
+    ∙ asked_read (a.contents path) path secondary a env out
 
 -- the same where it is looked for at its own path alone
 own_asked : (x : Option Content) (path : List ℕ) (env : Environment) (out : Effects)
@@ -109,21 +111,8 @@ same_runs {A = A} view before after result env out run other e h = record {
   rose = h.rose;
 }
 
--- a step behind what was told of a content
+-- a step behind what was told of a content, that asks nothing more
 module _ (before later : LibraryState) (path : List ℕ) (env : Environment) (out out1 : Effects) (next : Answers → Content → Environment → Effects → Run (Left Content)) where
-  pub told_then : (found : Found) → Evaluates {T = Found} content_view before later (Ok found) env out1 (λ a. own_content_runs path a env out)
-      → (end : LibraryState) (result : Result Found EvalEnd) (after : Environment) (left : Effects) → Evaluates content_view later end result after left (λ a. next a (content_view found) env out1)
-      → Evaluates content_view before end result after left (λ a. then_do (own_content_runs path a env out) (next a))
-  told_then found told end result after left h = record {
-    runs = λ a covers.
-        subst (λ (r : Run (Left Content)). IsRun content_view end.need result after left r)
-        (sym (ap (λ (r : Run (Left Content)). then_do r (next a)) (told.runs a (told_before h.goes a (covered end.told result a covers)))))
-        (h.runs a covers);
-    goes = goes_on_further before later end told.goes h.goes;
-    rose = λ e. omega (arith, told.goes.later, h.rose e);
-  }
-
-  -- one that asks nothing more
   pub told_still : (found : Found) → Evaluates {T = Found} content_view before later (Ok found) env out1 (λ a. own_content_runs path a env out)
       → (after : Environment) → ((a : Answers) → next a (content_view found) env out1 ≡ ends (content_view found) after out1)
       → Evaluates {T = Found} content_view before later (Ok found) after out1 (λ a. then_do (own_content_runs path a env out) (next a))
@@ -192,11 +181,43 @@ module _ (before later : LibraryState) (env : Environment) (out : Effects) (foun
     rose = λ e. absurd (never e);
   }
 
+-- there is none where its content wasn't told
+module _ (before later : LibraryState) (env : Environment) (out : Effects) (found : Answers → Run (Left Content)) (run : Answers → Run (Left BlockTree))
+    (next : Answers → Content → Environment → Effects → Run (Left BlockTree)) (reads : (a : Answers) → run a ≡ then_do (found a) (next a)) where
   pub begins_fails : (e : EvalEnd) → Evaluates {T = Found} content_view before later (Err e) env out found → Begins before later (Err e) out run
   begins_fails e told = record {
     runs = λ a covers.
         subst (IsFailure later.need e out) (sym (reads a))
-        (then_failed later.need e out (found a) (λ content env1 out1. content_runs content env1 out1) (told.runs a (covers_error (BlockTree × Environment) Found later.told e a covers)));
+        (then_failed later.need e out (found a) (next a) (told.runs a (covers_error (BlockTree × Environment) Found later.told e a covers)));
     goes = told.goes;
     rose = λ k. told.rose (cc);
   }
+
+-- the same of a file of whose content at its own path was told, and that is looked for below the secondary source tree too
+module _ (before later : LibraryState) (secondary : Option (List ℕ)) (path : List ℕ) (env : Environment) (file : env.setting.file ≡ path) (out out1 : Effects) where
+  abbrev Tells : Result Found EvalEnd → Type 0
+  Tells result = Evaluates {T = Found} content_view before later result env out1 (λ a. own_content_runs path a env out)
+
+  in_told : (content : Found) (begins : Environment) → Tells (Ok content) → begins ≡ env → (a : Answers) → Includes later.told a → secondary_tree_runs secondary a env out ≡ content_in secondary a (content_view content) begins out1
+  in_told content begins told is a i =
+      found_read path secondary a env out file
+      ∙ ap (λ (r : Run (Left Content)). then_do r (λ content1 env1 out2. content_in secondary a content1 env1 out2)) (told.runs a i)
+      ∙ ap (λ (e : Environment). content_in secondary a (content_view content) e out1) (sym is)
+
+  pub own_known : (content : Found) (begins : Environment) (known : Option BlockTree) → Tells (Ok content) → begins ≡ env → IfSome known (Reads before.told (λ a. secondary_tree_runs secondary a env out))
+      → IfSome known (Reads later.told (λ a. content_in secondary a (content_view content) begins out1))
+  own_known content begins None told is knows = tt
+  own_known content begins (Some tree) told is knows = (knows.0, λ a i. subst (LeavesTree tree) (in_told content begins told is a i) (knows.1 a (told_before told.goes a i)))
+
+  pub own_begins : (content : Found) (begins : Environment) (end : LibraryState) (result : Result (BlockTree × Environment) EvalEnd) (left : Effects) → Tells (Ok content) → begins ≡ env
+      → Begins later end result left (λ a. content_in secondary a (content_view content) begins out1) → Begins before end result left (λ a. secondary_tree_runs secondary a env out)
+  own_begins content begins end result left told is h = record {
+    runs = λ a covers. subst (BeginsAs end.need result left) (sym (in_told content begins told is a (told_before h.goes a (covered end.told result a covers)))) (h.runs a covers);
+    goes = goes_on_further before later end told.goes h.goes;
+    rose = λ e. omega (arith, told.goes.later, h.rose e);
+  }
+
+  pub own_fails : (e : EvalEnd) → Tells (Err e) → Begins before later (Err e) out1 (λ a. secondary_tree_runs secondary a env out)
+  own_fails e told =
+      begins_fails before later env out1 (λ a. own_content_runs path a env out) (λ a. secondary_tree_runs secondary a env out) (λ a content env1 out2. content_in secondary a content env1 out2)
+      (λ a. found_read path secondary a env out file) e told

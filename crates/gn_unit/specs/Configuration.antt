@@ -24,10 +24,8 @@ abbrev pub found_or_below : List ℕ → Answers → Content → Steps Content
 found_or_below other answers is_absent env out = found_below other answers env out
 found_or_below other answers content env out = ends content env out
 
+-- what there is where the file that is evaluated is looked for, at whose path there is this: where nothing is there, it is looked for at the same path
+-- below the secondary source tree
 abbrev pub found_in : Option (List ℕ) → Answers → Content → Steps Content
 found_in None answers content env out = ends content env out
 found_in (Some tree) answers content env out = found_or_below (path_below tree env.setting.file) answers content env out
-
--- what there is at the path of the file that is evaluated, and where nothing is there, at the same path below the secondary source tree
-abbrev pub found_runs : Option (List ℕ) → Answers → Steps Content
-found_runs secondary answers env out = then_do (own_content_runs env.setting.file answers env out) (λ content env1 out1. found_in secondary answers content env1 out1)

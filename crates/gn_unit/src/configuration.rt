@@ -6,6 +6,7 @@ ghost use Rattle.gn_executions.specs.Setups.{secondary_tree_runs, setup_begins};
 ghost use Rattle.gn_unit.specs.Begun.{Begins, Reads};
 
 use crate::execution::{environment, found_file};
+use crate::found::content_at;
 use gn_env::Env;
 use gn_eval::{EvalEnd, Library};
 use gn_evaluation_base::Base;
@@ -46,6 +47,12 @@ pub(crate) fn begin_setup<L: Library>(
         (setup_begins base.now toolchain.now) out.old) }
     ensures shallow { IfOk result (λ begun. IsShallow begun.0) }
 {
-    let env = setup_environment(alloc, base, toolchain)?;
-    found_file(alloc, base, base.configuration(), env, known, out, library)
+    let path = base.configuration();
+    match content_at(alloc, path, out, library) {
+        Ok(found) => match setup_environment(alloc, base, toolchain) {
+            Ok(env) => found_file(alloc, base, path, found, env, known, out, library),
+            Err(_) => Err(EvalEnd::Memory),
+        },
+        Err(end) => Err(end),
+    }
 }

@@ -3,14 +3,16 @@
 ghost use Rattle.std.specs.Prelude.{◌≡◌, true, false, IfOk, IfSome};
 ghost use Rattle.gn_paths.specs.Directory.{directory_of};
 ghost use Rattle.gn_tree.specs.Depth.{IsShallow};
+ghost use Rattle.gn_eval.specs.Library.{IsWithinLimit};
 ghost use Rattle.gn_executions.specs.Units.{own_place, tree_runs, build_file_of, import_begins, load_begins};
-ghost use Rattle.gn_executions.specs.Setups.{secondary_tree_runs};
+ghost use Rattle.gn_executions.specs.Setups.{content_in, secondary_tree_runs};
 ghost use Rattle.gn_executions.specs.Base.{begins_over};
 ghost use Rattle.gn_unit.specs.Begun.{Begins, Reads};
+ghost use Rattle.gn_unit.specs.Found.{content_view};
 
 use crate::found::{begun_in, content_at, found_content};
 use gn_env::Env;
-use gn_eval::{EvalEnd, Library};
+use gn_eval::{EvalEnd, Found, Library};
 use gn_evaluation_base::Base;
 use gn_faults::FileKind;
 use gn_items::{Outcome, When, import_name, load_name};
@@ -92,30 +94,59 @@ fn load_environment(
 }
 
 /// The tree of the file at a path and the environment in which it is to run, which begins as `env` and has the places of the file that
-/// was found: at its path, or below the secondary source tree where there is no file at its own. The file isn't parsed where its tree is
-/// known before. What is asked is added to `out`. `Wrong` has the first fault, and comes exactly where there is one, but for want of
-/// memory; `Stopped` comes as from a library.
+/// was found: at its path, where the library has told `found`, or below the secondary source tree where there is no file at its own. The
+/// file isn't parsed where its tree is known before. What is asked is added to `out`. `Wrong` has the first fault, and comes exactly where
+/// there is one, but for want of memory; `Stopped` comes as from a library.
 pub(crate) fn found_file<L: Library>(
     alloc: Global,
     base: &Base,
     path: &Path,
+    found: Found,
     env: Env,
     known: Option<Parsed>,
     out: &mut Outcome,
     library: &mut L,
 ) -> Result<(Parsed, Env), EvalEnd>
     requires file { env.setting.file ≡ path.now }
-    requires known { IfSome known (Reads (L.state library.old).told (λ a. secondary_tree_runs base.now.secondary a env out.old)) }
-    ensures begins { Begins (L.state library.old) (L.state library.new) result out.new (λ a. secondary_tree_runs base.now.secondary a env out.old) }
+    requires within { IsWithinLimit found }
+    requires known { IfSome known (Reads (L.state library.old).told (λ a. content_in base.now.secondary a (content_view found) env out.old)) }
+    ensures begins { Begins (L.state library.old) (L.state library.new) result out.new (λ a. content_in base.now.secondary a (content_view found) env out.old) }
     ensures shallow { IfOk result (λ begun. IsShallow begun.0) }
 {
     let mut env = env;
-    match found_content(alloc, base, path, &mut env, out, library) {
+    match found_content(alloc, base, path, found, &mut env, out, library) {
         Ok(found) => begun_in(alloc, env, found, known),
         Err(end) => {
             drop(env);
             Err(end)
         }
+    }
+}
+
+// Where the execution of the build file of a directory begins that stands at this path. Its content is asked for first, and its
+// environment is made only where the library has answered.
+fn begin_load_at<L: Library>(
+    alloc: Global,
+    base: &Base,
+    directory: &Path,
+    toolchain: &Text,
+    path: &Path,
+    known: Option<Parsed>,
+    out: &mut Outcome,
+    library: &mut L,
+) -> Result<(Parsed, Env), EvalEnd>
+    requires { IfSome known (Reads (L.state library.old).told (λ a. secondary_tree_runs base.now.secondary a
+        (load_begins base.now directory.now toolchain.now path.now) out.old)) }
+    ensures begins { Begins (L.state library.old) (L.state library.new) result out.new (λ a. secondary_tree_runs base.now.secondary a
+        (load_begins base.now directory.now toolchain.now path.now) out.old) }
+    ensures shallow { IfOk result (λ begun. IsShallow begun.0) }
+{
+    match content_at(alloc, path, out, library) {
+        Ok(found) => match load_environment(alloc, base, directory, toolchain, path) {
+            Ok(env) => found_file(alloc, base, path, found, env, known, out, library),
+            Err(_) => Err(EvalEnd::Memory),
+        },
+        Err(end) => Err(end),
     }
 }
 
@@ -138,8 +169,9 @@ pub(crate) fn begin_load<L: Library>(
     ensures shallow { IfOk result (λ begun. IsShallow begun.0) }
 {
     let path = build_file(alloc, directory)?;
-    let env = load_environment(alloc, base, directory, toolchain, &path)?;
-    found_file(alloc, base, &path, env, known, out, library)
+    begin_load_at(
+        alloc, base, directory, toolchain, &path, known, out, library,
+    )
 }
 
 // The environment in which the file at a path begins that is imported.

@@ -13,7 +13,7 @@ ghost use Rattle.gn_executions.specs.Units.{reading_runs, content_runs};
 ghost use Rattle.gn_executions.specs.Setups.{path_below};
 ghost use Rattle.gn_unit.specs.Begun.{BeginsAs, LeavesTree};
 ghost use Rattle.gn_unit.specs.Found.{content_view};
-ghost use Rattle.gn_unit.specs.Configuration.{own_content_runs, placed, found_below, found_in, found_runs};
+ghost use Rattle.gn_unit.specs.Configuration.{own_content_runs, placed, found_below, found_in};
 
 use crate::execution::own_place;
 use gn_env::Env;
@@ -183,24 +183,26 @@ fn absent_content<L: Library>(
     }
 }
 
-/// What there is at the path of the file that is to run in an environment, as far as the library tells it, and where nothing is there,
-/// at the same path below the secondary source tree. The places of the file that was found are there from then on.
+/// What there is where a file is looked for that is to run in an environment, at whose path the library has told this: where nothing
+/// is there, it is looked for at the same path below the secondary source tree. The places of the file that was found are there from
+/// then on.
 pub(crate) fn found_content<L: Library>(
     alloc: Global,
     base: &Base,
     path: &Path,
+    found: Found,
     env: &mut Env,
     out: &mut Outcome,
     library: &mut L,
 ) -> Result<Found, EvalEnd>
-    requires { env.old.setting.file ≡ path.now }
-    ensures evaluates { Evaluates content_view (L.state library.old) (L.state library.new) result env.new out.new (λ a. found_runs base.now.secondary a env.old out.old) }
+    requires file { env.old.setting.file ≡ path.now }
+    requires within { IsWithinLimit found }
+    ensures evaluates { Evaluates content_view (L.state library.old) (L.state library.new) result env.new out.new (λ a. found_in base.now.secondary a (content_view found) env.old out.old) }
     ensures within { IfOk result (λ found. IsWithinLimit found) }
 {
-    match content_at(alloc, path, out, library) {
-        Ok(Found::Absent) => absent_content(alloc, base, path, env, out, library),
-        Ok(Found::TooBig) => Ok(Found::TooBig),
-        Ok(Found::Bytes(bytes)) => Ok(Found::Bytes(bytes)),
-        Err(end) => Err(end),
+    match found {
+        Found::Absent => absent_content(alloc, base, path, env, out, library),
+        Found::TooBig => Ok(Found::TooBig),
+        Found::Bytes(bytes) => Ok(Found::Bytes(bytes)),
     }
 }
