@@ -7,6 +7,7 @@ use gn_definitions::Definition;
 use gn_paths::Text;
 use gn_scopes::NamedScopes;
 use std::marker::Model;
+use std::mem;
 use std::sync::Arc;
 
 /// Who called the template whose body runs: the layers there, the definition whose body runs in them, if it is one, and
@@ -50,14 +51,26 @@ impl Caller {
         ensures body { option_map (λ d. d.value) body.new ≡ self.body }
         ensures file { file.new ≡ self.file }
     {
-        let Caller {
-            scopes: around,
-            body: running,
-            file: named,
-        } = self;
-        *scopes = around;
-        *body = running;
-        *file = named;
+        let mut caller = self;
+        caller.change_places(scopes, body, file);
+        drop(caller);
         scopes.leave();
+    }
+
+    // What is open where the caller calls and these change places. It takes no memory.
+    pub(crate) fn change_places(
+        &mut self,
+        scopes: &mut NamedScopes,
+        body: &mut Option<Arc<Definition>>,
+        file: &mut Text,
+    )
+        ensures caller { self.new ≡ record { chain = scopes.old; body = option_map (λ d. d.value) body.old; file = file.old } }
+        ensures scopes { scopes.new ≡ self.old.chain }
+        ensures body { option_map (λ d. d.value) body.new ≡ self.old.body }
+        ensures file { file.new ≡ self.old.file }
+    {
+        mem::swap(&mut self.scopes, scopes);
+        mem::swap(&mut self.body, body);
+        mem::swap(&mut self.file, file);
     }
 }

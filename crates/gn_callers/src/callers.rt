@@ -11,7 +11,6 @@ use gn_scopes::NamedScopes;
 use std::alloc::{AllocError, Global};
 use std::collections::VecDeque;
 use std::marker::Model;
-use std::mem;
 use std::sync::Arc;
 
 /// The callers of the templates whose bodies run. Contracts see the list of them, the innermost first.
@@ -67,17 +66,12 @@ impl Callers {
         ensures err { OnErr result ((self.new ≡ self.old) × (scopes.new ≡ scopes.old)
             × (option_map (λ d. d.value) body.new ≡ option_map (λ d. d.value) body.old) × (file.new ≡ file.old)) }
     {
-        self.items.reserve(1)?;
-        let Caller {
-            scopes: own,
-            body: running,
-            file: named,
-        } = begun;
-        let caller = Caller {
-            scopes: mem::replace(scopes, own),
-            body: mem::replace(body, running),
-            file: mem::replace(file, named),
-        };
+        if let Err(error) = self.items.reserve(1) {
+            drop(begun);
+            return Err(error);
+        }
+        let mut caller = begun;
+        caller.change_places(scopes, body, file);
         self.items.push_front_reserved(caller);
         Ok(())
     }

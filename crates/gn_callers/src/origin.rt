@@ -45,10 +45,12 @@ impl Callers {
             ≡ entries_but (target_name ∷ except.now) (origin_entries (origin_of from.entry) self.now)) }
     {
         let except = NameSet::new(alloc, except)?;
-        match from {
+        let copies = match from {
             Origin::Entries(entries) => copied_but(alloc, entries.as_slice(), &except),
             Origin::Invoker(_) => self.block_entries_but(alloc, &except),
-        }
+        };
+        drop(except);
+        copies
     }
 
     /// A read of each of these names there; a scope that is a value has no unread names. It takes no memory.

@@ -2,6 +2,7 @@
 // of the other one.
 
 ghost use Rattle.std.specs.Prelude.{◌≡◌, ◌≢◌, if◌then◌else◌, IfOk, OnOk, IfErr, true, false, Some, None, option_map};
+ghost use Rattle.std.specs.Str.{bytes_eq};
 ghost use Rattle.gn_values.specs.Limits.{scope_fits};
 ghost use Rattle.gn_environment.specs.Chains.{is_one_of, all_read};
 ghost use Rattle.gn_environment.specs.Templates.{with_caller, in_block};
@@ -59,9 +60,16 @@ pub fn invoker_among(names: &Texts) -> Option<&Text>
         ≡ (if is_one_of invoker_name names.now then Some invoker_name else None) }
 {
     for name in names.as_slice() {
-        if b"invoker".as_slice() == name.as_bytes() {
+        if is_invoker(name) {
             return Some(name);
         }
     }
     None
+}
+
+// Whether a name is the name of the invoker.
+fn is_invoker(name: &Text) -> bool
+    ensures { result ≡ bytes_eq invoker_name name.now }
+{
+    b"invoker".as_slice() == name.as_bytes()
 }

@@ -27,7 +27,12 @@ impl Callers {
     {
         let except = NameSet::new(alloc, except)?;
         let mut chosen = Vec::new(alloc);
-        self.choose(from, names, &except, &mut chosen)?;
+        let end = self.choose(from, names, &except, &mut chosen);
+        drop(except);
+        if let Err(error) = end {
+            drop(chosen);
+            return Err(error);
+        }
         Ok(chosen)
     }
 
