@@ -8,3 +8,4 @@ pub mod Rebase
 pub mod Calls
 pub mod Views
 pub mod Laws
+mod Outputs

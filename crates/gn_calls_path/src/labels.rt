@@ -34,25 +34,27 @@ fn obj_dir(alloc: Global, at: &Where, label: &Label) -> Result<Text, AllocError>
     ensures { IfOk result (λ t. t ≡ obj_directory_of (root_out_of at.now label.now.toolchain) label.now.dir) }
 {
     let out = at.root_out_of(alloc, &label.toolchain)?;
-    let made = obj_directory(alloc, &out, &label.dir)?;
-    made.as_text().copy(alloc)
+    let made = obj_directory(alloc, &out, &label.dir);
+    drop(out);
+    made?.as_text().copy(alloc)
 }
 
-fn gen_dir(alloc: Global, at: &Where, label: &Label) -> Result<Text, AllocError>
-    ensures { IfOk result (λ t. t ≡ gen_directory_of (root_out_of at.now label.now.toolchain) label.now.dir) }
+fn gen_dir(alloc: Global, at: &Where, label: &Label, directory: &Path) -> Result<Text, AllocError>
+    ensures { IfOk result (λ t. t ≡ gen_directory_of (root_out_of at.now label.now.toolchain) directory.now) }
 {
     let out = at.root_out_of(alloc, &label.toolchain)?;
-    let made = gen_directory(alloc, &out, &label.dir)?;
-    made.as_text().copy(alloc)
+    let made = gen_directory(alloc, &out, directory);
+    drop(out);
+    made?.as_text().copy(alloc)
 }
 
 fn root_gen(alloc: Global, at: &Where, label: &Label) -> Result<Text, AllocError>
     ensures { IfOk result (λ t. t ≡ gen_directory_of (root_out_of at.now label.now.toolchain) two_slashes) }
 {
-    let out = at.root_out_of(alloc, &label.toolchain)?;
     let root = Path::root(alloc)?;
-    let made = gen_directory(alloc, &out, &root)?;
-    made.as_text().copy(alloc)
+    let text = gen_dir(alloc, at, label, &root);
+    drop(root);
+    text
 }
 
 fn spelling(alloc: Global, label: &Label) -> Result<Text, AllocError>
@@ -83,7 +85,7 @@ fn label_info(alloc: Global, at: &Where, info: LabelInfo, label: &Label) -> Resu
         LabelInfo::Directory => label.dir.as_text().copy(alloc),
         LabelInfo::TargetOutDir => obj_dir(alloc, at, label),
         LabelInfo::RootOutDir => root_out(alloc, at, label),
-        LabelInfo::TargetGenDir => gen_dir(alloc, at, label),
+        LabelInfo::TargetGenDir => gen_dir(alloc, at, label, &label.dir),
         LabelInfo::RootGenDir => root_gen(alloc, at, label),
         LabelInfo::NoToolchain => spelling(alloc, label),
         LabelInfo::WithToolchain => with_toolchain(alloc, label),
@@ -95,7 +97,9 @@ fn answer_of(alloc: Global, at: &Where, info: LabelInfo, text: &[u8]) -> Result<
     ensures { Settles val_of result (read_at 0 (label_at at.now text.now) (λ label. text_answer (label_info at.now info label))) }
 {
     let label = read_label(alloc, at, text)?;
-    string(label_info(alloc, at, info, &label)?)
+    let told = label_info(alloc, at, info, &label);
+    drop(label);
+    string(told?)
 }
 
 /// What `get_label_info` answers to its values.
@@ -129,8 +133,24 @@ fn matches_of(alloc: Global, at: &Where, text: &[u8], texts: &[Value]) -> Result
         read_at 1 (each (pattern_at at.now) (map bytes_in texts.now)) (λ ps. gives (vbool (some_matches label ps))))) }
 {
     let label = read_label(alloc, at, text)?;
+    let answer = label_matches_some(alloc, at, &label, texts);
+    drop(label);
+    answer
+}
+
+/// Whether a label matches one of these patterns.
+fn label_matches_some(
+    alloc: Global,
+    at: &Where,
+    label: &Label,
+    texts: &[Value],
+) -> Result<Value, CallError>
+    ensures { Settles val_of result (read_at 1 (each (pattern_at at.now) (map bytes_in texts.now)) (λ ps. gives (vbool (some_matches label.now ps)))) }
+{
     let patterns = read_patterns(alloc, at, texts)?;
-    Ok(Value::Bool(some_matches(&label, patterns.as_slice())))
+    let matches = some_matches(label, patterns.as_slice());
+    drop(patterns);
+    Ok(Value::Bool(matches))
 }
 
 /// What `label_matches` answers to its values.

@@ -1,13 +1,14 @@
 // Calls that make a text of each string of their first argument.
 
 ghost use Rattle.std.specs.Prelude.{◌≡◌, ◌++◌, IfOk, map};
-ghost use Rattle.gn_paths.specs.Directory.{directory_of, obj, gen};
+ghost use Rattle.gn_paths.specs.Directory.{directory_of, output_directory};
 ghost use Rattle.gn_values.specs.View.{val_of};
 ghost use Rattle.gn_calls_text.specs.Views.{Settles, bytes_in};
 ghost use Rattle.gn_calls_path.specs.Calls.{path_info, path_info_at, path_info_answer};
 ghost use Rattle.gn_calls_path.specs.Directories.{root_out, source_part, system_part, directory_for_outputs};
 ghost use Rattle.gn_calls_path.specs.Each.{one, listed, answer_each};
 ghost use Rattle.gn_calls_path.specs.Found.{each};
+ghost use Rattle.gn_calls_path.specs.Outputs.{name_of};
 ghost use Rattle.gn_calls_path.specs.Views.{IsFound, made_at, given_of};
 
 use crate::answers::{string, strings};
@@ -31,22 +32,71 @@ pub(crate) enum Making<'a> {
     Rebased(&'a Option<Path>, &'a Path),
 }
 
-fn out_dir(alloc: Global, at: &Where, path: &Path) -> Result<Text, AllocError>
-    ensures { IfOk result (λ t. t ≡ directory_for_outputs obj (root_out at.now) (directory_of path.now)) }
-{
-    let out = at.root_out_of(alloc, &at.toolchain)?;
-    let directory = directory(alloc, path)?;
-    let made = obj_directory(alloc, &out, &source_part(alloc, &directory)?)?;
-    with_system_part(alloc, &made, &directory)
+/// Which outputs a directory has.
+#[derive(Clone, Copy)]
+pub(crate) enum Outputs {
+    /// Objects.
+    Obj,
+    /// Generated files.
+    Gen,
 }
 
-fn gen_dir(alloc: Global, at: &Where, path: &Path) -> Result<Text, AllocError>
-    ensures { IfOk result (λ t. t ≡ directory_for_outputs gen (root_out at.now) (directory_of path.now)) }
+/// The directory of outputs that stands for that of a path.
+fn outputs_dir(alloc: Global, at: &Where, outputs: Outputs, path: &Path) -> Result<Text, AllocError>
+    ensures { IfOk result (λ t. t ≡ directory_for_outputs (name_of outputs) (root_out at.now) (directory_of path.now)) }
+{
+    let directory = directory(alloc, path)?;
+    let text = outputs_of(alloc, at, outputs, &directory);
+    drop(directory);
+    text
+}
+
+/// The directory of outputs that stands for a directory.
+fn outputs_of(
+    alloc: Global,
+    at: &Where,
+    outputs: Outputs,
+    directory: &Path,
+) -> Result<Text, AllocError>
+    ensures { IfOk result (λ t. t ≡ directory_for_outputs (name_of outputs) (root_out at.now) directory.now) }
 {
     let out = at.root_out_of(alloc, &at.toolchain)?;
-    let directory = directory(alloc, path)?;
-    let made = gen_directory(alloc, &out, &source_part(alloc, &directory)?)?;
-    with_system_part(alloc, &made, &directory)
+    let text = outputs_below(alloc, outputs, &out, directory);
+    drop(out);
+    text
+}
+
+/// The directory of outputs below an output directory that stands for a directory.
+fn outputs_below(
+    alloc: Global,
+    outputs: Outputs,
+    out: &Path,
+    directory: &Path,
+) -> Result<Text, AllocError>
+    ensures { IfOk result (λ t. t ≡ directory_for_outputs (name_of outputs) out.now directory.now) }
+{
+    let part = source_part(alloc, directory)?;
+    let made = output_directory(alloc, outputs, out, &part);
+    drop(part);
+    let made = made?;
+    let text = with_system_part(alloc, &made, directory);
+    drop(made);
+    text
+}
+
+/// The directory of outputs below an output directory that stands for a directory of the source tree.
+fn output_directory(
+    alloc: Global,
+    outputs: Outputs,
+    out: &Path,
+    directory: &Path,
+) -> Result<Path, AllocError>
+    ensures { IfOk result (λ d. d ≡ output_directory (name_of outputs) out.now directory.now) }
+{
+    match outputs {
+        Outputs::Obj => obj_directory(alloc, out, directory),
+        Outputs::Gen => gen_directory(alloc, out, directory),
+    }
 }
 
 /// The directory of the source tree in whose place outputs stand: the source root for a directory of the system.
@@ -92,8 +142,8 @@ fn path_info(
 {
     match info {
         PathInfo::Part(asked) => part(alloc, text, asked),
-        PathInfo::OutDir => out_dir(alloc, at, path),
-        PathInfo::GenDir => gen_dir(alloc, at, path),
+        PathInfo::OutDir => outputs_dir(alloc, at, Outputs::Obj, path),
+        PathInfo::GenDir => outputs_dir(alloc, at, Outputs::Gen, path),
         PathInfo::AbsPath => path.as_text().copy(alloc),
     }
 }

@@ -14,4 +14,4 @@ returns-in_err-label c =
 
 pub returns : goal.returns
 returns c =
-    read_goes val_of 0 c.string.result _ _ (λ l. text_answer (label_info c.args.at.now c.args.info l)) c.in_ok-label.ensures (subst (λ t. Settles val_of c.string.result (text_answer t)) c.in_ok-label_info.ensures c.string.ensures)
+    read_goes val_of 0 c.string.result _ _ (λ l. text_answer (label_info c.args.at.now c.args.info l)) c.in_ok-label.ensures (subst (λ t. Settles val_of c.string.result (text_answer t)) c.in_ok-told.ensures c.string.ensures)

@@ -1,9 +1,5 @@
-use Rattle.std.proofs.Common.{ap, ◌∙◌, sym}
-use Rattle.std.proofs.lemmas.Result.{err_from_is_err_and}
 use Rattle.std.proofs.Common.{map}
-use Rattle.std.specs.declared.alloc.Global.{Global}
-use Rattle.std.specs.declared.vec.Vec.{Vec}
-use Rattle.gn_labels.specs.declared.pattern.Pattern.{Pattern}
+use Rattle.std.proofs.lemmas.Result.{err_from_is_err_and}
 use Rattle.gn_values.specs.Val.{vbool}
 use Rattle.gn_values.specs.View.{val_of}
 use Rattle.gn_calls_text.specs.Answers.{gives}
@@ -18,15 +14,7 @@ returns-in_err-label c =
     let p = err_from_is_err_and c.from_residual.result c.from_residual.ensures.1 in
     read_fails val_of (λ l. l) 0 c.from_residual.result _ _ _ (λ l. read_at 1 (each (pattern_at c.args.at.now) (map bytes_in c.args.texts.now)) (λ ps. gives (vbool (some_matches l ps)))) p.1 p.2 c.in_err-label.ensures
 
-pub returns-in_err-patterns : goal.returns-in_err-patterns
-returns-in_err-patterns c =
-    let p = err_from_is_err_and c.from_residual-in_err-patterns.result c.from_residual-in_err-patterns.ensures.1 in
-    read_goes val_of 0 c.from_residual-in_err-patterns.result _ _ (λ l. read_at 1 (each (pattern_at c.args.at.now) (map bytes_in c.args.texts.now)) (λ ps. gives (vbool (some_matches l ps)))) c.in_ok-label.ensures
-    (read_fails val_of (λ (v : Vec Pattern Global). v.items) 1 c.from_residual-in_err-patterns.result _ _ _ (λ ps. gives (vbool (some_matches c.in_ok-label.label ps))) p.1 p.2 c.in_err-patterns.ensures)
-
 pub returns : goal.returns
 returns c =
-    ap (λ f. read_at 0 f (λ l. read_at 1 (each (pattern_at c.args.at.now) (map bytes_in c.args.texts.now)) (λ ps. gives (vbool (some_matches l ps))))) c.in_ok-label.ensures
-    ∙ ap (λ f. read_at 1 f (λ ps. gives (vbool (some_matches c.in_ok-label.label ps)))) c.in_ok-patterns.ensures
-    ∙ ap (λ ps. gives (vbool (some_matches c.in_ok-label.label ps))) (sym c.as_slice.ensures.value)
-    ∙ ap (λ b. gives (vbool b)) (sym c.some_matches.ensures)
+    read_goes val_of 0 c.label_matches_some-answer.result _ _ (λ l. read_at 1 (each (pattern_at c.args.at.now) (map bytes_in c.args.texts.now)) (λ ps. gives (vbool (some_matches l ps)))) c.in_ok-label.ensures
+    c.label_matches_some-answer.ensures
