@@ -59,7 +59,9 @@ fn content_at<'a, P: Part>(
     ensures { IfOk result (λ found. option_map (λ content. content_view content.now) found ≡ content_in (P.answers part.now (Read path.now))) }
 {
     let key = Key::Read(path.copy(alloc)?);
-    match part.find(&key) {
+    let found = part.find(&key);
+    drop(key);
+    match found {
         None => Ok(None),
         Some(filed) => Ok(content_of(filed)),
     }
@@ -88,6 +90,22 @@ fn left(filed: &Filed) -> Result<Option<Imported>, AllocError>
     }
 }
 
+// What is filed for an import of a layer, as far as the part has it.
+fn filed_at<'a, P: Part>(
+    alloc: Global,
+    part: &'a P,
+    when: When,
+    toolchain: &Text,
+    path: &Path,
+) -> Result<Option<&'a Filed>, AllocError>
+    ensures { IfOk result (λ found. option_map (λ filed. meaning_of filed.now) found ≡ P.answers part.now (Import (layer_at when toolchain.now) path.now)) }
+{
+    let key = import_key(alloc, when, toolchain, path)?;
+    let found = part.find(&key);
+    drop(key);
+    Ok(found)
+}
+
 // What an import of a layer leaves, as far as the part has it.
 fn import_at<P: Part>(
     alloc: Global,
@@ -98,8 +116,7 @@ fn import_at<P: Part>(
 ) -> Result<Option<Imported>, AllocError>
     ensures { IfOk result (λ left. ImportedAs left (imported_in (P.answers part.now (Import (layer_at when toolchain.now) path.now)))) }
 {
-    let key = import_key(alloc, when, toolchain, path)?;
-    match part.find(&key) {
+    match filed_at(alloc, part, when, toolchain, path)? {
         None => Ok(None),
         Some(filed) => left(filed),
     }
@@ -127,8 +144,7 @@ pub fn has_no_value<P: Part>(
 ) -> Result<bool, AllocError>
     ensures { IfOk result (λ none. none ≡ has_no_value (P.answers part.now (Import (layer_at when toolchain.now) path.now))) }
 {
-    let key = import_key(alloc, when, toolchain, path)?;
-    match part.find(&key) {
+    match filed_at(alloc, part, when, toolchain, path)? {
         None => Ok(false),
         Some(filed) => Ok(is_no_value(filed)),
     }
@@ -176,12 +192,20 @@ impl<'a, P: Part> Told<'a, P> {
         ensures rose { OnOk result (self.old.stops < self.new.stops) }
     {
         let Some(stops) = self.stops.checked_add(1) else {
+            drop(question);
             return Err(AllocError);
         };
-        let place = place.copy(alloc)?;
-        self.need = Needed { question, place };
-        self.stops = stops;
-        Ok(())
+        match place.copy(alloc) {
+            Ok(place) => {
+                self.need = Needed { question, place };
+                self.stops = stops;
+                Ok(())
+            }
+            Err(error) => {
+                drop(question);
+                Err(error)
+            }
+        }
     }
 
     fn note_content(&mut self, alloc: Global, path: &Path, place: &Place) -> Result<(), AllocError>
