@@ -91,7 +91,26 @@ fn framed_fault(
     fault_at(alloc, graph, context, seen, found)
 }
 
-// The first fault of the first of these targets that has one, with what each has by itself, by the frames of toolchains.
+// The first fault of the first of these targets that has one, with what each has by itself, by the frames of toolchains, where these
+// outputs were seen.
+fn fault_behind(
+    alloc: Global,
+    graph: &ItemGraph<'_, NoRecords>,
+    frames: &Frames<'_>,
+    seen: &mut IndexSet<Text>,
+    examined: &[Examined<'_>],
+) -> Result<Option<Fault>, AllocError>
+    ensures { IfOk result (λ fault. fault ≡ fault_of_examined graph.now.default.now graph.now.items (known_of frames.now) seen.old.keys (map examined_state examined.now)) }
+{
+    for found in examined {
+        if let Some(fault) = framed_fault(alloc, graph, frames, seen, found)? {
+            return Ok(Some(fault));
+        }
+    }
+    Ok(None)
+}
+
+// The same, where no outputs were seen.
 fn fault_of_examined(
     alloc: Global,
     graph: &ItemGraph<'_, NoRecords>,
@@ -101,12 +120,9 @@ fn fault_of_examined(
     ensures { IfOk result (λ fault. fault ≡ fault_of_examined graph.now.default.now graph.now.items (known_of frames.now) [] (map examined_state examined.now)) }
 {
     let mut seen = IndexSet::new(alloc);
-    for found in examined {
-        if let Some(fault) = framed_fault(alloc, graph, frames, &mut seen, found)? {
-            return Ok(Some(fault));
-        }
-    }
-    Ok(None)
+    let fault = fault_behind(alloc, graph, frames, &mut seen, examined);
+    drop(seen);
+    fault
 }
 
 // The first fault of the first of these targets that has one, by the frames of toolchains.
@@ -122,7 +138,9 @@ fn fault_among<R: Threads + Sync>(
     ensures { IfOk result (λ fault. fault ≡ fault_among graph.now.default.now graph.now.items (known_of frames.now) [] targets.now) }
 {
     let examined = examine_all(rt, alloc, graph, settled, frames, targets)?;
-    fault_of_examined(alloc, graph, frames, examined.as_slice())
+    let fault = fault_of_examined(alloc, graph, frames, examined.as_slice());
+    drop(examined);
+    fault
 }
 
 // The first fault of the first of these targets that has one, by the graph of items.
@@ -140,6 +158,28 @@ fn fault_of<R: Threads + Sync>(
     fault_among(rt, alloc, graph, &settled, frames, targets)
 }
 
+// The same by the items.
+fn fault_framed<'a, R: Threads + Sync>(
+    rt: &R,
+    alloc: Global,
+    default: &'a Text,
+    items: &[&'a Item],
+    frames: &Frames<'_>,
+    targets: &[Label],
+) -> Result<Option<Fault>, AllocError>
+    ensures { IfOk result (λ fault. fault ≡ fault_among default.now (lent items.now) (known_of frames.now) [] targets.now) }
+{
+    let index = ItemIndex::of(alloc, items)?;
+    let graph = ItemGraph {
+        default,
+        items: index,
+        records: NoRecords,
+    };
+    let fault = fault_of(rt, alloc, &graph, frames, targets);
+    drop(graph);
+    fault
+}
+
 /// The fault that is told of targets, by what never changes in the build, the items that it defines and these targets in label order: the
 /// first fault of the first of them that has one. A target's faults go by code: texts of tools that are no paths, labels that it names
 /// and no item has, tools that it needs and its toolchain lacks, the other faults of the graph, and outputs that it makes and a
@@ -154,10 +194,7 @@ pub(crate) fn target_fault<'a, R: Threads + Sync>(
     ensures { IfOk result (λ fault. fault ≡ target_fault (given surroundings.entry) (lent items.now) targets.now) }
 {
     let frames = Frames::of(alloc, surroundings, items, targets)?;
-    let graph = ItemGraph {
-        default: surroundings.default,
-        items: ItemIndex::of(alloc, items)?,
-        records: NoRecords,
-    };
-    fault_of(rt, alloc, &graph, &frames, targets)
+    let fault = fault_framed(rt, alloc, surroundings.default, items, &frames, targets);
+    drop(frames);
+    fault
 }

@@ -3,6 +3,7 @@
 ghost use Rattle.std.specs.Prelude.{◌≡◌, ◌++◌, ◌∷◌, [], IfOk, OnOk};
 ghost use Rattle.gn_labelled.specs.Index.{lent};
 ghost use Rattle.gn_toolchains.specs.Frames.{surroundings as given};
+ghost use Rattle.gn_build_faults.specs.Faults.{target_fault};
 ghost use Rattle.gn_build_faults.specs.Labels.{those_before, beside_toolchain, fault_of_labels};
 
 use crate::fault::target_fault;
@@ -20,8 +21,27 @@ use std::thread::Threads;
 fn push_copy(alloc: Global, labels: &mut Vec<Label>, label: &Label) -> Result<(), AllocError>
     ensures { OnOk result (labels.new.items ≡ labels.old.items ++ label.now ∷ []) }
 {
+    labels.reserve(1)?;
     let label = label.copy(alloc)?;
-    labels.push(label)?;
+    labels.push_reserved(label);
+    Ok(())
+}
+
+// Puts copies of the targets that stand before a label behind others.
+fn add_before(
+    alloc: Global,
+    before: &mut Vec<Label>,
+    default: &Text,
+    label: &Label,
+    targets: &[Label],
+) -> Result<(), AllocError>
+    ensures { OnOk result (before.new.items ≡ before.old.items ++ those_before default.now label.now targets.now) }
+{
+    for target in targets {
+        if target.before(label, default) {
+            push_copy(alloc, before, target)?;
+        }
+    }
     Ok(())
 }
 
@@ -35,12 +55,29 @@ fn those_before(
     ensures { IfOk result (λ before. before.items ≡ those_before default.now label.now targets.now) }
 {
     let mut before = Vec::new(alloc);
-    for target in targets {
-        if target.before(label, default) {
-            push_copy(alloc, &mut before, target)?;
-        }
+    if let Err(error) = add_before(alloc, &mut before, default, label, targets) {
+        drop(before);
+        return Err(error);
     }
     Ok(before)
+}
+
+// The first fault of the targets before a toolchain's label.
+fn fault_before<'a, R: Threads + Sync>(
+    rt: &R,
+    alloc: Global,
+    surroundings: Surroundings<'a>,
+    items: &[&'a Item],
+    targets: &[Label],
+    label: &Label,
+) -> Result<Option<Fault>, AllocError>
+    ensures { IfOk result (λ fault. fault ≡ target_fault (given surroundings.entry) (lent items.now)
+        (those_before (given surroundings.entry).default label.now targets.now)) }
+{
+    let before = those_before(alloc, surroundings.default, label, targets)?;
+    let fault = target_fault(rt, alloc, surroundings, items, before.as_slice());
+    drop(before);
+    fault
 }
 
 // The first fault of the targets before a toolchain, or else that of the toolchain.
@@ -55,9 +92,15 @@ fn up_to<'a, R: Threads + Sync>(
     ensures { IfOk result (λ fault. fault ≡ beside_toolchain (given surroundings.entry) (lent items.now) targets.now (Some told)) }
 {
     let ToolchainFault { label, fault } = told;
-    let before = those_before(alloc, surroundings.default, &label, targets)?;
-    let first = target_fault(rt, alloc, surroundings, items, before.as_slice())?;
-    Ok(first_of(first, Some(fault)))
+    let first = fault_before(rt, alloc, surroundings, items, targets, &label);
+    drop(label);
+    match first {
+        Ok(first) => Ok(first_of(first, Some(fault))),
+        Err(error) => {
+            drop(fault);
+            Err(error)
+        }
+    }
 }
 
 // The first fault of targets and of a toolchain, if one has a fault.

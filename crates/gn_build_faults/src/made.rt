@@ -42,7 +42,9 @@ fn add_around(
         None => Ok(()),
         Some(context) => {
             let outputs = made_around(alloc, &context, items.item(target))?;
-            add_texts(alloc, made, outputs.as_slice())
+            let added = add_texts(alloc, made, outputs.as_slice());
+            drop(outputs);
+            added
         }
     }
 }
@@ -61,6 +63,22 @@ fn add_framed(
     add_around(alloc, items, context, made, target)
 }
 
+// Puts what targets make with the rest, by the frames of toolchains.
+fn add_targets(
+    alloc: Global,
+    items: &ItemIndex<'_>,
+    frames: &Frames<'_>,
+    made: &mut IndexSet<Text>,
+    targets: &[Label],
+) -> Result<(), AllocError>
+    ensures { OnOk result (made.new.keys ≡ outputs_among items.now (known_of frames.now) made.old.keys targets.now) }
+{
+    for target in targets {
+        add_framed(alloc, items, frames, made, target)?;
+    }
+    Ok(())
+}
+
 // What these targets make, by the frames of toolchains.
 fn made_among(
     alloc: Global,
@@ -71,10 +89,26 @@ fn made_among(
     ensures { IfOk result (λ made. made.keys ≡ outputs_among items.now (known_of frames.now) [] targets.now) }
 {
     let mut made = IndexSet::new(alloc);
-    for target in targets {
-        add_framed(alloc, items, frames, &mut made, target)?;
+    if let Err(error) = add_targets(alloc, items, frames, &mut made, targets) {
+        drop(made);
+        return Err(error);
     }
     Ok(made)
+}
+
+// The same, by the items.
+fn made_framed<'a>(
+    alloc: Global,
+    items: &[&'a Item],
+    frames: &Frames<'a>,
+    targets: &[Label],
+) -> Result<IndexSet<Text>, AllocError>
+    ensures { IfOk result (λ made. made.keys ≡ outputs_among (lent items.now) (known_of frames.now) [] targets.now) }
+{
+    let index = ItemIndex::of(alloc, items)?;
+    let made = made_among(alloc, &index, frames, targets);
+    drop(index);
+    made
 }
 
 /// What these targets make, each output once, as the build directory sees it, by what never changes in the build and the items that it
@@ -88,6 +122,7 @@ pub fn made_by<'a>(
     ensures { IfOk result (λ made. made.keys ≡ made_by (given surroundings.entry) (lent items.now) targets.now) }
 {
     let frames = Frames::of(alloc, surroundings, items, targets)?;
-    let index = ItemIndex::of(alloc, items)?;
-    made_among(alloc, &index, &frames, targets)
+    let made = made_framed(alloc, items, &frames, targets);
+    drop(frames);
+    made
 }

@@ -22,10 +22,13 @@ pub fn targets_of<'a>(
     ensures { IfOk result (λ targets. targets.items ≡ targets_of default.now (lent items.now) generated.now) }
 {
     the_labels_of_items_are_enough();
+    let index = ItemIndex::of(alloc, items)?;
     let graph = ItemGraph {
         default,
-        items: ItemIndex::of(alloc, items)?,
+        items: index,
         records: NoRecords,
     };
-    reached(alloc, generated, &graph)
+    let targets = reached(alloc, generated, &graph);
+    drop(graph);
+    targets
 }

@@ -10,6 +10,6 @@ returns g c =
     let default = c.args.graph.now.default.now in
     let items = c.args.graph.now.items in
     let known = known_of c.args.frames.now in
-    if_ok c.fault_of_examined.result
+    if_ok c.fault_of_examined-fault.result
     (λ told is. is ∙ ap (fault_of_examined default items known []) (ap (λ examined. map examined_state examined) c.as_slice.ensures.value ∙ c.in_ok-examined.ensures) ∙ examined_tell default items known [] c.args.targets.now)
-    c.fault_of_examined.ensures
+    c.fault_of_examined-fault.ensures
