@@ -1,6 +1,7 @@
 // What the evaluations of a build see besides what they ask: the base of each layer, over what is filed.
 
 ghost use Rattle.std.specs.Prelude.{◌≡◌, [], IfOk, Some, None, map, option_map};
+ghost use Rattle.gn_values.specs.Tables.{with_names};
 ghost use Rattle.gn_values.specs.View.{val_of, entry_of};
 ghost use Rattle.gn_closure.specs.Reach.{Setup, Load};
 ghost use Rattle.gn_graph.specs.Needs.{home};
@@ -13,6 +14,7 @@ ghost use Rattle.gn_projects.specs.Bases.{left_in, left_at, is_definition, defin
 ghost use Rattle.gn_answers.specs.Answers.{meaning_of};
 ghost use Rattle.gn_answers.specs.Bases.{or_start, leaving, items_in};
 
+use crate::keeping::beside;
 use crate::setup::overridden;
 use gn_answers::{
     Executed, Filed, Part, default_text, first_key, home_key, is_toolchain, setup_key,
@@ -63,6 +65,33 @@ fn left_at<'a, P: Part>(part: &'a P, key: &Key) -> Option<(&'a Option<ImportValu
     }
 }
 
+// What the build configuration of the default toolchain has left, as far as the part has it.
+fn left_first<'a, P: Part>(
+    alloc: Global,
+    part: &'a P,
+) -> Option<(&'a Option<ImportValue>, &'a Outcome)>
+    ensures { option_map (λ left. leaving left.0.now left.1.now) result ≡ left_at (P.answers part.now) (Setup []) }
+{
+    let first = first_key(alloc);
+    let left = left_at(part, &first);
+    drop(first);
+    left
+}
+
+// What the build configuration of a toolchain has left, as far as the part has it.
+fn left_early<'a, P: Part>(
+    alloc: Global,
+    part: &'a P,
+    toolchain: &Text,
+) -> Result<Option<(&'a Option<ImportValue>, &'a Outcome)>, AllocError>
+    ensures { IfOk result (λ left. option_map (λ left. leaving left.0.now left.1.now) left ≡ left_at (P.answers part.now) (Setup toolchain.now)) }
+{
+    let key = setup_key(alloc, toolchain)?;
+    let left = left_at(part, &key);
+    drop(key);
+    Ok(left)
+}
+
 // The items that a unit has left; none where it has left nothing.
 fn items_at<'a, P: Part>(part: &'a P, key: &Key) -> &'a [Item]
     ensures { result.now ≡ items_in (left_in (P.answers part.now (key_of key.now))) }
@@ -71,6 +100,21 @@ fn items_at<'a, P: Part>(part: &'a P, key: &Key) -> &'a [Item]
         Some((_, outcome)) => outcome.items(),
         None => &[],
     }
+}
+
+// The items that the file has left that defines a toolchain, as far as the part has them.
+fn items_at_home<'a, P: Part>(
+    alloc: Global,
+    part: &'a P,
+    default: &Text,
+    toolchain: &Text,
+) -> Result<&'a [Item], AllocError>
+    ensures { IfOk result (λ items. items.now ≡ items_in (left_at (P.answers part.now) (Load (home toolchain.now) default.now))) }
+{
+    let file = home_key(alloc, toolchain, default)?;
+    let items = items_at(part, &file);
+    drop(file);
+    Ok(items)
 }
 
 // Whether an item defines a toolchain.
@@ -136,19 +180,55 @@ fn arguments_among<'a>(
     }
 }
 
+// New texts equal to these.
+fn copy_three(
+    alloc: Global,
+    first: &Text,
+    second: &Text,
+    third: &Text,
+) -> Result<((Text, Text), Text), AllocError>
+    ensures { IfOk result (λ texts. texts ≡ ((first.now, second.now), third.now)) }
+{
+    let one = first.copy(alloc)?;
+    let two = beside(one, second.copy(alloc))?;
+    beside(two, third.copy(alloc))
+}
+
+// The context with these toolchains in place of its own: that of its items, that of its faults and the default one. It has these
+// arguments besides its own, over which they win.
+fn with_toolchains(
+    alloc: Global,
+    toolchain: &Text,
+    fault_toolchain: &Text,
+    default: &Text,
+    arguments: &[Entry],
+    context: &Context,
+) -> Result<Context, AllocError>
+    ensures { IfOk result (λ c. c ≡ record context.now { toolchain = toolchain.now; fault_toolchain = fault_toolchain.now; default_toolchain = default.now; overrides = with_names (map entry_of arguments.now) context.now.overrides }) }
+{
+    let toolchains = copy_three(alloc, toolchain, fault_toolchain, default)?;
+    let directory = beside(toolchains, context.build_directory.copy(alloc))?;
+    let root = beside(directory, context.source_root.copy(alloc))?;
+    let all = beside(root, overridden(alloc, &context.overrides, arguments))?;
+    let (((toolchains, build_directory), source_root), overrides) = all;
+    let ((toolchain, fault_toolchain), default_toolchain) = toolchains;
+    Ok(Context {
+        stage: context.stage,
+        toolchain,
+        fault_toolchain,
+        default_toolchain,
+        build_directory,
+        source_root,
+        overrides,
+    })
+}
+
 // The context of the files under the default toolchain, once its text is known.
 fn default_context(alloc: Global, default: &Text, context: &Context) -> Result<Context, AllocError>
     ensures { IfOk result (λ c. c ≡ default_context default.now context.now) }
 {
-    Ok(Context {
-        stage: context.stage,
-        toolchain: default.copy(alloc)?,
-        fault_toolchain: context.fault_toolchain.copy(alloc)?,
-        default_toolchain: default.copy(alloc)?,
-        build_directory: context.build_directory.copy(alloc)?,
-        source_root: context.source_root.copy(alloc)?,
-        overrides: context.overrides.copy(alloc)?,
-    })
+    let fault_toolchain = &context.fault_toolchain;
+    with_toolchains(alloc, default, fault_toolchain, default, &[], context)
 }
 
 // The context under another toolchain, which gives build arguments values of its own.
@@ -161,15 +241,7 @@ fn other_context(
 ) -> Result<Context, AllocError>
     ensures { IfOk result (λ c. c ≡ other_context toolchain.now (map entry_of arguments.now) (default_context default.now context.now)) }
 {
-    Ok(Context {
-        stage: context.stage,
-        toolchain: toolchain.copy(alloc)?,
-        fault_toolchain: toolchain.copy(alloc)?,
-        default_toolchain: default.copy(alloc)?,
-        build_directory: context.build_directory.copy(alloc)?,
-        source_root: context.source_root.copy(alloc)?,
-        overrides: overridden(alloc, &context.overrides, arguments)?,
-    })
+    with_toolchains(alloc, toolchain, toolchain, default, arguments, context)
 }
 
 // The same, by what the file has left that defines the toolchain.
@@ -182,8 +254,8 @@ fn context_under<P: Part>(
 ) -> Result<Context, AllocError>
     ensures { IfOk result (λ c. c ≡ context_under context.now default.now toolchain.now (left_at (P.answers part.now) (Load (home toolchain.now) default.now))) }
 {
-    let file = home_key(alloc, toolchain, default)?;
-    let arguments = arguments_among(alloc, toolchain, items_at(part, &file))?;
+    let items = items_at_home(alloc, part, default, toolchain)?;
+    let arguments = arguments_among(alloc, toolchain, items)?;
     other_context(alloc, default, toolchain, arguments, context)
 }
 
@@ -199,8 +271,9 @@ fn other_base<P: Part>(
     ensures { IfOk result (λ base. base ≡ other_base start.now (P.answers part.now) toolchain.now (Some (leaving beneath.now outcome.now))) }
 {
     let default = default_text(alloc, beneath, outcome)?;
-    let context = context_under(alloc, part, &default, toolchain, start.context())?;
-    start.with_context(alloc, Arc::new(alloc, context)?)
+    let context = context_under(alloc, part, &default, toolchain, start.context());
+    drop(default);
+    start.with_context(alloc, Arc::new(alloc, context?)?)
 }
 
 // The base of the build configuration of a toolchain.
@@ -215,11 +288,11 @@ fn early_base<P: Part>(
     if toolchain.is_empty() {
         return Ok(None);
     }
-    let first = first_key(alloc);
-    match left_at(part, &first) {
-        Some((beneath, outcome)) => Ok(Some(other_base(
-            alloc, start, part, toolchain, beneath, outcome,
-        )?)),
+    match left_first(alloc, part) {
+        Some((beneath, outcome)) => {
+            let base = other_base(alloc, start, part, toolchain, beneath, outcome)?;
+            Ok(Some(base))
+        }
         None => Ok(None),
     }
 }
@@ -276,12 +349,12 @@ fn default_behind(
 fn behind_early(
     alloc: Global,
     start: &Base,
-    early: Option<Base>,
+    early: &Option<Base>,
     beneath: &Option<ImportValue>,
 ) -> Result<Option<Base>, AllocError>
-    ensures { IfOk result (λ base. or_start start.now base ≡ finished_base (or_start start.now early) (or_start start.now early).context (beneath_of beneath.now)) }
+    ensures { IfOk result (λ base. or_start start.now base ≡ finished_base (or_start start.now early.now) (or_start start.now early.now).context (beneath_of beneath.now)) }
 {
-    let base = or_start(start, &early);
+    let base = or_start(start, early);
     let context = base.share_context()?;
     Ok(Some(behind(alloc, base, context, beneath)?))
 }
@@ -296,10 +369,14 @@ fn other_behind<P: Part>(
     ensures { IfOk result (λ base. or_start start.now base
         ≡ behind (early_base start.now (P.answers part.now) toolchain.now) (left_at (P.answers part.now) (Setup toolchain.now))) }
 {
-    let key = setup_key(alloc, toolchain)?;
+    let left = left_early(alloc, part, toolchain)?;
     let early = early_base(alloc, start, part, toolchain)?;
-    match left_at(part, &key) {
-        Some((beneath, _)) => behind_early(alloc, start, early, beneath),
+    match left {
+        Some((beneath, _)) => {
+            let base = behind_early(alloc, start, &early, beneath);
+            drop(early);
+            base
+        }
         None => Ok(early),
     }
 }
@@ -332,8 +409,7 @@ fn usual_base<P: Part>(
 ) -> Result<Option<Base>, AllocError>
     ensures { IfOk result (λ base. or_start start.now base ≡ usual_base start.now (P.answers part.now) toolchain.now) }
 {
-    let first = first_key(alloc);
-    match left_at(part, &first) {
+    match left_first(alloc, part) {
         Some((beneath, outcome)) => usual_behind(alloc, start, part, toolchain, beneath, outcome),
         None => Ok(None),
     }

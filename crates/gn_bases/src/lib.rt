@@ -2,6 +2,7 @@
 #![tactic(auto)]
 
 mod bases;
+mod keeping;
 mod setup;
 
 pub use bases::base_for;

@@ -1,6 +1,6 @@
 // What is known of a build before it is loaded.
 
-ghost use Rattle.std.specs.Prelude.{◌≡◌, IfOk, OnOk, map};
+ghost use Rattle.std.specs.Prelude.{◌≡◌, [], ◌∷◌, IfOk, OnOk, map};
 ghost use Rattle.std.specs.BTreeMap.{IsOrdered};
 ghost use Rattle.std.specs.Ordering.{nat_cmp};
 ghost use Rattle.std.specs.Cmp.Lexicographic.{slice_cmp};
@@ -9,6 +9,7 @@ ghost use Rattle.gn_values.specs.View.{entry_of};
 ghost use Rattle.gn_answers.specs.Answers.{content_view};
 ghost use Rattle.gn_bases.specs.Setups.{contents_known, given_context, given_base};
 
+use crate::keeping::beside;
 use gn_answers::FileContent;
 use gn_dotfile::Dotfile;
 use gn_environment::Context;
@@ -59,13 +60,21 @@ impl Model for Setup {
     ghost view = { λ s. s.given.value };
 }
 
+// Gives a name its value, in place of the one that it had.
+fn set_copy(alloc: Global, overrides: &mut Overrides, entry: &Entry) -> Result<(), AllocError>
+    ensures { OnOk result (overrides.new ≡ with_names (entry_of entry.now ∷ []) overrides.old) }
+{
+    let name = entry.name.copy(alloc)?;
+    let (name, value) = beside(name, entry.value.copy(alloc))?;
+    overrides.set(name, value)
+}
+
 // Gives names their values, in place of those that they had.
 fn set_all(alloc: Global, overrides: &mut Overrides, entries: &[Entry]) -> Result<(), AllocError>
     ensures { OnOk result (overrides.new ≡ with_names (map entry_of entries.now) overrides.old) }
 {
     for entry in entries {
-        let name = entry.name.copy(alloc)?;
-        overrides.set(name, entry.value.copy(alloc)?)?;
+        set_copy(alloc, overrides, entry)?;
     }
     Ok(())
 }
@@ -79,8 +88,13 @@ pub(crate) fn overridden(
     ensures { IfOk result (λ o. o ≡ with_names (map entry_of entries.now) overrides.now) }
 {
     let mut overrides = overrides.copy(alloc)?;
-    set_all(alloc, &mut overrides, entries)?;
-    Ok(overrides)
+    match set_all(alloc, &mut overrides, entries) {
+        Ok(()) => Ok(overrides),
+        Err(error) => {
+            drop(overrides);
+            Err(error)
+        }
+    }
 }
 
 // The values of build arguments: those that are given win over those of the dotfile.
@@ -94,14 +108,18 @@ fn overrides_of(alloc: Global, given: &Given) -> Result<Overrides, AllocError>
 fn context_of(alloc: Global, given: &Given) -> Result<Context, AllocError>
     ensures { IfOk result (λ c. c ≡ given_context given.now) }
 {
+    let directory = given.build_directory.copy(alloc)?;
+    let root = beside(directory, given.source_root.copy(alloc))?;
+    let all = beside(root, overrides_of(alloc, given))?;
+    let ((build_directory, source_root), overrides) = all;
     Ok(Context {
         stage: Stage::Loading,
         toolchain: Text::new(alloc),
         fault_toolchain: Text::new(alloc),
         default_toolchain: Text::new(alloc),
-        build_directory: given.build_directory.copy(alloc)?,
-        source_root: given.source_root.copy(alloc)?,
-        overrides: overrides_of(alloc, given)?,
+        build_directory,
+        source_root,
+        overrides,
     })
 }
 
@@ -115,16 +133,31 @@ fn copy_path(alloc: Global, path: &Option<Path>) -> Result<Option<Path>, AllocEr
     }
 }
 
+// The same, which several may have at once.
+fn shared_context_of(alloc: Global, given: &Given) -> Result<Arc<Context>, AllocError>
+    ensures { IfOk result (λ c. c.value ≡ given_context given.now) }
+{
+    Ok(Arc::new(alloc, context_of(alloc, given)?)?)
+}
+
+// New names of the host equal to others.
+fn copy_host(alloc: Global, host: &HostNames) -> Result<HostNames, AllocError>
+    ensures { IfOk result (λ h. h ≡ host.now) }
+{
+    let os = host.os.copy(alloc)?;
+    let (os, cpu) = beside(os, host.cpu.copy(alloc))?;
+    Ok(HostNames { os, cpu })
+}
+
 // The base with which the build starts.
 fn base_of(alloc: Global, given: &Given) -> Result<Base, AllocError>
     ensures { IfOk result (λ base. base ≡ given_base given.now) }
 {
-    let context = Arc::new(alloc, context_of(alloc, given)?)?;
-    let os = given.host.os.copy(alloc)?;
-    let cpu = given.host.cpu.copy(alloc)?;
-    let configuration = given.dotfile.configuration.copy(alloc)?;
-    let secondary = copy_path(alloc, &given.dotfile.secondary)?;
-    let host = HostNames { os, cpu };
+    let context = shared_context_of(alloc, given)?;
+    let host = beside(context, copy_host(alloc, &given.host))?;
+    let configuration = beside(host, given.dotfile.configuration.copy(alloc))?;
+    let all = beside(configuration, copy_path(alloc, &given.dotfile.secondary))?;
+    let (((context, host), configuration), secondary) = all;
     Base::of_configuration(alloc, context, host, configuration, secondary)
 }
 
@@ -146,7 +179,8 @@ fn put_shared(
     ensures { OnOk result (contents_known known.new.entries ≡ with_name path.now (content_view content.now) (contents_known known.old.entries)) }
 {
     let path = path.copy(alloc)?;
-    put(known, path, content.copy()?)
+    let (path, content) = beside(path, content.copy())?;
+    put(known, path, content)
 }
 
 // The same of all that another map has.
