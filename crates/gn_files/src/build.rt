@@ -4,8 +4,8 @@ ghost use Rattle.std.specs.Prelude.{◌≡◌, IfOk, map};
 ghost use Rattle.gn_labelled.specs.Graphs.{shape_of};
 ghost use Rattle.gn_labelled.specs.Index.{lent};
 ghost use Rattle.gn_resolved_meant.specs.Laws.{IsClosed};
-ghost use Rattle.gn_toolchains.specs.Frames.{surroundings as given};
-ghost use Rattle.gn_resolve.specs.Whole.{AllEnd};
+ghost use Rattle.gn_toolchains.specs.Frames.{surroundings as given, IsOver};
+ghost use Rattle.gn_resolve.specs.Whole.{AllEnd, AreResolved};
 ghost use Rattle.gn_out_files.specs.Files.{put_of};
 ghost use Rattle.gn_files.specs.Files.{files_by, files_of_build};
 ghost use Rattle.gn_files.specs.Known.{surroundings_in, known, AreAmong, IsProject};
@@ -16,10 +16,33 @@ use gn_items::Item;
 use gn_labelled::ItemIndex;
 use gn_labels::Label;
 use gn_out_files::OutFile;
-use gn_resolve::resolve_all;
+use gn_resolve::{Resolved, resolve_all};
 use gn_toolchains::{Frames, Surroundings};
 use std::alloc::{AllocError, Global};
 use std::thread::Threads;
+
+// The items of a build by their labels, and the records of the targets that are reached.
+fn resolved_of<'a>(
+    alloc: Global,
+    surroundings: Surroundings<'a>,
+    frames: &Frames<'_>,
+    items: &[&'a Item],
+    reached: &[Label],
+) -> Result<(ItemIndex<'a>, Resolved), AllocError>
+    requires over { IsOver (given surroundings) (lent items.now) reached.now frames.now }
+    requires closed { IsClosed (shape_of (lent items.now)) reached.now }
+    requires ends { AllEnd (lent items.now) reached.now }
+    ensures { IfOk result (λ made. (made.0 ≡ lent items.now) × AreResolved (given surroundings.entry) (lent items.now) reached.now made.1) }
+{
+    let index = ItemIndex::of(alloc, items)?;
+    match resolve_all(alloc, surroundings, frames, items, reached) {
+        Ok(resolved) => Ok((index, resolved)),
+        Err(error) => {
+            drop(index);
+            Err(error)
+        }
+    }
+}
 
 // What the Ninja files of a build are made of.
 fn project_of<'a>(
@@ -33,16 +56,20 @@ fn project_of<'a>(
     requires ends { AllEnd (lent items.now) reached.now }
     ensures { IfOk result (IsProject (given surroundings.entry) (lent items.now) reached.now targets.now) }
 {
-    let index = ItemIndex::of(alloc, items)?;
     let frames = Frames::of(alloc, surroundings, items, reached)?;
-    let resolved = resolve_all(alloc, surroundings, &frames, items, reached)?;
-    Ok(Project {
-        surroundings,
-        frames,
-        items: index,
-        resolved,
-        targets,
-    })
+    match resolved_of(alloc, surroundings, &frames, items, reached) {
+        Ok((index, resolved)) => Ok(Project {
+            surroundings,
+            frames,
+            items: index,
+            resolved,
+            targets,
+        }),
+        Err(error) => {
+            drop(frames);
+            Err(error)
+        }
+    }
 }
 
 // The Ninja files by what is known.
@@ -54,7 +81,10 @@ fn files_of<R: Threads + Sync>(
     ensures { IfOk result (λ files. map put_of files.items ≡ files_by (surroundings_in project.now) (known project.now) project.now.items project.now.targets.now) }
 {
     let mut files = Vec::new(alloc);
-    add_known_files(rt, alloc, &mut files, project)?;
+    if let Err(error) = add_known_files(rt, alloc, &mut files, project) {
+        drop(files);
+        return Err(error);
+    }
     Ok(files)
 }
 
@@ -75,5 +105,7 @@ pub fn ninja_files<'a, R: Threads + Sync>(
     ensures { IfOk result (λ files. map put_of files.items ≡ files_of_build (given surroundings.entry) (lent items.now) targets.now) }
 {
     let project = project_of(alloc, surroundings, items, reached, targets)?;
-    files_of(rt, alloc, &project)
+    let files = files_of(rt, alloc, &project);
+    drop(project);
+    files
 }

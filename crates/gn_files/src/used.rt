@@ -72,6 +72,22 @@ pub(crate) fn toolchains_used(
     Ok(texts)
 }
 
+// Puts the targets of a toolchain behind others, in their order.
+fn add_under<'a>(
+    found: &mut Vec<&'a Label>,
+    toolchain: &Text,
+    targets: &'a [Label],
+) -> Result<(), AllocError>
+    ensures { OnOk result (map (λ t. t.now) found.new.items ≡ map (λ t. t.now) found.old.items ++ under toolchain.now targets.now) }
+{
+    for target in targets {
+        if target.toolchain == *toolchain {
+            found.push(target)?;
+        }
+    }
+    Ok(())
+}
+
 /// The targets of a toolchain, in their order.
 pub(crate) fn under<'a>(
     alloc: Global,
@@ -81,10 +97,9 @@ pub(crate) fn under<'a>(
     ensures { IfOk result (λ ts. map (λ t. t.now) ts.items ≡ under toolchain.now targets.now) }
 {
     let mut found = Vec::new(alloc);
-    for target in targets {
-        if target.toolchain == *toolchain {
-            found.push(target)?;
-        }
+    if let Err(error) = add_under(&mut found, toolchain, targets) {
+        drop(found);
+        return Err(error);
     }
     Ok(found)
 }
