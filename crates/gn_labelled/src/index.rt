@@ -76,10 +76,21 @@ impl<'a> ItemIndex<'a> {
         ensures { IfOk result (λ index. index ≡ lent items.now) }
     {
         let mut index = ItemIndex::new(alloc);
-        for item in items {
-            index.add(item)?;
+        if let Err(error) = index.add_lent(items) {
+            drop(index);
+            return Err(error);
         }
         Ok(index)
+    }
+
+    // Puts the items behind the others. After want of memory some of them are there.
+    fn add_lent(&mut self, items: &[&'a Item]) -> Result<(), AllocError>
+        ensures { OnOk result (self.new ≡ self.old ++ lent items.now) }
+    {
+        for item in items {
+            self.add(item)?;
+        }
+        Ok(())
     }
 
     /// Puts an item behind the others. After want of memory nothing is changed.

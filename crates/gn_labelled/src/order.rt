@@ -48,19 +48,26 @@ fn enter<'a>(walk: &mut Walk<'a>, label: &'a Label) -> Result<(), AllocError> {
     Ok(())
 }
 
+// Puts a copy of a label behind others.
+fn push_copy(alloc: Global, labels: &mut Vec<Label>, label: &Label) -> Result<(), AllocError> {
+    labels.reserve(1)?;
+    let label = label.copy(alloc)?;
+    labels.push_reserved(label);
+    Ok(())
+}
+
 // Goes on to the next dependency of the innermost label, or leaves it.
 fn step<'a, G: Graph>(alloc: Global, walk: &mut Walk<'a>, graph: &'a G) -> Result<(), AllocError> {
     let Some((label, place)) = walk.open.pop() else {
         return Ok(());
     };
     match dependency(graph, label, place) {
-        None => walk.order.push(label.copy(alloc)?)?,
+        None => push_copy(alloc, &mut walk.order, label),
         Some(next) => {
             walk.open.push((label, place.saturating_add(1)))?;
-            enter(walk, next)?;
+            enter(walk, next)
         }
     }
-    Ok(())
 }
 
 // How many steps a walk from all of these labels takes at most, where they are all that have dependencies: one to each dependency,
@@ -77,6 +84,26 @@ fn step_count<G: Graph>(graph: &G, labels: &[Label]) -> usize {
     count
 }
 
+// Goes through all that is met from the targets.
+fn walk_all<'a, G: Graph>(
+    alloc: Global,
+    walk: &mut Walk<'a>,
+    targets: &'a [Label],
+    graph: &'a G,
+) -> Result<(), AllocError> {
+    let steps = step_count(graph, targets);
+    for target in targets {
+        enter(walk, target)?;
+        for _ in 0..steps {
+            if walk.open.is_empty() {
+                break;
+            }
+            step(alloc, walk, graph)?;
+        }
+    }
+    Ok(())
+}
+
 /// The targets and what they depend on, dependencies first but where they lie on a cycle. The walk ends where all is met, and in any
 /// case after as many steps as there can be where the targets are all that have dependencies.
 pub fn dependencies_first<G: Graph>(
@@ -89,15 +116,12 @@ pub fn dependencies_first<G: Graph>(
         met: Firsts::new(alloc),
         order: Vec::new(alloc),
     };
-    let steps = step_count(graph, targets);
-    for target in targets {
-        enter(&mut walk, target)?;
-        for _ in 0..steps {
-            if walk.open.is_empty() {
-                break;
-            }
-            step(alloc, &mut walk, graph)?;
-        }
+    if let Err(error) = walk_all(alloc, &mut walk, targets, graph) {
+        drop(walk);
+        return Err(error);
     }
-    Ok(walk.order)
+    let Walk { open, met, order } = walk;
+    drop(open);
+    drop(met);
+    Ok(order)
 }
