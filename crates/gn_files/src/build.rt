@@ -22,7 +22,8 @@ use std::alloc::{AllocError, Global};
 use std::thread::Threads;
 
 // The items of a build by their labels, and the records of the targets that are reached.
-fn resolved_of<'a>(
+fn resolved_of<'a, R: Threads + Sync>(
+    rt: &R,
     alloc: Global,
     surroundings: Surroundings<'a>,
     frames: &Frames<'_>,
@@ -35,7 +36,7 @@ fn resolved_of<'a>(
     ensures { IfOk result (λ made. (made.0 ≡ lent items.now) × AreResolved (given surroundings.entry) (lent items.now) reached.now made.1) }
 {
     let index = ItemIndex::of(alloc, items)?;
-    match resolve_all(alloc, surroundings, frames, items, reached) {
+    match resolve_all(rt, alloc, surroundings, frames, items, reached) {
         Ok(resolved) => Ok((index, resolved)),
         Err(error) => {
             drop(index);
@@ -45,7 +46,8 @@ fn resolved_of<'a>(
 }
 
 // What the Ninja files of a build are made of.
-fn project_of<'a>(
+fn project_of<'a, R: Threads + Sync>(
+    rt: &R,
     alloc: Global,
     surroundings: Surroundings<'a>,
     items: &[&'a Item],
@@ -57,7 +59,7 @@ fn project_of<'a>(
     ensures { IfOk result (IsProject (given surroundings.entry) (lent items.now) reached.now targets.now) }
 {
     let frames = Frames::of(alloc, surroundings, items, reached)?;
-    match resolved_of(alloc, surroundings, &frames, items, reached) {
+    match resolved_of(rt, alloc, surroundings, &frames, items, reached) {
         Ok((index, resolved)) => Ok(Project {
             surroundings,
             frames,
@@ -104,7 +106,7 @@ pub fn ninja_files<'a, R: Threads + Sync>(
     requires among { AreAmong targets.now reached.now }
     ensures { IfOk result (λ files. map put_of files.items ≡ files_of_build (given surroundings.entry) (lent items.now) targets.now) }
 {
-    let project = project_of(alloc, surroundings, items, reached, targets)?;
+    let project = project_of(rt, alloc, surroundings, items, reached, targets)?;
     let files = files_of(rt, alloc, &project);
     drop(project);
     files

@@ -10,3 +10,5 @@ pub mod PassLemmas
 pub mod HardLists
 pub mod Framed
 pub mod DoneLists
+pub mod Putting
+pub mod Crossing

@@ -5,11 +5,14 @@ mod configs;
 mod dones;
 mod hard;
 mod laws;
+mod levels;
 mod libraries;
 mod making;
 mod passes;
 mod resolving;
+mod shared;
 mod table;
+mod together;
 
 pub use laws::{
     a_part_of_the_targets_is_enough, each_configuration_applies_once, what_is_made_is_right,

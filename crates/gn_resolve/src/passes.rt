@@ -9,13 +9,16 @@ ghost use Rattle.gn_resolve.specs.Table.{AreIn};
 ghost use Rattle.gn_resolve.specs.Steps.{IsFit, IsHeld, surroundings_of};
 ghost use Rattle.gn_resolve.specs.Whole.{AllEnd, CanBeResolved, AreResolved};
 
+use crate::levels::levels;
 use crate::resolving::{are_in, pass};
 use crate::table::{Known, Resolved};
+use crate::together::resolve_levels;
 use gn_items::Item;
-use gn_labelled::{ItemGraph, ItemIndex, dependencies_first};
+use gn_labelled::{ItemGraph, ItemIndex};
 use gn_labels::Label;
 use gn_toolchains::{Frames, Surroundings};
 use std::alloc::{AllocError, Global};
+use std::thread::Threads;
 
 // Resolves the targets: at each pass those whose paths of dependencies have one edge more. Where dependencies were resolved before
 // those that depend on them, no pass is left.
@@ -41,7 +44,8 @@ fn complete(
 }
 
 // Resolves the targets of a graph of which nothing is resolved.
-fn resolve_in(
+fn resolve_in<R: Threads + Sync>(
+    rt: &R,
     alloc: Global,
     frames: &Frames<'_>,
     graph: &mut Known<'_>,
@@ -52,8 +56,8 @@ fn resolve_in(
     requires can { CanBeResolved frames.now graph.old.items targets.now }
     ensures { OnOk result (AreResolved (surroundings_of frames.now) graph.old.items targets.now graph.new.records) }
 {
-    let order = dependencies_first(alloc, targets, graph)?;
-    pass(alloc, frames, graph, order.as_slice())?;
+    let levels = levels(alloc, &graph.items, targets)?;
+    resolve_levels(rt, alloc, frames, graph, levels.as_slice())?;
     complete(alloc, frames, graph, targets)
 }
 
@@ -71,7 +75,8 @@ fn finished(done: Result<(), AllocError>, records: Resolved) -> Result<Resolved,
 }
 
 // What is kept of the targets of a graph.
-fn resolved_in(
+fn resolved_in<R: Threads + Sync>(
+    rt: &R,
     alloc: Global,
     frames: &Frames<'_>,
     mut graph: Known<'_>,
@@ -82,13 +87,14 @@ fn resolved_in(
     requires can { CanBeResolved frames.now graph.items targets.now }
     ensures { IfOk result (AreResolved (surroundings_of frames.now) graph.entry.items targets.now) }
 {
-    let done = resolve_in(alloc, frames, &mut graph, targets);
+    let done = resolve_in(rt, alloc, frames, &mut graph, targets);
     finished(done, graph.records)
 }
 
 /// The records of targets, by the items that a build defines and by what never changes for its targets. The list must have the
 /// dependencies of each of its targets, and none of them may reach a cycle. Each target is resolved once.
-pub fn resolve_all<'a>(
+pub fn resolve_all<'a, R: Threads + Sync>(
+    rt: &R,
     alloc: Global,
     surroundings: Surroundings<'a>,
     frames: &Frames<'_>,
@@ -108,7 +114,7 @@ pub fn resolve_all<'a>(
                 items: index,
                 records,
             };
-            resolved_in(alloc, frames, graph, targets)
+            resolved_in(rt, alloc, frames, graph, targets)
         }
         Err(error) => {
             drop(records);

@@ -26,7 +26,7 @@ pub(crate) fn are_in(records: &Resolved, labels: &[Label]) -> bool
 
 // Whether each dependency of a target is resolved.
 #[tactic(auto, using(crate::proofs::Ready::all_of_three))]
-fn is_ready(graph: &Known<'_>, target: &Label) -> bool
+pub(crate) fn is_ready(graph: &Known<'_>, target: &Label) -> bool
     ensures { result ≡ list_all (is_in graph.now.records) (all_deps (shape_of graph.now.items) target.now) }
 {
     are_in(&graph.records, graph.labels(target, Variable::PublicDeps))

@@ -10,7 +10,7 @@ use Rattle.gn_resolve.proofs.PassLemmas.{fit_at, can_at}
 use Rattle.gn_resolve.proofs.passes.resolve_all.Goals as goal
 
 pub resolved_in-requires : goal.resolved_in-requires
-resolved_in-requires c =
+resolved_in-requires g c =
     let s = surroundings c.args.surroundings in
     let items = lent c.args.items.now in
     let frames = c.args.frames.now in
@@ -22,7 +22,7 @@ resolved_in-requires c =
     }
 
 pub returns-in-Ok : goal.returns-in-Ok
-returns-in-Ok c =
+returns-in-Ok g c =
     let s = surroundings c.args.surroundings in
     let items = lent c.args.items.now in
     let frames = c.args.frames.now in

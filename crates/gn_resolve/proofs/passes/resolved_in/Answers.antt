@@ -7,7 +7,7 @@ use Rattle.gn_resolve.proofs.PassLemmas.{on_ok_given}
 use Rattle.gn_resolve.proofs.passes.resolved_in.Goals as goal
 
 pub returns : goal.returns
-returns c =
+returns g c =
     let s = surroundings_of c.args.frames.now in
     let items = c.args.graph.items in
     let ts = c.args.targets.now in

@@ -1,0 +1,17 @@
+-- What the closure captures that threads call on targets.
+use mathlib.Core.List.{List, [], ◌∷◌}
+use denote.RattleType.{RattleType}
+use denote.Ref.{NamedLft}
+use denote.Struct.Field.{shr_ref_field}
+use Rattle.std.specs.contracts.alloc.Global as Global
+use Rattle.gn_labelled.specs.contracts.graph.ItemGraph as ItemGraph
+use Rattle.gn_toolchains.specs.contracts.frames.Frames as Frames
+use Rattle.gn_resolve.specs.contracts.table.Resolved as Resolved
+
+-- references to the allocator, the frames of toolchains, and the graph of items with what is kept of its targets
+abbrev pub captures : (alloc frames lent graph items : NamedLft) → List RattleType
+captures alloc frames lent graph items =
+    (shr_ref_field alloc Global.the_row tt).row
+    ∷ (shr_ref_field frames (Frames.the_row lent) tt).row
+    ∷ (shr_ref_field graph (ItemGraph.the_row items Resolved.the_row) tt).row
+    ∷ []

@@ -1,0 +1,24 @@
+// What threads may share.
+
+ghost use mir.Syntax.{Sym};
+ghost use denote.Ref.{NamedLft};
+ghost use denote.Param.Send.{IsSend, IsSync};
+ghost use denote.Struct.Tuple.{TupleAt};
+ghost use Rattle.gn_labels.specs.contracts.label.Label as LabelRow;
+ghost use Rattle.gn_resolve.specs.Captures.{captures};
+
+use gn_define::Fields;
+
+// A type whose values threads may share, by the bound on it.
+fn is_shared<T: Sync>(_value: Option<&T>)
+    ensures { IsSync T.row }
+{}
+
+/// Threads may take and share a closure that captures what targets are resolved in, and share labels. It does nothing.
+pub(crate) fn graphs_are_shared()
+    ensures send { (name : Sym) (alloc frames lent graph items : NamedLft) → IsSend (TupleAt name (captures alloc frames lent graph items)) }
+    ensures sync { (name : Sym) (alloc frames lent graph items : NamedLft) → IsSync (TupleAt name (captures alloc frames lent graph items)) }
+    ensures label { IsSync LabelRow.the_row }
+{
+    is_shared::<Fields>(None)
+}
