@@ -72,9 +72,19 @@ fn add_item(
     let Some(item) = item else {
         return Ok(());
     };
-    add_waits(waiting, places, place, item.fields.labels(Variable::PublicDeps))?;
+    add_waits(
+        waiting,
+        places,
+        place,
+        item.fields.labels(Variable::PublicDeps),
+    )?;
     add_waits(waiting, places, place, item.fields.labels(Variable::Deps))?;
-    add_waits(waiting, places, place, item.fields.labels(Variable::DataDeps))
+    add_waits(
+        waiting,
+        places,
+        place,
+        item.fields.labels(Variable::DataDeps),
+    )
 }
 
 // Each target waits for its dependencies.

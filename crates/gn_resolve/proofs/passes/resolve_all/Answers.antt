@@ -14,12 +14,16 @@ resolved_in-requires g c =
     let s = surroundings c.args.surroundings in
     let items = lent c.args.items.now in
     let frames = c.args.frames.now in
-    let ts = c.args.targets.now in
-    record {
-      fit = fit_at frames s.default s.default items c.in-Ok.index refl c.in-Ok.ensures (fit_over s items ts frames c.requires.over);
-      held = c.in_ok-records.ensures.held (surroundings_of frames) c.in-Ok.index;
-      can = can_at frames items c.in-Ok.index ts c.in-Ok.ensures (can_over s items ts frames c.requires.over c.requires.closed c.requires.ends);
-    }
+    let ts = c.args.targets.now in (
+      c.type_bounds.sync-R,
+      (
+        fit_at frames s.default s.default items c.in-Ok.index refl c.in-Ok.ensures (fit_over s items ts frames c.requires.over),
+        (
+          c.in_ok-records.ensures.held (surroundings_of frames) c.in-Ok.index,
+          can_at frames items c.in-Ok.index ts c.in-Ok.ensures (can_over s items ts frames c.requires.over c.requires.closed c.requires.ends),
+        ),
+      ),
+    )
 
 pub returns-in-Ok : goal.returns-in-Ok
 returns-in-Ok g c =

@@ -10,11 +10,11 @@ loop-level-init g c = record { held = c.requires.held; items = refl; default = r
 pub resolve_level-requires : goal.resolve_level-requires
 resolve_level-requires g c = (
   c.type_bounds.sync-R,
-  record {
-    fit = fit_at c.args.frames.now c.args.graph.now.default.now c.loop-level.graph.default.now c.args.graph.now.items c.loop-level.graph.items
-        (ap (λ (b : Bor (List ℕ)). b.now) c.loop-level.invariant.default) c.loop-level.invariant.items c.requires.fit;
-    held = held_at (surroundings_of c.args.frames.now) c.args.graph.now.items c.loop-level.graph.items c.loop-level.graph.records c.loop-level.invariant.items c.loop-level.invariant.held;
-  },
+  (
+    fit_at c.args.frames.now c.args.graph.now.default.now c.loop-level.graph.default.now c.args.graph.now.items c.loop-level.graph.items
+        (ap (λ (b : Bor (List ℕ)). b.now) c.loop-level.invariant.default) c.loop-level.invariant.items c.requires.fit,
+    held_at (surroundings_of c.args.frames.now) c.args.graph.now.items c.loop-level.graph.items c.loop-level.graph.records c.loop-level.invariant.items c.loop-level.invariant.held,
+  ),
 )
 
 pub loop-level-preserved : goal.loop-level-preserved
