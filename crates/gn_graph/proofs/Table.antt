@@ -1,11 +1,12 @@
 -- Facts by number, and rules over numbers that stand for rules over facts.
 use Rattle.std.proofs.Common.{◌≡◌, ◌↔◌, ℕ, zero, suc, List, [], ◌∷◌, ◌++◌, true}
 use Rattle.std.proofs.Common.{◌||◌, Option, Some, slice_get, unwrap_or, refl, sym, ◌∙◌, ap, subst, inl, inr, nat_eq, eqb-true}
+use Rattle.std.proofs.lemmas.List.{append_assoc, append-nil}
 use Rattle.gn_closure.specs.Closure.{Horn, In}
 use Rattle.gn_closure.specs.Ground.{Step, Set_up}
 use Rattle.gn_graph.specs.Clauses.{has, Derivable, rule}
 use Rattle.gn_graph.specs.Plans.{AllIn, IsUsed}
-use Rattle.gn_graph.specs.Numbers.{Derived, by_rule, Extends, Grows, IsTable, AreAt, StandsFor, StandFor, fact_of, facts_of, horn_at, horns_at, Known, known, IsKnown}
+use Rattle.gn_graph.specs.Numbers.{Derived, by_rule, Extends, Grows, IsTable, AreAt, StandsFor, StandFor, AddsFor, fact_of, facts_of, horn_at, horns_at, Known, known, IsKnown}
 use Rattle.gn_graph.proofs.Has.{or_true, either, has_own}
 
 pub grows_more : (ss ts : List Step) → Grows ss (ss ++ ts)
@@ -45,6 +46,22 @@ stand_more ss [] [] qs gs a b = b
 stand_more ss [] (h ∷ hs) qs gs a b = absurd a
 stand_more ss (r ∷ rs) [] qs gs a b = absurd a
 stand_more ss (r ∷ rs) (h ∷ hs) qs gs a b = (a.0, stand_more ss rs hs qs gs a.1 b)
+
+-- one rule more stands behind the others
+pub adds_one : (old new : List Step) → Grows old new → (rs now : List (Horn ℕ)) (r : Horn ℕ) (h : Horn Step) → now ≡ rs ++ r ∷ [] → StandsFor new r h → AddsFor old new rs now (h ∷ [])
+adds_one old new g rs now r h e s hs a
+    = subst (λ (z : List (Horn ℕ)). StandFor new z (hs ++ h ∷ [])) (sym e) (stand_more new rs hs (r ∷ []) (h ∷ []) (stand_grows old new g rs hs a) (s, tt))
+
+-- and others behind them
+pub adds_on : (a b c : List Step) (rs qs ps : List (Horn ℕ)) (hs gs more : List (Horn Step)) → more ≡ hs ++ gs → AddsFor a b rs qs hs → AddsFor b c qs ps gs → AddsFor a c rs ps more
+adds_on a b c rs qs ps hs gs more e f g xs s
+    = subst (λ (z : List (Horn Step)). StandFor c ps z) (append_assoc xs hs gs ∙ ap (λ (z : List (Horn Step)). xs ++ z) (sym e)) (g (xs ++ hs) (f xs s))
+
+pub adds_grown : (a b c : List Step) → Grows a b → (rs qs : List (Horn ℕ)) (hs : List (Horn Step)) → AddsFor b c rs qs hs → AddsFor a c rs qs hs
+adds_grown a b c g rs qs hs f xs s = f xs (stand_grows a b g rs xs s)
+
+pub adds_none : (ss : List Step) (rs : List (Horn ℕ)) → AddsFor ss ss rs rs []
+adds_none ss rs hs s = subst (λ (z : List (Horn Step)). StandFor ss rs z) (sym (append-nil hs)) s
 
 fact_is : (ss : List Step) (n : ℕ) (t : Step) → slice_get ss n ≡ Some t → fact_of ss n ≡ t
 fact_is ss n t e = ap (λ (z : Option Step). unwrap_or z (Set_up [])) e

@@ -1,5 +1,6 @@
 -- The code's facts and rules, as the rules of loading have them.
 use Rattle.std.specs.Prelude.{ℕ, List, [], ◌∷◌, ◌++◌, map}
+use Rattle.std.specs.List.{flat_map}
 use Rattle.gn_closure.specs.Closure.{Horn}
 use Rattle.gn_closure.specs.Reach.{source_root, Unit_key, Setup, Load, label}
 use Rattle.gn_closure.specs.Ground.{Step, Asked, Used, Defined, Set_up}
@@ -16,8 +17,8 @@ use Rattle.gn_graph.specs.declared.fact.Place.TheVariants.{Dir, Home, Root}
 use Rattle.gn_graph.specs.declared.rule.Needs.{Needs}
 use Rattle.gn_graph.specs.declared.rule.Needs.TheVariants.{Nothing, One, Two, Three}
 use Rattle.gn_graph.specs.declared.rule.Rule.{Rule}
-use Rattle.gn_graph.specs.declared.rule.UnitRule.{UnitRule}
-use Rattle.gn_graph.specs.declared.rule.UnitRule.TheVariants.{Plain, Under}
+use Rattle.gn_graph.specs.declared.rule.UnitRules.{UnitRules}
+use Rattle.gn_graph.specs.declared.rule.UnitRules.TheVariants.{Plain, Under}
 use Rattle.gn_graph.specs.Needs.{home}
 
 abbrev pub unit_of : UnitKey → Unit_key
@@ -71,12 +72,12 @@ rules_in rs = map horn_in rs
 abbrev pub under : Unit_key → Horn Step → Horn Step
 under unit h = record { needs = h.needs ++ is_reached unit ∷ []; gives = h.gives }
 
-abbrev pub unit_horn : UnitRule → Horn Step
-unit_horn (Plain r) = horn_in r
-unit_horn (Under unit r) = under (unit_of unit.now) (horn_in r)
+abbrev pub unit_horns : UnitRules → List (Horn Step)
+unit_horns (Plain r) = horn_in r ∷ []
+unit_horns (Under unit rs) = map (under (unit_of unit.now)) (rules_in rs.items)
 
-abbrev pub unit_rules_in : List UnitRule → List (Horn Step)
-unit_rules_in rs = map unit_horn rs
+abbrev pub unit_rules_in : List UnitRules → List (Horn Step)
+unit_rules_in rs = flat_map unit_horns rs
 
 abbrev pub steps_in : List Fact → List Step
 steps_in facts = map step_of facts

@@ -39,6 +39,10 @@ StandFor ss [] (h ∷ hs) = ⊥
 StandFor ss (r ∷ rs) [] = ⊥
 StandFor ss (r ∷ rs) (h ∷ hs) = StandsFor ss r h × StandFor ss rs hs
 
+-- rules over numbers that stand behind others stand for more rules over facts
+abbrev pub AddsFor : List Step → List Step → List (Horn ℕ) → List (Horn ℕ) → List (Horn Step) → Type 0
+AddsFor old new before after more = (hs : List (Horn Step)) → StandFor old before hs → StandFor new after (hs ++ more)
+
 -- the fact of a number
 abbrev pub fact_of : List Step → ℕ → Step
 fact_of ss n = unwrap_or (slice_get ss n) (Set_up [])

@@ -16,7 +16,7 @@ use crate::consequences::{consequences, fact_at};
 use crate::fact::Fact;
 use crate::hints::Hints;
 use crate::numbering::all_numbered;
-use crate::rule::UnitRule;
+use crate::rule::UnitRules;
 use indexmap::IndexSet;
 use std::alloc::{AllocError, Global};
 use std::marker::Model;
@@ -36,7 +36,7 @@ fn make_plan(
     clauses: &[Clause],
     holds: &IndexSet<usize>,
     uses: &mut Uses,
-    rules: &[UnitRule<'_>],
+    rules: &[UnitRules<'_>],
 ) -> Result<Planned, AllocError>
     requires closed { IsClosed (horns clauses.now) (has holds.now.keys) }
     requires used { IsUsed (horns clauses.now) (waits_at uses.old) }
@@ -127,7 +127,7 @@ impl Closure {
     }
 
     /// More rules, and what follows. After want of memory nothing is changed.
-    pub(crate) fn add(&mut self, rules: &[UnitRule<'_>]) -> Result<(), AllocError>
+    pub(crate) fn add(&mut self, rules: &[UnitRules<'_>]) -> Result<(), AllocError>
         ensures added { OnOk result (HasAdded self.old self.new (unit_rules_in rules.now)) }
         ensures err { OnErr result (self.new ≡ self.old) }
     {

@@ -18,7 +18,7 @@ use crate::counts::{Counts, counted};
 use crate::default_toolchain::DefaultToolchain;
 use crate::fact::{Fact, Mention};
 use crate::needs::UnitNeeds;
-use crate::rule::{Needs, Rule, UnitRule};
+use crate::rule::{Needs, Rule, UnitRules};
 use crate::unit_key::UnitKey;
 use crate::unit_rules::unit_rules;
 use gn_paths::Text;
@@ -50,7 +50,7 @@ fn rules_of<'a>(
     alloc: Global,
     default: &'a DefaultToolchain,
     answered: &'a Answered,
-    rules: &mut Vec<UnitRule<'a>>,
+    rules: &mut Vec<UnitRules<'a>>,
 ) -> Result<(), AllocError>
     ensures { OnOk result (unit_rules_in rules.new.items ≡ unit_rules_in rules.old.items ++ reply_rules default.now (reply_of answered.now)) }
 {
@@ -65,7 +65,7 @@ fn all_rules<'a>(
     alloc: Global,
     default: &'a DefaultToolchain,
     answers: &'a [Answered],
-    rules: &mut Vec<UnitRule<'a>>,
+    rules: &mut Vec<UnitRules<'a>>,
 ) -> Result<(), AllocError>
     ensures { OnOk result (unit_rules_in rules.new.items ≡ unit_rules_in rules.old.items ++ rules_by (Some default.now) (map reply_of answers.now)) }
 {
@@ -81,7 +81,7 @@ fn waiting_rules<'a>(
     default: &'a DefaultToolchain,
     answers: &'a [Answered],
     last: &'a Answered,
-    rules: &mut Vec<UnitRule<'a>>,
+    rules: &mut Vec<UnitRules<'a>>,
 ) -> Result<(), AllocError>
     ensures { OnOk result (unit_rules_in rules.new.items ≡ unit_rules_in rules.old.items ++ rules_by (Some default.now) (map reply_of answers.now ++ reply_of last.now ∷ [])) }
 {
@@ -96,7 +96,7 @@ fn added_rules<'a>(
     after: Option<&'a DefaultToolchain>,
     answers: &'a [Answered],
     last: &'a Answered,
-    rules: &mut Vec<UnitRule<'a>>,
+    rules: &mut Vec<UnitRules<'a>>,
 ) -> Result<(), AllocError>
     ensures { OnOk result (unit_rules_in rules.new.items
         ≡ unit_rules_in rules.old.items ++ more_rules (option_copied before.entry) (option_copied after.entry) (map reply_of answers.now) (reply_of last.now)) }
@@ -118,7 +118,7 @@ fn follow_by<'a>(
     after: Option<&'a DefaultToolchain>,
     answers: &'a [Answered],
     last: &'a Answered,
-    rules: &mut Vec<UnitRule<'a>>,
+    rules: &mut Vec<UnitRules<'a>>,
 ) -> Result<(), AllocError>
     requires { rules.old.items ≡ [] }
     ensures added { OnOk result (HasAdded closure.old closure.new (more_rules (option_copied before.entry) (option_copied after.entry) (map reply_of answers.now) (reply_of last.now))) }
@@ -289,16 +289,16 @@ fn all_counted(closure: &Closure) -> Counts
 }
 
 // The default toolchain's build configuration is reached.
-const FIRST: UnitRule<'static> = UnitRule::Plain(Rule {
+const FIRST: Rule<'static> = Rule {
     needs: Needs::Nothing,
     gives: Mention::ReachedFirst,
-});
+};
 
 fn started(alloc: Global) -> Result<Closure, AllocError>
     ensures added { IfOk result (λ closure. HasAdded (record { rules = []; found = [] }) closure start_rules) }
 {
     let mut closure = Closure::new(alloc);
-    match closure.add(&[FIRST]) {
+    match closure.add(&[UnitRules::Plain(FIRST)]) {
         Ok(()) => Ok(closure),
         Err(error) => {
             drop(closure);

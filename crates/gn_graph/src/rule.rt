@@ -25,13 +25,13 @@ pub(crate) struct Rule<'a> {
     pub(crate) gives: Mention<'a>,
 }
 
-/// A rule, and whether it needs also that a unit is reached.
-#[derive(Clone, Copy)]
-pub(crate) enum UnitRule<'a> {
-    /// The rule by itself.
+/// Rules, and whether they need also that a unit is reached.
+#[derive(Drop)]
+pub(crate) enum UnitRules<'a> {
+    /// A rule by itself.
     Plain(Rule<'a>),
-    /// It needs also that the unit is reached.
-    Under(&'a UnitKey, Rule<'a>),
+    /// Each of the rules needs also that the unit is reached.
+    Under(&'a UnitKey, Vec<Rule<'a>>),
 }
 
 /// Puts a rule behind the others.
@@ -53,27 +53,14 @@ pub(crate) fn put_first<'a>(rules: &mut Vec<Rule<'a>>, gives: Mention<'a>) -> Re
     put(rules, Needs::One(Mention::SetUpFirst), gives)
 }
 
-fn hang_one<'a>(
-    unit: &'a UnitKey,
-    rule: &Rule<'a>,
-    done: &mut Vec<UnitRule<'a>>,
-) -> Result<(), AllocError>
-    ensures { OnOk result (unit_rules_in done.new.items ≡ unit_rules_in done.old.items ++ under (unit_of unit.now) (horn_in rule.now) ∷ []) }
-{
-    done.push(UnitRule::Under(unit, *rule))?;
-    Ok(())
-}
-
-/// The rules of a unit stand behind the others, each of which needs also that the unit is reached.
+/// Rules of a unit stand behind the others, each of which needs also that the unit is reached.
 pub(crate) fn hang<'a>(
     unit: &'a UnitKey,
-    rules: &[Rule<'a>],
-    done: &mut Vec<UnitRule<'a>>,
+    rules: Vec<Rule<'a>>,
+    done: &mut Vec<UnitRules<'a>>,
 ) -> Result<(), AllocError>
-    ensures { OnOk result (unit_rules_in done.new.items ≡ unit_rules_in done.old.items ++ map (under (unit_of unit.now)) (rules_in rules.now)) }
+    ensures { OnOk result (unit_rules_in done.new.items ≡ unit_rules_in done.old.items ++ map (under (unit_of unit.now)) (rules_in rules.entry.items)) }
 {
-    for rule in rules {
-        hang_one(unit, rule, done)?;
-    }
+    done.push(UnitRules::Under(unit, rules))?;
     Ok(())
 }

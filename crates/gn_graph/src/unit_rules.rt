@@ -12,7 +12,7 @@ use crate::default_toolchain::DefaultToolchain;
 use crate::fact::{Mention, Place};
 use crate::home::home;
 use crate::needs::{ToolchainNeeds, UnitNeeds};
-use crate::rule::{Needs, Rule, UnitRule, hang, put, put_first};
+use crate::rule::{Needs, Rule, UnitRules, hang, put, put_first};
 use crate::target_rules::{File, targets_rules};
 use crate::unit_key::UnitKey;
 use crate::wanted_rules::wanted_rules;
@@ -182,12 +182,12 @@ pub(crate) fn unit_rules<'a>(
     default: &'a DefaultToolchain,
     unit: &'a UnitKey,
     needs: &'a UnitNeeds,
-    done: &mut Vec<UnitRule<'a>>,
+    done: &mut Vec<UnitRules<'a>>,
 ) -> Result<(), AllocError>
     ensures { OnOk result (unit_rules_in done.new.items
         ≡ unit_rules_in done.old.items ++ map (under (unit_of unit.now)) (unit_rules home default.now (Some (Some (done_of needs.now))) (unit_of unit.now))) }
 {
     let mut rules = Vec::new(alloc);
     rules_by(alloc, default, unit, needs, &mut rules)?;
-    hang(unit, &rules, done)
+    hang(unit, rules, done)
 }

@@ -1,3 +1,5 @@
 pub mod NoDependency
+pub mod MadeAlone
+pub mod Expanded
 pub mod Lists
 mod Loops

@@ -33,13 +33,13 @@ made_each block outs each (x ∷ xs) step =
     ∙ sym (append_assoc (outs x) (flat_map outs xs) (line_outs step))
 
 -- what the file of a target makes, by its parts
-left_sides : Written → List (List ℕ)
+unfoldable pub left_sides : Written → List (List ℕ)
 left_sides (target.Group g) = g.stamp.outs
 left_sides (target.Copy c) = flat_map copied_outs c.files ++ c.stamp.outs
 left_sides (target.Action a) = flat_map run_outs a.runs ++ a.stamp.outs
 left_sides (target.Compiled c) = flat_map source_outs c.sources.units ++ c.join.step.outs
 
-made_left : (w : Written) → made (target_blocks w) ≡ left_sides w
+pub made_left : (w : Written) → made (target_blocks w) ≡ left_sides w
 unfolding made compiled_blocks left_sides
 made_left (target.Group g) = append-nil (g.stamp.outs ++ []) ∙ append-nil g.stamp.outs
 made_left (target.Copy c) =

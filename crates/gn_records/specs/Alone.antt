@@ -1,5 +1,5 @@
 -- What no dependency of a target changes of its record.
-use Rattle.std.specs.Prelude.{ℕ, List, [], if◌then◌else◌}
+use Rattle.std.specs.Prelude.{ℕ, List, [], ◌++◌, if◌then◌else◌}
 use Rattle.std.specs.List.{flat_map}
 use Rattle.gn_rows.specs.declared.variable.Variable.TheVariants.{Sources}
 use Rattle.gn_define.specs.declared.fields.Fields.{Fields}
@@ -8,15 +8,18 @@ use Rattle.gn_items.specs.declared.item.Item.{Item}
 use Rattle.gn_writing.specs.declared.records.Dones.{Dones}
 use Rattle.gn_writing.specs.declared.records.Step.{Step}
 use Rattle.gn_writing.specs.declared.records.Written.{Written}
+use Rattle.gn_writing.specs.declared.sources.SourceUse.{SourceUse}
+use Rattle.gn_writing.specs.declared.sources.SourceUse.TheVariants.{Built}
 use Rattle.gn_writing.specs.Kinds.{target_blocks}
 use Rattle.gn_writing.specs.Lines.{made}
 use Rattle.gn_writing.specs.Outputs.{OutputValues}
+use Rattle.gn_writing.specs.Sources.{use_of}
 use Rattle.gn_records.specs.declared.inherited.Inherited.{Inherited}
 use Rattle.gn_records.specs.declared.output.Output.{Output}
 use Rattle.gn_records.specs.declared.records.Exports.{Exports}
 use Rattle.gn_records.specs.declared.records.Record.{Record}
 use Rattle.gn_records.specs.Around.{Around}
-use Rattle.gn_records.specs.Compiled.{objects_for, join_step}
+use Rattle.gn_records.specs.Compiled.{objects_for, unit_of, join_step}
 use Rattle.gn_records.specs.Made.{outputs_of}
 use Rattle.gn_records.specs.Output.{own_tool, tool_where, output_of, values_for}
 use Rattle.gn_records.specs.Records.{is_plain, plain_exports, exports_of, record_of}
@@ -51,6 +54,18 @@ no_dones = record { deps = []; data_deps = [] }
 -- the record of a target that has no configurations and no dependencies
 abbrev pub alone : Around → Item → Record
 alone c i = record_of c i [] no_inherited no_dones []
+
+-- what is made of a source, by what becomes of it
+abbrev pub outs_used : Around → Item → OutputValues → List ℕ → SourceUse → List (List ℕ)
+outs_used c i n source (Built tool) = (unit_of c i n tool source).outs
+outs_used c i n source _ = []
+
+unfoldable pub outs_for : Around → Item → OutputValues → List ℕ → List (List ℕ)
+outs_for c i n source = outs_used c i n source (use_of source)
+
+-- what a target whose sources are compiled makes of these and by its last line
+unfoldable pub compiled_outs : Around → Item → List (List ℕ)
+compiled_outs c i = flat_map (outs_for c i (own_values c i)) (paths_of (field_at i.fields Sources)) ++ (own_step c i).outs
 
 -- the left sides of the build lines of its file, in order
 unfoldable pub made_at : Around → Item → List (List ℕ)

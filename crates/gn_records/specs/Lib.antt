@@ -6,6 +6,7 @@ pub mod Actions
 pub mod Bound
 pub mod Flags
 pub mod Output
+pub mod Expanding
 pub mod Compiled
 pub mod Done
 pub mod Records

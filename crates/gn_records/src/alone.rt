@@ -1,34 +1,31 @@
 // What a target makes, whatever it depends on.
 
-ghost use Rattle.std.specs.Prelude.{◌≡◌, IfOk, map};
+ghost use Rattle.std.specs.Prelude.{◌≡◌, ◌++◌, IfOk, OnOk, map};
+ghost use Rattle.std.specs.List.{flat_map};
+ghost use Rattle.gn_rows.specs.declared.variable.Variable.TheVariants.{Sources};
+ghost use Rattle.gn_define.specs.Fields.{field_at, paths_of};
 ghost use Rattle.gn_writing.specs.Kinds.{target_blocks};
 ghost use Rattle.gn_writing.specs.Lines.{made};
-ghost use Rattle.gn_records.specs.Alone.{no_inherited, no_dones, alone, made_at};
+ghost use Rattle.gn_writing.specs.Outputs.{values_of};
+ghost use Rattle.gn_records.specs.Alone.{no_dones, outs_for, compiled_outs, made_at};
 ghost use Rattle.gn_records.specs.Around.{around};
+ghost use Rattle.gn_records.specs.Compiled.{join_step};
+ghost use Rattle.gn_records.specs.Output.{own_tool, values_for};
+ghost use Rattle.gn_records.specs.Records.{plain_written};
 
 use crate::context::Context;
-use crate::inherited::Inherited;
-use crate::records::{Record, record_of};
+use crate::expanding::source_of;
+use crate::keeping::beside;
+use crate::output::{Output, names_for, output_of, own_tool, tool_of_kind};
+use crate::records::{is_plain, plain_written};
+use crate::sources::add_outs_of_tool;
+use crate::stamps::add_stamp;
 use crate::texts::copies_of_lent;
 use gn_items::Item;
-use gn_paths::Texts;
-use gn_writing::{Dones, Written, made_by};
+use gn_paths::{Path, Texts};
+use gn_rows::Variable;
+use gn_writing::{Dones, OutputNames, SourceUse, Written, made_by, use_of};
 use std::alloc::{AllocError, Global};
-
-// Nothing that is inherited.
-fn no_inherited(alloc: Global) -> Inherited
-    ensures { result ≡ no_inherited }
-{
-    Inherited {
-        set_objects: Texts::new(alloc),
-        set_dones: Texts::new(alloc),
-        statics: Texts::new(alloc),
-        shared: Texts::new(alloc),
-        solibs: Texts::new(alloc),
-        libs: Texts::new(alloc),
-        lib_dirs: Texts::new(alloc),
-    }
-}
 
 // No done files.
 fn no_dones(alloc: Global) -> Dones
@@ -38,18 +35,6 @@ fn no_dones(alloc: Global) -> Dones
         deps: Texts::new(alloc),
         data_deps: Texts::new(alloc),
     }
-}
-
-// The record of a target that has no configurations and no dependencies.
-fn alone(alloc: Global, context: &Context<'_>, item: &Item) -> Result<Record, AllocError>
-    ensures { IfOk result (λ r. r ≡ alone (around context.now) item.now) }
-{
-    let none = no_inherited(alloc);
-    let hard = Texts::new(alloc);
-    let record = record_of(alloc, context, item, &[], &none, no_dones(alloc), &hard);
-    drop(none);
-    drop(hard);
-    record
 }
 
 // Copies of the left sides of the build lines of a target's file.
@@ -62,13 +47,118 @@ fn left_sides(alloc: Global, written: &Written) -> Result<Texts, AllocError>
     copies
 }
 
+// What a target makes that has no objects.
+fn made_plain(alloc: Global, context: &Context<'_>, item: &Item) -> Result<Texts, AllocError>
+    ensures { IfOk result (λ outs. outs ≡ made (target_blocks (plain_written item.now.kind (around context.now) item.now no_dones))) }
+{
+    let written = plain_written(alloc, context, item, no_dones(alloc))?;
+    let outs = left_sides(alloc, &written);
+    drop(written);
+    outs
+}
+
+// Puts what is made of a source behind the others.
+#[tactic(auto, unfolding(crate::specs::Alone::outs_for))]
+fn add_source_outs(
+    alloc: Global,
+    outs: &mut Texts,
+    context: &Context<'_>,
+    item: &Item,
+    names: &OutputNames<'_>,
+    source: &Path,
+) -> Result<(), AllocError>
+    ensures { OnOk result (outs.new ≡ outs.old ++ outs_for (around context.now) item.now (values_of names.now) source.now) }
+{
+    match use_of(alloc, source)? {
+        SourceUse::Built(tool) => {
+            let source = source_of(context, item, source);
+            add_outs_of_tool(alloc, outs, names, Some(source), context.tools.get(tool))
+        }
+        _ => Ok(()),
+    }
+}
+
+// What is made of the sources of a target.
+fn outs_of_sources(
+    alloc: Global,
+    context: &Context<'_>,
+    item: &Item,
+    names: &OutputNames<'_>,
+) -> Result<Texts, AllocError>
+    ensures { IfOk result (λ outs. outs ≡ flat_map (outs_for (around context.now) item.now (values_of names.now)) (paths_of (field_at item.now.fields Sources))) }
+{
+    let sources = item.fields.paths(Variable::Sources);
+    let mut outs = Texts::new(alloc);
+    for source in sources {
+        add_source_outs(alloc, &mut outs, context, item, names, source)?;
+    }
+    Ok(outs)
+}
+
+// Puts what the last line of a target makes behind the others.
+fn add_last(
+    alloc: Global,
+    outs: &mut Texts,
+    context: &Context<'_>,
+    item: &Item,
+    names: &OutputNames<'_>,
+) -> Result<(), AllocError>
+    ensures { OnOk result (outs.new ≡ outs.old ++ (join_step (around context.now) item.now (values_of names.now) (own_tool item.now.kind)).outs) }
+{
+    match own_tool(item.kind) {
+        Some(tool) => add_outs_of_tool(alloc, outs, names, None, context.tools.get(tool)),
+        None => add_stamp(alloc, outs, context, &item.label),
+    }
+}
+
+// What a compiled target makes with what it gives to the texts of tools.
+fn made_by_names(
+    alloc: Global,
+    context: &Context<'_>,
+    item: &Item,
+    names: &OutputNames<'_>,
+) -> Result<Texts, AllocError>
+    ensures { IfOk result (λ outs. outs ≡ flat_map (outs_for (around context.now) item.now (values_of names.now)) (paths_of (field_at item.now.fields Sources))
+        ++ (join_step (around context.now) item.now (values_of names.now) (own_tool item.now.kind)).outs) }
+{
+    let mut outs = outs_of_sources(alloc, context, item, names)?;
+    let added = add_last(alloc, &mut outs, context, item, names);
+    let (outs, ()) = beside(outs, added)?;
+    Ok(outs)
+}
+
+// What a compiled target with this output makes.
+fn made_with(
+    alloc: Global,
+    context: &Context<'_>,
+    item: &Item,
+    output: &Output,
+) -> Result<Texts, AllocError>
+    ensures { IfOk result (λ outs. outs ≡ flat_map (outs_for (around context.now) item.now (values_for (around context.now) item.now output.now)) (paths_of (field_at item.now.fields Sources))
+        ++ (join_step (around context.now) item.now (values_for (around context.now) item.now output.now) (own_tool item.now.kind)).outs) }
+{
+    let names = names_for(context, item, output);
+    made_by_names(alloc, context, item, &names)
+}
+
+// What a compiled target makes.
+#[tactic(auto, unfolding(crate::specs::Alone::compiled_outs))]
+fn made_compiled(alloc: Global, context: &Context<'_>, item: &Item) -> Result<Texts, AllocError>
+    ensures { IfOk result (λ outs. outs ≡ compiled_outs (around context.now) item.now) }
+{
+    let output = output_of(alloc, context, item, tool_of_kind(context, item.kind))?;
+    let outs = made_with(alloc, context, item, &output);
+    drop(output);
+    outs
+}
+
 /// What a target makes: the left sides of the build lines of its file, in order. No configuration and no dependency changes it.
-#[tactic(auto, unfolding(crate::specs::Alone::made_at))]
+#[tactic(auto, using(crate::proofs::MadeAlone::made_plain, crate::proofs::MadeAlone::made_compiled))]
 pub fn made(alloc: Global, context: &Context<'_>, item: &Item) -> Result<Texts, AllocError>
     ensures { IfOk result (λ outs. outs ≡ made_at (around context.now) item.now) }
 {
-    let record = alone(alloc, context, item)?;
-    let outs = left_sides(alloc, &record.written);
-    drop(record);
-    outs
+    if is_plain(item.kind) {
+        return made_plain(alloc, context, item);
+    }
+    made_compiled(alloc, context, item)
 }

@@ -8,7 +8,6 @@ ghost use Rattle.gn_records.specs.Compiled.{tool_step, join_step, rest_where, on
 use crate::context::Context;
 use crate::inherited::Inherited;
 use crate::keeping::beside;
-use crate::outputs::for_none;
 use crate::sources::outs_of_tool;
 use crate::stamps::stamp_step;
 use crate::texts::both;
@@ -28,9 +27,7 @@ fn tool_step(
     ensures { IfOk result (λ step. step ≡ tool_step (around context.now) (values_of names.now) tool) }
 {
     let rule = tool_rule(alloc, context.prefix, tool)?;
-    let none = for_none(alloc);
-    let outs = outs_of_tool(alloc, names, &none, context.tools.get(tool));
-    drop(none);
+    let outs = outs_of_tool(alloc, names, None, context.tools.get(tool));
     let (rule, outs) = beside(rule, outs)?;
     Ok(Step { rule, outs })
 }

@@ -8,6 +8,7 @@ mod compiled;
 mod context;
 mod copies;
 mod done;
+mod expanding;
 mod exports;
 mod flags;
 mod further;
@@ -31,6 +32,7 @@ mod tools;
 pub use alone::made;
 pub use bound::bound_names;
 pub use context::{BoundNames, Context};
+pub use expanding::{Expansion, ToolSource, expanded_by, source_of};
 pub use further::outputs_of;
 pub use inherited::Inherited;
 pub use laws::{

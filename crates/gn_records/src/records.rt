@@ -69,7 +69,7 @@ fn plain_record(
 }
 
 // What is written of a target that has no objects.
-fn plain_written(
+pub(crate) fn plain_written(
     alloc: Global,
     context: &Context<'_>,
     item: &Item,
@@ -86,7 +86,7 @@ fn plain_written(
 }
 
 // Whether targets of the kind have no objects.
-fn is_plain(kind: ItemKind) -> bool
+pub(crate) fn is_plain(kind: ItemKind) -> bool
     ensures { result ≡ is_plain kind }
 {
     matches!(

@@ -4,54 +4,71 @@ ghost use Rattle.std.specs.Prelude.{◌≡◌, [], ◌∷◌, ◌++◌, IfOk, On
 ghost use Rattle.std.specs.List.{flat_map};
 ghost use Rattle.gn_paths.specs.Parts.{file_of, name_in};
 ghost use Rattle.gn_rows.specs.declared.variable.Variable.TheVariants as variables;
-ghost use Rattle.gn_substs.specs.declared.positions.Position.TheVariants.{ToolOutputs};
 ghost use Rattle.gn_define.specs.Fields.{field_at, paths_of};
 ghost use Rattle.gn_writing.specs.Outputs.{values_of};
 ghost use Rattle.gn_records.specs.Around.{around};
 ghost use Rattle.gn_records.specs.Compiled.{outs_of_tool, unit_of, first_alone, units_used, objects_used, units_for, objects_for, own_sources};
-ghost use Rattle.gn_records.specs.Outputs.{for_source};
+ghost use Rattle.gn_records.specs.Expanding.{given_beside};
 
 use crate::context::Context;
+use crate::expanding::{Expansion, ToolSource, add_outputs, source_of};
 use crate::keeping::beside;
-use crate::outputs::for_source;
 use crate::paths::paths_at;
 use gn_items::{Item, Tool};
 use gn_paths::{Path, PathPart, Texts, part};
 use gn_rows::{ToolName, Variable};
-use gn_substs::{Given, Position};
-use gn_writing::{
-    OutputNames, OwnSources, SourceUse, Unit, Units, given_for, tool_outputs, tool_rule, use_of,
-};
+use gn_substs::Position;
+use gn_writing::{OutputNames, OwnSources, SourceUse, Unit, Units, tool_rule, use_of};
 use std::alloc::{AllocError, Global};
 
-// What a tool makes by the texts of its outputs.
-fn outs_by(
+// Puts what a tool makes by the texts of its outputs behind the others.
+fn add_outs_by(
     alloc: Global,
+    outs: &mut Texts,
     names: &OutputNames<'_>,
-    given: &Given,
+    source: Option<ToolSource<'_>>,
     tool: &Tool,
-) -> Result<Texts, AllocError>
-    ensures { IfOk result (λ outs. outs ≡ outs_of_tool (values_of names.now) given.now (Some tool.now)) }
+) -> Result<(), AllocError>
+    ensures { OnOk result (outs.new ≡ outs.old ++ outs_of_tool (values_of names.now) (given_beside source.entry) (Some tool.now)) }
 {
-    let given = given_for(alloc, Position::ToolOutputs, names, given)?;
-    let outs = tool_outputs(alloc, names, &given, tool.fields.substs(Variable::Outputs));
-    drop(given);
-    outs
+    let position = Position::ToolOutputs;
+    let by = Expansion {
+        position,
+        names,
+        source,
+    };
+    add_outputs(alloc, outs, &by, tool.fields.substs(Variable::Outputs))
+}
+
+// Puts what a tool makes by the texts of its outputs behind the others; nothing where the toolchain lacks it.
+pub(crate) fn add_outs_of_tool(
+    alloc: Global,
+    outs: &mut Texts,
+    names: &OutputNames<'_>,
+    source: Option<ToolSource<'_>>,
+    tool: Option<&Tool>,
+) -> Result<(), AllocError>
+    ensures { OnOk result (outs.new ≡ outs.old ++ outs_of_tool (values_of names.now) (given_beside source.entry) (option_map (λ t. t.now) tool.entry)) }
+{
+    match tool {
+        Some(tool) => add_outs_by(alloc, outs, names, source, tool),
+        None => Ok(()),
+    }
 }
 
 // What a tool makes by the texts of its outputs; nothing where the toolchain lacks it.
 pub(crate) fn outs_of_tool(
     alloc: Global,
     names: &OutputNames<'_>,
-    given: &Given,
+    source: Option<ToolSource<'_>>,
     tool: Option<&Tool>,
 ) -> Result<Texts, AllocError>
-    ensures { IfOk result (λ outs. outs ≡ outs_of_tool (values_of names.now) given.now (option_map (λ t. t.now) tool.entry)) }
+    ensures { IfOk result (λ outs. outs ≡ outs_of_tool (values_of names.now) (given_beside source.entry) (option_map (λ t. t.now) tool.entry)) }
 {
-    match tool {
-        Some(tool) => outs_by(alloc, names, given, tool),
-        None => Ok(Texts::new(alloc)),
-    }
+    let mut outs = Texts::new(alloc);
+    let added = add_outs_of_tool(alloc, &mut outs, names, source, tool);
+    let (outs, ()) = beside(outs, added)?;
+    Ok(outs)
 }
 
 // What a tool makes of a source.
@@ -65,10 +82,8 @@ fn outs_of_source(
 ) -> Result<Texts, AllocError>
     ensures { IfOk result (λ outs. outs ≡ (unit_of (around context.now) item.now (values_of names.now) tool source.now).outs) }
 {
-    let given = for_source(alloc, context, item, Position::ToolOutputs, source)?;
-    let outs = outs_of_tool(alloc, names, &given, context.tools.get(tool));
-    drop(given);
-    outs
+    let source = source_of(context, item, source);
+    outs_of_tool(alloc, names, Some(source), context.tools.get(tool))
 }
 
 // A source that a tool builds.

@@ -1,13 +1,11 @@
 // Stamps: files that stand for what a target has made.
 
-ghost use Rattle.std.specs.Prelude.{◌≡◌, [], ◌∷◌, ◌++◌, codes, IfOk};
-ghost use Rattle.gn_rows.specs.declared.kinds.ToolName.TheVariants.{Stamp};
+ghost use Rattle.std.specs.Prelude.{◌≡◌, ◌++◌, codes, IfOk, OnOk};
 ghost use Rattle.gn_records.specs.Around.{around};
-ghost use Rattle.gn_records.specs.Steps.{rule_of, where_had, stamp_of, stamp_step, response_of};
+ghost use Rattle.gn_records.specs.Steps.{stamp_of, stamp_step, response_of};
 
 use crate::context::Context;
 use crate::keeping::beside;
-use crate::texts::only;
 use gn_labels::Label;
 use gn_paths::{Text, Texts};
 use gn_rows::ToolName;
@@ -36,14 +34,29 @@ pub(crate) fn response(
     Ok(text)
 }
 
-// What the tool that makes stamps makes.
-fn stamp_outs(alloc: Global, context: &Context<'_>, label: &Label) -> Result<Texts, AllocError>
-    ensures { IfOk result (λ outs. outs ≡ where_had (around context.now) Stamp (stamp_of (around context.now) label.now ∷ [])) }
+// Puts what the tool that makes stamps makes behind the others.
+pub(crate) fn add_stamp(
+    alloc: Global,
+    outs: &mut Texts,
+    context: &Context<'_>,
+    label: &Label,
+) -> Result<(), AllocError>
+    ensures { OnOk result (outs.new ≡ outs.old ++ (stamp_step (around context.now) label.now).outs) }
 {
     if context.tools.has(ToolName::Stamp.name()) {
-        return only(alloc, stamp(alloc, context, label)?);
+        return outs.push(stamp(alloc, context, label)?);
     }
-    Ok(Texts::new(alloc))
+    Ok(())
+}
+
+// What the tool that makes stamps makes.
+fn stamp_outs(alloc: Global, context: &Context<'_>, label: &Label) -> Result<Texts, AllocError>
+    ensures { IfOk result (λ outs. outs ≡ (stamp_step (around context.now) label.now).outs) }
+{
+    let mut outs = Texts::new(alloc);
+    let added = add_stamp(alloc, &mut outs, context, label);
+    let (outs, ()) = beside(outs, added)?;
+    Ok(outs)
 }
 
 // The line that makes a stamp.

@@ -3,27 +3,30 @@
 ghost use Rattle.std.specs.Prelude.{◌≡◌, IfOk};
 ghost use Rattle.std.specs.List.{flat_map};
 ghost use Rattle.gn_writing.specs.Outputs.{values_of};
+ghost use Rattle.gn_records.specs.Expanding.{given_beside, given_by};
 ghost use Rattle.gn_tool_texts.specs.Least.{least};
 ghost use Rattle.gn_tool_texts.specs.Texts.{faults_of_text, faults_where_used, faults_at};
 
 use crate::least::lesser;
-use gn_paths::{Path, PathFault, path_meant};
-use gn_substs::{Given, Position, Subst, Substitution};
-use gn_writing::{OutputNames, given_for, uses};
+use gn_paths::{PathFault, path_meant};
+use gn_records::{Expansion, expanded_by};
+use gn_substs::{Subst, Substitution};
+use gn_writing::uses;
 use std::alloc::{AllocError, Global};
 
 // The fault of a text, expanded by what is given, at the build directory.
 #[tactic(auto, using(crate::proofs::LeastLemmas::least_nothing, crate::proofs::LeastLemmas::least_one))]
 pub(crate) fn fault_of_text(
     alloc: Global,
-    build: &Path,
-    given: &Given,
+    by: &Expansion<'_>,
     text: &Subst,
 ) -> Result<Option<PathFault>, AllocError>
-    ensures { IfOk result (λ fault. fault ≡ least (faults_of_text build.now given.now text.now)) }
+    ensures { IfOk result (λ fault. fault ≡ least (faults_of_text by.now.names.now.build.now (given_by by.now) text.now)) }
 {
-    let expanded = text.expand(alloc, given)?;
-    match path_meant(alloc, build, expanded.as_bytes())? {
+    let expanded = expanded_by(alloc, by, text)?;
+    let meant = path_meant(alloc, by.names.build, expanded.as_bytes());
+    drop(expanded);
+    match meant? {
         Ok(_) => Ok(None),
         Err(fault) => Ok(Some(fault)),
     }
@@ -33,31 +36,29 @@ pub(crate) fn fault_of_text(
 #[tactic(auto, using(crate::proofs::LeastLemmas::least_nothing))]
 fn fault_where_used(
     alloc: Global,
-    names: &OutputNames<'_>,
-    given: &Given,
+    by: &Expansion<'_>,
     text: &Subst,
 ) -> Result<Option<PathFault>, AllocError>
-    ensures { IfOk result (λ fault. fault ≡ least (faults_where_used (values_of names.now) given.now text.now)) }
+    ensures { IfOk result (λ fault. fault ≡ least (faults_where_used (values_of by.now.names.now) (given_by by.now) text.now)) }
 {
-    if names.output_dir.is_none() && uses(text, Substitution::OutputDir) {
+    if by.names.output_dir.is_none() && uses(text, Substitution::OutputDir) {
         return Ok(None);
     }
-    fault_of_text(alloc, names.build, given, text)
+    fault_of_text(alloc, by, text)
 }
 
 // The least fault of texts.
 #[tactic(auto, using(crate::proofs::LeastLemmas::least_nothing))]
 fn fault_among(
     alloc: Global,
-    names: &OutputNames<'_>,
-    given: &Given,
+    by: &Expansion<'_>,
     texts: &[Subst],
 ) -> Result<Option<PathFault>, AllocError>
-    ensures { IfOk result (λ fault. fault ≡ least (flat_map (faults_where_used (values_of names.now) given.now) texts.now)) }
+    ensures { IfOk result (λ fault. fault ≡ least (flat_map (faults_where_used (values_of by.now.names.now) (given_by by.now)) texts.now)) }
 {
     let mut least = None;
     for text in texts {
-        least = lesser(least, fault_where_used(alloc, names, given, text)?);
+        least = lesser(least, fault_where_used(alloc, by, text)?);
     }
     Ok(least)
 }
@@ -66,13 +67,10 @@ fn fault_among(
 #[tactic(auto, unfolding(crate::specs::Texts::faults_at))]
 pub(crate) fn fault_at(
     alloc: Global,
-    position: Position,
-    names: &OutputNames<'_>,
-    given: &Given,
+    by: &Expansion<'_>,
     texts: &[Subst],
 ) -> Result<Option<PathFault>, AllocError>
-    ensures { IfOk result (λ fault. fault ≡ least (faults_at position (values_of names.now) given.now texts.now)) }
+    ensures { IfOk result (λ fault. fault ≡ least (faults_at by.now.position (values_of by.now.names.now) (given_beside by.now.source) texts.now)) }
 {
-    let given = given_for(alloc, position, names, given)?;
-    fault_among(alloc, names, &given, texts)
+    fault_among(alloc, by, texts)
 }

@@ -19,11 +19,11 @@ use gn_faults::Code;
 use gn_items::{Item, ItemKind, Tool};
 use gn_paths::{Path, PathFault};
 use gn_records::{
-    Context, Output, for_none, for_source, names_for, output_of, substs_of_tool, tool_of_kind,
+    Context, Expansion, Output, names_for, output_of, source_of, substs_of_tool, tool_of_kind,
 };
 use gn_rows::{ToolName, Variable};
 use gn_substs::{Position, Subst};
-use gn_writing::{OutputNames, SourceUse, given_for, use_of};
+use gn_writing::{OutputNames, SourceUse, use_of};
 use std::alloc::{AllocError, Global};
 
 // Whether targets of the kind use texts of tools.
@@ -51,9 +51,13 @@ fn fault_of_built(
 ) -> Result<Option<PathFault>, AllocError>
     ensures { IfOk result (λ fault. fault ≡ least (faults_by_use (around context.now) item.now (values_of names.now) source.now (Built tool))) }
 {
-    let given = for_source(alloc, context, item, Position::ToolOutputs, source)?;
+    let by = Expansion {
+        position: Position::ToolOutputs,
+        names,
+        source: Some(source_of(context, item, source)),
+    };
     let texts = substs_of_tool(context.tools.get(tool), Variable::Outputs);
-    fault_at(alloc, Position::ToolOutputs, names, &given, texts)
+    fault_at(alloc, &by, texts)
 }
 
 // The least fault of the texts that are used for a source.
@@ -104,8 +108,12 @@ fn fault_of_variable(
 ) -> Result<Option<PathFault>, AllocError>
     ensures { IfOk result (λ fault. fault ≡ least (faults_at position (values_of names.now) for_none (substs_of_tool variable (option_map (λ t. t.now) tool.entry)))) }
 {
-    let texts = substs_of_tool(tool, variable);
-    fault_at(alloc, position, names, &for_none(alloc), texts)
+    let by = Expansion {
+        position,
+        names,
+        source: None,
+    };
+    fault_at(alloc, &by, substs_of_tool(tool, variable))
 }
 
 // The least fault of what is linked of a shared library and of what stands for it.
@@ -168,9 +176,12 @@ fn fault_of_first(
     let [text, ..] = texts else {
         return Ok(None);
     };
-    let position = Position::ToolDefaultOutputDir;
-    let given = given_for(alloc, position, names, &for_none(alloc))?;
-    fault_of_text(alloc, names.build, &given, text)
+    let by = Expansion {
+        position: Position::ToolDefaultOutputDir,
+        names,
+        source: None,
+    };
+    fault_of_text(alloc, &by, text)
 }
 
 // What a target with this output gives to the text for the default directory of outputs.

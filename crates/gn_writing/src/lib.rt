@@ -18,7 +18,7 @@ pub use laws::{different_texts_have_different_names, what_is_written_leads_back}
 pub use lists::{behind_switch, each_once};
 pub use made::made_by;
 pub use names::{action_rule_name, mangled, pool_name, rule_prefix, tool_rule};
-pub use outputs::{OutputNames, given_for, tool_outputs, uses};
+pub use outputs::{OutputNames, given_for, name_text, push_meant, tool_outputs, uses};
 pub use record_lists::{CopiedFiles, Runs, Units};
 pub use records::{
     Action, ActionRule, CompileFlags, Compiled, Copied, CopyTarget, Directories, Dones, Group,

@@ -77,8 +77,8 @@ fn shown_where(
     }
 }
 
-// What stands for a substitution: what the target gives, and what is given for the source to all others.
-fn name_text(
+/// What stands for a substitution at a position of a tool: what the target gives, and what is given for the source to all others.
+pub fn name_text(
     alloc: Global,
     position: Position,
     names: &OutputNames<'_>,
@@ -118,8 +118,13 @@ pub fn given_for(
     Ok(Given::new(position, Texts::from_vec(texts)))
 }
 
-// Puts the path that a text means, as seen from the build directory, behind the others, where it means one.
-fn push_meant(alloc: Global, paths: &mut Texts, build: &Path, text: &[u8]) -> Result<(), AllocError>
+/// Puts the path that a text means, as seen from the build directory, behind the others, where it means one.
+pub fn push_meant(
+    alloc: Global,
+    paths: &mut Texts,
+    build: &Path,
+    text: &[u8],
+) -> Result<(), AllocError>
     ensures { OnOk result (paths.new ≡ paths.old ++ paths_meant build.now text.now) }
 {
     match path_meant(alloc, build, text)? {

@@ -13,6 +13,6 @@ returns-clause-stands c =
     let s : Step = is_reached (unit_of c.args.unit.now) in
     let a = c.in_ok-clause.ensures.stands in (
       subst (λ (z : List ℕ). AreAt new z (hs ++ s ∷ [])) (sym c.in_ok-push.ensures.items)
-          (at_push new c.in_ok-clause.clause.needs.items hs c.in_ok-unit.unit s a.0 (c.in_ok-clause.ensures.grows.0 c.in_ok-unit.unit s c.in_ok-unit.ensures.at)),
+          (at_push new c.in_ok-clause.clause.needs.items hs c.args.number s a.0 (c.in_ok-clause.ensures.grows.0 c.args.number s c.requires)),
       a.1,
     )

@@ -7,6 +7,14 @@ use Rattle.gn_graph.specs.Numbers.{AreAt}
 use Rattle.gn_graph.proofs.Table.{extends_on, at_grows, at_push}
 use Rattle.gn_graph.proofs.numbering.numbers.Goals as goal
 
+pub returns-in_err-number-clause-grows : goal.returns-in_err-number-clause-grows
+returns-in_err-number-clause-grows c
+    = extends_on (steps_in c.args.facts.now.keys) (steps_in c.loop-mention.facts.keys) (steps_in c.number_of.new.facts.keys) c.loop-mention.invariant.grows c.number_of.ensures.grows
+
+pub returns-in_err-push-clause-grows : goal.returns-in_err-push-clause-grows
+returns-in_err-push-clause-grows c
+    = extends_on (steps_in c.args.facts.now.keys) (steps_in c.loop-mention.facts.keys) (steps_in c.number_of.new.facts.keys) c.loop-mention.invariant.grows c.number_of.ensures.grows
+
 pub loop-mention-preserved : goal.loop-mention-preserved
 loop-mention-preserved c =
     let old = steps_in c.loop-mention.facts.keys in

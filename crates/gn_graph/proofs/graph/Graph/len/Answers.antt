@@ -1,4 +1,4 @@
-use Rattle.std.proofs.Common.{◌≡◌, ◌↔◌, map, subst}
+use Rattle.std.proofs.Common.{◌↔◌, map, subst}
 use Rattle.gn_closure.specs.Closure.{In}
 use Rattle.gn_closure.specs.Reach.{Fact, Holds}
 use Rattle.gn_closure.specs.Ground.{Holding}
