@@ -5,7 +5,6 @@ use denote.Struct.Declared as structs
 use denote.Ref.{NamedLft}
 use denote.Param.Send.{IsSend, IsSync, EachSend, EachSync, sendable, view_sync, shr_send, shr_sync, recorded_send, recorded_sync, enum_send, enum_sync, struct_send, struct_sync}
 use denote.Struct.Tuple.{TupleAt}
-use Rattle.std.proofs.Common.{[], ◌∷◌}
 use Rattle.std.proofs.Crossing.{crosses}
 use Rattle.gn_labels.specs.contracts.label.Label as Label
 use Rattle.gn_define.specs.contracts.fields.Fields as Fields

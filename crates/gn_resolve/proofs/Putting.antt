@@ -1,5 +1,5 @@
 -- What several threads make of targets is put with what is kept.
-use Rattle.std.proofs.Common.{◌≡◌, List, [], ◌∷◌, ◌++◌, Option, Some, None, Ok, Err, map, subst, ◌∙◌, sym, refl}
+use Rattle.std.proofs.Common.{◌≡◌, List, [], ◌∷◌, ◌++◌, Option, Some, None, Ok, Err, map, subst, sym}
 use Rattle.std.specs.Prelude.{Result, IfOk, MatchResult, Contains}
 use Rattle.std.specs.List.{AllZip}
 use Rattle.std.specs.declared.vec.Vec.{Vec}
@@ -9,7 +9,6 @@ use Rattle.gn_toolchains.specs.Toolchains.{Surroundings}
 use Rattle.gn_resolve.specs.declared.table.Entry.{Entry}
 use Rattle.gn_resolve.specs.declared.table.Resolved.{Resolved}
 use Rattle.gn_resolve.specs.Table.{IsPut}
-use Rattle.gn_resolve.specs.Steps.{IsHeld}
 use Rattle.gn_resolve.specs.Putting.{CanBePut, AllCanBePut, Takes, TakesAll}
 use Rattle.gn_resolve.proofs.Put.{kept, stays_held}
 

@@ -1,4 +1,4 @@
-use Rattle.std.proofs.Common.{ap, ◌∙◌, sym, subst, map}
+use Rattle.std.proofs.Common.{ap, ◌∙◌, subst}
 use Rattle.gn_basics.proofs.Results.{if_ok}
 use Rattle.std.proofs.Crossing.{crosses}
 use denote.Param.Send.{sendable}

@@ -1,4 +1,4 @@
-use Rattle.std.proofs.Common.{◌∙◌, ap, refl, sym, subst, Bor, List, ℕ}
+use Rattle.std.proofs.Common.{◌∙◌, ap, refl, subst, Bor, List, ℕ}
 use Rattle.gn_items.specs.declared.item.Item.{Item}
 use Rattle.gn_resolve.specs.Steps.{surroundings_of, IsHeld}
 use Rattle.gn_resolve.proofs.PassLemmas.{fit_at, held_at}
