@@ -2,7 +2,6 @@
 use denote.Enum.Declared as enums
 use denote.Struct.Declared as structs
 use denote.Param.Send.{IsSync, EachSync, sendable, recorded_sync, enum_sync}
-use Rattle.std.proofs.Common.{[], ◌∷◌}
 use Rattle.std.proofs.Crossing.{crosses}
 use Rattle.gn_paths.specs.contracts.path.Path as Path
 use Rattle.gn_labels.specs.contracts.label.Label as Label
