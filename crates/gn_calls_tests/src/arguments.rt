@@ -69,10 +69,14 @@ fn is_integer(value: &Value, wanted: i64) -> bool {
 }
 
 fn takes(alloc: Global, row: &str) -> Result<bool, AllocError> {
-    let default = Value::Int(number(field(row, 2)));
     let lists = lists_of(alloc, field(row, 0))?;
-    let value = apply(alloc, lists.as_slice(), field(row, 1).as_bytes(), default)?;
-    Ok(is_integer(&value, number(field(row, 3))))
+    let default = Value::Int(number(field(row, 2)));
+    let value = apply(alloc, lists.as_slice(), field(row, 1).as_bytes(), default);
+    drop(lists);
+    let value = value?;
+    let is_so = is_integer(&value, number(field(row, 3)));
+    drop(value);
+    Ok(is_so)
 }
 
 #[test]
@@ -128,8 +132,13 @@ fn is_spaced(alloc: Global, texts: &Texts, wanted: &str) -> Result<bool, AllocEr
 fn have_no_effect(alloc: Global, row: &str) -> Result<bool, AllocError> {
     let given = overrides(alloc, field(row, 0))?;
     let declared = texts(alloc, field(row, 1))?;
-    let names = unused(alloc, &given, &declared)?;
-    is_spaced(alloc, &names, field(row, 2))
+    let names = unused(alloc, &given, &declared);
+    drop(declared);
+    drop(given);
+    let names = names?;
+    let is_so = is_spaced(alloc, &names, field(row, 2));
+    drop(names);
+    is_so
 }
 
 #[test]

@@ -81,6 +81,7 @@ fn first_bytes(values: &[Value]) -> &[u8] {
 fn is_named(alloc: Global, row: &str) -> Result<bool, AllocError> {
     let values = values(alloc, field(row, 1))?;
     let named = Conversion::named(first_bytes(values.as_slice()));
+    drop(values);
     is_shown(alloc, named, field(row, 2))
 }
 
@@ -89,7 +90,10 @@ pub(crate) fn is_converted(alloc: Global, row: &str) -> Result<bool, AllocError>
     let values = values(alloc, field(row, 1))?;
     let form = form_named(field(row, 0));
     let answered = convert(alloc, form, first_bytes(values.as_slice()));
-    is_answer(alloc, &answered, field(row, 2))
+    drop(values);
+    let is_so = is_answer(alloc, &answered, field(row, 2));
+    drop(answered);
+    is_so
 }
 
 #[test]

@@ -77,17 +77,6 @@ const LABELS: &str = calls! {
     inner: label_matches(":b", [":b␀"]) => BadPattern(1);
     inner: label_matches(":b", ["*", "ÿ:*"]) => BadPath(1);
     inner: label_matches(":b", ["␊/*"]) => BadPath(1);
-};
-
-#[test]
-fn labels_are_told_and_matched(rt: HostRuntime) -> Result<(), Fail> {
-    for row in LABELS.split_terminator('\x1e') {
-        assert!(rt; is_answered(rt.alloc(), row)?, "at {row}");
-    }
-    Ok(())
-}
-
-const TEMPLATES: &str = calls! {
     root: process_file_template(["foo.idl", "bar.idl"], ["//out/Debug/{{source_name_part}}.cc", "//out/Debug/{{source_name_part}}.h"]) => ["//out/Debug/foo.cc", "//out/Debug/foo.h", "//out/Debug/bar.cc", "//out/Debug/bar.h"];
     inner: process_file_template(["x/f.idl"], "{{source}} {{source_file_part}} {{source_dir}} {{source_root_relative_dir}}") => ["//a/x/f.idl f.idl //a/x a/x"];
     inner: process_file_template(["x/f.idl"], "{{source_gen_dir}} {{source_out_dir}}") => ["//out/u/gen/a/x //out/u/obj/a/x"];
@@ -123,8 +112,8 @@ const TEMPLATES: &str = calls! {
 };
 
 #[test]
-fn templates_are_expanded(rt: HostRuntime) -> Result<(), Fail> {
-    for row in TEMPLATES.split_terminator('\x1e') {
+fn labels_are_told_and_matched_and_templates_are_expanded(rt: HostRuntime) -> Result<(), Fail> {
+    for row in LABELS.split_terminator('\x1e') {
         assert!(rt; is_answered(rt.alloc(), row)?, "at {row}");
     }
     Ok(())
