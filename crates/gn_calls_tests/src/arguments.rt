@@ -115,18 +115,18 @@ fn texts(alloc: Global, names: &str) -> Result<Texts, AllocError> {
     Ok(texts)
 }
 
-fn spaced(alloc: Global, texts: &Texts) -> Result<Text, AllocError> {
-    let mut spaced = Text::new(alloc);
+// Whether the texts are these words, each of which has a space behind it.
+fn are_words(texts: &Texts, words: &str) -> bool {
+    let mut words = words.split_terminator(' ');
     for text in texts.as_slice() {
-        spaced.append(text.as_bytes())?;
-        spaced.push(b' ')?;
+        let Some(word) = words.next() else {
+            return false;
+        };
+        if text.as_bytes() != word.as_bytes() {
+            return false;
+        }
     }
-    Ok(spaced)
-}
-
-fn is_spaced(alloc: Global, texts: &Texts, wanted: &str) -> Result<bool, AllocError> {
-    let spaced = spaced(alloc, texts)?;
-    Ok(spaced.as_bytes() == wanted.as_bytes())
+    words.next().is_none()
 }
 
 fn have_no_effect(alloc: Global, row: &str) -> Result<bool, AllocError> {
@@ -136,9 +136,9 @@ fn have_no_effect(alloc: Global, row: &str) -> Result<bool, AllocError> {
     drop(declared);
     drop(given);
     let names = names?;
-    let is_so = is_spaced(alloc, &names, field(row, 2));
+    let is_so = are_words(&names, field(row, 2));
     drop(names);
-    is_so
+    Ok(is_so)
 }
 
 #[test]

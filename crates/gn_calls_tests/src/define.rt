@@ -286,11 +286,8 @@ impl Block for Assignments {
     }
 }
 
-fn set(alloc: Global, block: &mut Assignments, name: &str, value: Value) -> Result<(), AllocError> {
-    match block
-        .entries
-        .set(Text::from_bytes(alloc, name.as_bytes())?, value)
-    {
+fn set(block: &mut Assignments, name: Text, value: Value) -> Result<(), AllocError> {
+    match block.entries.set(name, value) {
         Ok(()) => Ok(()),
         Err(_) => Err(AllocError),
     }
@@ -298,7 +295,9 @@ fn set(alloc: Global, block: &mut Assignments, name: &str, value: Value) -> Resu
 
 fn assign(alloc: Global, block: &mut Assignments, assignment: &str) -> Result<(), AllocError> {
     let (name, text) = assignment.split_once(" = ").unwrap_or((assignment, ""));
-    set(alloc, block, name, value(alloc, text)?)
+    let name = Text::from_bytes(alloc, name.as_bytes())?;
+    let value = value(alloc, text)?;
+    set(block, name, value)
 }
 
 fn block(alloc: Global, assignments: &str) -> Result<Assignments, AllocError> {

@@ -36,40 +36,51 @@ d source_set;b source_set deps=d;c static_library public_deps=d;a executable dep
 b source_set;z source_set deps=b;c source_set;a executable deps=b,c,z|a|c,z,b
 b source_set;c action deps=b;a executable deps=c|a|";
 
-fn is_applied(alloc: Global, tree: &Tree, target: &Label, names: &str) -> Result<bool, AllocError>
+// What goes along dependencies.
+#[derive(Clone, Copy)]
+enum Along {
+    Configurations,
+    Libraries,
+}
+
+fn found(
+    alloc: Global,
+    tree: &Tree,
+    target: &Label,
+    along: Along,
+) -> Result<Option<Vec<Label>>, AllocError>
     requires { HoldsRecords tree.now }
 {
-    match tree.applied(alloc, target)? {
-        None => Ok(false),
-        Some(labels) => Ok(are_named(&labels, names)),
+    match along {
+        Along::Configurations => tree.applied(alloc, target),
+        Along::Libraries => tree.inherited(alloc, target),
     }
 }
 
-fn is_inherited(alloc: Global, tree: &Tree, target: &Label, names: &str) -> Result<bool, AllocError>
-    requires { HoldsRecords tree.now }
-{
-    match tree.inherited(alloc, target)? {
-        None => Ok(false),
-        Some(labels) => Ok(are_named(&labels, names)),
+fn have_names(found: Option<Vec<Label>>, names: &str) -> bool {
+    match found {
+        None => false,
+        Some(labels) => {
+            let are_named = are_named(&labels, names);
+            drop(labels);
+            are_named
+        }
     }
 }
 
-fn applies(alloc: Global, row: &str) -> Result<bool, Fail> {
+fn goes(alloc: Global, row: &str, along: Along) -> Result<bool, Fail> {
     let target = label(alloc, part(row, '|', 1))?;
     let tree = resolved(alloc, part(row, '|', 0))?;
-    Ok(is_applied(alloc, &tree, &target, part(row, '|', 2))?)
-}
-
-fn inherits(alloc: Global, row: &str) -> Result<bool, Fail> {
-    let target = label(alloc, part(row, '|', 1))?;
-    let tree = resolved(alloc, part(row, '|', 0))?;
-    Ok(is_inherited(alloc, &tree, &target, part(row, '|', 2))?)
+    let found = found(alloc, &tree, &target, along);
+    drop(tree);
+    drop(target);
+    Ok(have_names(found?, part(row, '|', 2)))
 }
 
 #[test]
 fn configurations_apply(rt: HostRuntime) -> Result<(), Fail> {
     for row in APPLIED.split('\n') {
-        assert!(rt; applies(rt.alloc(), row)?, "{row}");
+        assert!(rt; goes(rt.alloc(), row, Along::Configurations)?, "{row}");
     }
     Ok(())
 }
@@ -77,7 +88,7 @@ fn configurations_apply(rt: HostRuntime) -> Result<(), Fail> {
 #[test]
 fn libraries_are_inherited(rt: HostRuntime) -> Result<(), Fail> {
     for row in INHERITED.split('\n') {
-        assert!(rt; inherits(rt.alloc(), row)?, "{row}");
+        assert!(rt; goes(rt.alloc(), row, Along::Libraries)?, "{row}");
     }
     Ok(())
 }

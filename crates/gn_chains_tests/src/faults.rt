@@ -94,7 +94,9 @@ fn faults_of(alloc: Global, tree: &Tree, target: &Label, known: &Firsts) -> Resu
     requires { AreSettled (shape_in tree.now) known.now }
 {
     let faults = label_faults(alloc, target, tree, known)?;
-    told(alloc, &faults)
+    let text = told(alloc, &faults);
+    drop(faults);
+    text
 }
 
 fn least_of(
@@ -107,25 +109,54 @@ fn least_of(
 {
     match least_fault(alloc, targets, tree, known)? {
         None => Ok(Text::new(alloc)),
-        Some(fault) => told(alloc, slice::from_ref(&fault)),
+        Some(fault) => {
+            let text = told(alloc, slice::from_ref(&fault));
+            drop(fault);
+            text
+        }
     }
 }
 
-fn has_faults(alloc: Global, row: &str) -> Result<bool, Fail> {
+// The faults of the target of a row, in a graph with these targets.
+fn faults_in(alloc: Global, tree: &Tree, order: &[Label], row: &str) -> Result<Text, AllocError> {
     let target = label(alloc, part(row, '|', 1))?;
+    let known = settled(alloc, order, tree)?;
+    let text = faults_of(alloc, tree, &target, &known);
+    drop(known);
+    drop(target);
+    text
+}
+
+// The fault that is told of these targets of a graph.
+fn least_in(alloc: Global, tree: &Tree, targets: &[Label]) -> Result<Text, AllocError> {
+    let known = settled(alloc, targets, tree)?;
+    let text = least_of(alloc, tree, targets, &known);
+    drop(known);
+    text
+}
+
+fn is_text(text: Text, wanted: &str) -> bool {
+    let is_text = text.as_bytes() == wanted.as_bytes();
+    drop(text);
+    is_text
+}
+
+fn has_faults(alloc: Global, row: &str) -> Result<bool, Fail> {
     let order = labels(alloc, part(row, '|', 0))?;
     let tree = unresolved(alloc, part(row, '|', 0))?;
-    let known = settled(alloc, &order, &tree)?;
-    let text = faults_of(alloc, &tree, &target, &known)?;
-    Ok(text.as_bytes() == part(row, '|', 2).as_bytes())
+    let text = faults_in(alloc, &tree, &order, row);
+    drop(tree);
+    drop(order);
+    Ok(is_text(text?, part(row, '|', 2)))
 }
 
 fn has_least(alloc: Global, row: &str) -> Result<bool, Fail> {
     let targets = labels(alloc, part(row, '|', 0))?;
     let tree = unresolved(alloc, part(row, '|', 0))?;
-    let known = settled(alloc, &targets, &tree)?;
-    let text = least_of(alloc, &tree, &targets, &known)?;
-    Ok(text.as_bytes() == part(row, '|', 1).as_bytes())
+    let text = least_in(alloc, &tree, &targets);
+    drop(tree);
+    drop(targets);
+    Ok(is_text(text?, part(row, '|', 1)))
 }
 
 #[test]

@@ -48,14 +48,21 @@ fn labels_of(alloc: Global, items: &[&Item]) -> Result<Vec<Label>, AllocError> {
 
 fn is_found(alloc: Global, index: &ItemIndex<'_>, row: &str) -> Result<bool, AllocError> {
     let label = label(alloc, part(row, '|', 1))?;
+    let is_kind = is_kind(index.item(&label), part(row, '|', 2));
+    drop(label);
     let again = labels_of(alloc, index.repeated())?;
-    Ok(is_kind(index.item(&label), part(row, '|', 2)) && are_named(&again, part(row, '|', 3)))
+    let are_named = are_named(&again, part(row, '|', 3));
+    drop(again);
+    Ok(is_kind && are_named)
 }
 
 fn finds(alloc: Global, row: &str) -> Result<bool, Fail> {
     let executions = executions(alloc, part(row, '|', 0))?;
     let index = index(alloc, executions.as_slice())?;
-    Ok(is_found(alloc, &index, row)?)
+    let is_so = is_found(alloc, &index, row);
+    drop(index);
+    drop(executions);
+    Ok(is_so?)
 }
 
 fn forbids(alloc: Global, row: &str) -> Result<bool, Fail> {
@@ -67,7 +74,11 @@ fn forbids(alloc: Global, row: &str) -> Result<bool, Fail> {
         items,
         records: NoRecords,
     };
-    Ok(is_forbidden(alloc, &graph, row)?)
+    let is_so = is_forbidden(alloc, &graph, row);
+    drop(graph);
+    drop(default);
+    drop(executions);
+    Ok(is_so?)
 }
 
 #[test]

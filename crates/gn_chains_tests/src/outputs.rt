@@ -26,13 +26,19 @@ fn texts(alloc: Global, names: &str) -> Result<Vec<Text>, AllocError> {
 }
 
 fn put(alloc: Global, makers: &mut Makers, text: &str) -> Result<(), AllocError> {
-    let outputs = texts(alloc, part(text, '=', 1))?;
     let target = label(alloc, part(text, '=', 0))?;
     makers.targets.push(target)?;
     let target = label(alloc, part(text, '=', 0))?;
+    let outputs = texts(alloc, part(text, '=', 1))?;
     match makers.outputs.insert(target, outputs) {
-        Ok(_) => Ok(()),
-        Err(_) => Err(AllocError),
+        Ok(old) => {
+            drop(old);
+            Ok(())
+        }
+        Err(failed) => {
+            drop(failed);
+            Err(AllocError)
+        }
     }
 }
 
@@ -69,8 +75,12 @@ fn are_made(again: &[MadeOutput], texts: &str) -> bool {
 
 fn repeats(alloc: Global, row: &str) -> Result<bool, Fail> {
     let makers = makers(alloc, part(row, '|', 0))?;
-    let again = repeated_outputs(alloc, &makers)?;
-    Ok(are_made(&again, part(row, '|', 1)))
+    let found = repeated_outputs(alloc, &makers);
+    drop(makers);
+    let again = found?;
+    let are_made = are_made(&again, part(row, '|', 1));
+    drop(again);
+    Ok(are_made)
 }
 
 #[test]
