@@ -9,8 +9,8 @@ use indexmap::IndexMap;
 use std::alloc::{AllocError, Global};
 use std::test::Fail;
 
-// On each line targets with what they make, and what is made again.
-const AGAIN: &str = "\
+/// On each line targets with what they make, and what is made again.
+pub(crate) const AGAIN: &str = "\
 a=x,y;b=z|
 a=x,y;b=y|b=y
 a=x,x;b=z|a=x
@@ -73,7 +73,8 @@ fn are_made(again: &[MadeOutput], texts: &str) -> bool {
     texts.next().is_none()
 }
 
-fn repeats(alloc: Global, row: &str) -> Result<bool, Fail> {
+/// Whether what a line says is made again.
+pub(crate) fn repeats(alloc: Global, row: &str) -> Result<bool, Fail> {
     let makers = makers(alloc, part(row, '|', 0))?;
     let found = repeated_outputs(alloc, &makers);
     drop(makers);
@@ -81,12 +82,4 @@ fn repeats(alloc: Global, row: &str) -> Result<bool, Fail> {
     let are_made = are_made(&again, part(row, '|', 1));
     drop(again);
     Ok(are_made)
-}
-
-#[test]
-fn outputs_are_made_again(rt: HostRuntime) -> Result<(), Fail> {
-    for row in AGAIN.split('\n') {
-        assert!(rt; repeats(rt.alloc(), row)?, "{row}");
-    }
-    Ok(())
 }

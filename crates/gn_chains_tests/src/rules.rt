@@ -114,17 +114,10 @@ pub(crate) fn is_forbidden<G: Marks>(
     Ok(are_named)
 }
 
-fn forbids(alloc: Global, row: &str) -> Result<bool, Fail> {
+/// Whether the graph of a line forbids what it says.
+pub(crate) fn forbids(alloc: Global, row: &str) -> Result<bool, Fail> {
     let tree = unresolved(alloc, part(row, '|', 1))?;
     let is_so = is_forbidden(alloc, &tree, row);
     drop(tree);
     Ok(is_so?)
-}
-
-#[test]
-fn rules_forbid(rt: HostRuntime) -> Result<(), Fail> {
-    for row in FORBIDDEN.split('\n') {
-        assert!(rt; forbids(rt.alloc(), row)?, "{row}");
-    }
-    Ok(())
 }
