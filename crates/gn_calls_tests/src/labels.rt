@@ -1,10 +1,9 @@
 // Calls on labels, and templates of paths: each on its happy path and at its bounds, and the order of its faults.
 
 use crate::rows::calls;
-use crate::standing::is_answered;
-use std::test::Fail;
 
-const LABELS: &str = calls! {
+/// Calls with their places.
+pub(crate) const LABELS: &str = calls! {
     inner: get_label_info(":b", "name") => "b";
     inner: get_label_info(":b", "dir") => "//a";
     inner: get_label_info(":b", "target_out_dir") => "//out/u/obj/a";
@@ -110,11 +109,3 @@ const LABELS: &str = calls! {
     root: process_file_template(["␊"], "a") => BadPath(0);
     root: process_file_template(["ÿ"], "{{nope}}") => BadPath(0);
 };
-
-#[test]
-fn labels_are_told_and_matched_and_templates_are_expanded(rt: HostRuntime) -> Result<(), Fail> {
-    for row in LABELS.split_terminator('\x1e') {
-        assert!(rt; is_answered(rt.alloc(), row)?, "at {row}");
-    }
-    Ok(())
-}

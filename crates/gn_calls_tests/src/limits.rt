@@ -1,12 +1,9 @@
 // Calls on strings of 16,777,216 bytes and lists of 1,048,576 items, which are the longest, and answers that would be longer.
 
-use crate::conversions::is_converted;
 use crate::rows::calls;
-use crate::standing::is_answered as is_told;
-use crate::texts::is_answered;
-use std::test::Fail;
 
-const TEXTS: &str = calls! {
+/// Calls on texts and lists.
+pub(crate) const TEXTS: &str = calls! {
     filter_include(many(1048576, "a"), ["a"]) => many(1048576);
     filter_include([long(16777216), "b"], ["*a"]) => many(1);
     filter_include(["a"], [long(16777216)]) => [];
@@ -37,15 +34,8 @@ const TEXTS: &str = calls! {
     string_split(repeat(1048577, "a␊")) => TooLong;
 };
 
-#[test]
-fn the_longest_texts_and_lists_are_taken(rt: HostRuntime) -> Result<(), Fail> {
-    for row in TEXTS.split_terminator('\x1e') {
-        assert!(rt; is_answered(rt.alloc(), row)?, "at {row}");
-    }
-    Ok(())
-}
-
-const PATHS: &str = calls! {
+/// Calls on labels and paths, with their places.
+pub(crate) const PATHS: &str = calls! {
     root: get_label_info(long(16777216), "name") => BadLabel(0);
     root: get_label_info(long(16777215, ":"), "name") => long(16777215);
     root: get_label_info(long(16777213, ":"), "label_no_toolchain") => long(16777216);
@@ -71,15 +61,8 @@ const PATHS: &str = calls! {
     root: get_path_info(many(1048576, "a"), "dir") => many(1048576);
 };
 
-#[test]
-fn the_longest_paths_and_labels_are_taken(rt: HostRuntime) -> Result<(), Fail> {
-    for row in PATHS.split_terminator('\x1e') {
-        assert!(rt; is_told(rt.alloc(), row)?, "at {row}");
-    }
-    Ok(())
-}
-
-const CONTENTS: &str = calls! {
+/// Contents in their forms.
+pub(crate) const CONTENTS: &str = calls! {
     string(long(16777216)) => long(16777216);
     string(long(16777217)) => TooLong;
     trim_string(long(16777216, " ␊")) => long(16777216);
@@ -90,11 +73,3 @@ const CONTENTS: &str = calls! {
     trim_lines(repeat(1048576, "a␊")) => many(1048576);
     trim_lines(repeat(1048577, "a␊")) => TooLong;
 };
-
-#[test]
-fn the_longest_contents_are_taken(rt: HostRuntime) -> Result<(), Fail> {
-    for row in CONTENTS.split_terminator('\x1e') {
-        assert!(rt; is_converted(rt.alloc(), row)?, "at {row}");
-    }
-    Ok(())
-}

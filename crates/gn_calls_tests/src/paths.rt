@@ -1,10 +1,9 @@
 // Calls on paths: each on its happy path and at its bounds, and the order of its faults.
 
 use crate::rows::calls;
-use crate::standing::is_answered;
-use std::test::Fail;
 
-const PATHS: &str = calls! {
+/// Calls with their places.
+pub(crate) const PATHS: &str = calls! {
     root: rebase_path("a/b/", "//c") => "../a/b/";
     root: rebase_path("//c", "//c") => ".";
     root: rebase_path("//c/", "//c") => "./";
@@ -125,11 +124,3 @@ const PATHS: &str = calls! {
     root: get_path_info("/../ÿ", "out_dir") => BadPath(0);
     root: get_path_info(["a", "../b"], "abspath") => AboveRoot(0);
 };
-
-#[test]
-fn paths_are_rebased_and_told(rt: HostRuntime) -> Result<(), Fail> {
-    for row in PATHS.split_terminator('\x1e') {
-        assert!(rt; is_answered(rt.alloc(), row)?, "at {row}");
-    }
-    Ok(())
-}

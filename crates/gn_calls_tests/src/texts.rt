@@ -3,9 +3,9 @@
 use crate::rows::{calls, field, is_answer, values};
 use gn_calls_text::{TextCall, call_text};
 use std::alloc::{AllocError, Global};
-use std::test::Fail;
 
-const TEXTS: &str = calls! {
+/// Calls with their answers.
+pub(crate) const TEXTS: &str = calls! {
     filter_include(["a.cc", "b.h"], ["*.cc"]) => ["a.cc"];
     filter_exclude(["a.cc", "b.h"], ["*.cc"]) => ["b.h"];
     filter_include([], ["*"]) => [];
@@ -185,12 +185,4 @@ pub(crate) fn is_answered(alloc: Global, row: &str) -> Result<bool, AllocError> 
         Some(call) => answers(alloc, row, call),
         None => Ok(false),
     }
-}
-
-#[test]
-fn calls_on_texts_and_lists_answer(rt: HostRuntime) -> Result<(), Fail> {
-    for row in TEXTS.split_terminator('\x1e') {
-        assert!(rt; is_answered(rt.alloc(), row)?, "at {row}");
-    }
-    Ok(())
 }
