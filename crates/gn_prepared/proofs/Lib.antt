@@ -1,0 +1,5 @@
+mod Definitions
+mod Imported
+mod Bases
+mod Answered
+mod Books
