@@ -6,4 +6,4 @@ mod kept;
 mod work;
 
 pub use kept::{Kept, KeyRest, Rest, asked_until, store, take_rest};
-pub use work::{Performed, perform};
+pub use work::{Performed, load_answer, perform};

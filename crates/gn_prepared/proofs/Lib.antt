@@ -3,3 +3,6 @@ mod Imported
 mod Bases
 mod Answered
 mod Books
+mod Crossing
+mod Included
+mod Collected

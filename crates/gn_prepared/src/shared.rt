@@ -1,6 +1,9 @@
 // What threads may share, and what they may hand over.
 
+ghost use mir.Syntax.{Sym};
+ghost use denote.Ref.{NamedLft};
 ghost use denote.Param.Send.{IsSend, IsSync};
+ghost use denote.Struct.Tuple.{TupleAt};
 ghost use Rattle.gn_definitions.specs.contracts.kept.Definition as DefinitionRow;
 ghost use Rattle.gn_definitions.specs.contracts.kept.KeptScope as ScopeRow;
 ghost use Rattle.gn_definitions.specs.contracts.import_value.ImportValue as ImportRow;
@@ -14,6 +17,8 @@ ghost use Rattle.gn_answers.specs.contracts.answer.Answer as AnswerRow;
 ghost use Rattle.gn_answers.specs.contracts.answer.AnswerAnswer.TheImpl as AnswerMeans;
 ghost use Rattle.gn_book.specs.contracts.book.Book as BookRow;
 ghost use Rattle.gn_graph.specs.contracts.graph.Graph as GraphRow;
+ghost use Rattle.gn_prepared.specs.Captures.{captures};
+ghost use Rattle.gn_prepared.specs.contracts.wanted.Wanted as WantedRow;
 ghost use Rattle.gn_tree.specs.contracts.tree.Block as BlockRow;
 
 use gn_definitions::KeptScope;
@@ -91,7 +96,7 @@ fn bindings_cross()
 }
 
 // Threads may share the base of evaluations.
-pub(crate) fn bases_are_shared()
+fn bases_are_shared()
     ensures { IsSync BaseRow.the_row }
 {
     bindings_cross();
@@ -118,7 +123,7 @@ fn outcomes_cross()
 }
 
 // Threads may hand over what is filed, and share answers.
-pub(crate) fn answers_cross()
+fn answers_cross()
     ensures filed { IsSend FiledRow.the_row }
     ensures answer { IsSync AnswerRow.the_row }
 {
@@ -134,9 +139,22 @@ fn graphs_are_shared()
 }
 
 // Threads may share the book of loading.
-pub(crate) fn books_are_shared()
+fn books_are_shared()
     ensures { IsSync (BookRow.the_row AnswerRow.the_row AnswerMeans.ghosts) }
 {
     answers_cross();
     graphs_are_shared()
+}
+
+/// Threads may take and share a closure that captures what build files are worked on with, share those that are wanted, and hand over
+/// what is filed. It does nothing.
+pub(crate) fn work_is_shared()
+    ensures send { (name : Sym) (alloc base book : NamedLft) → IsSend (TupleAt name (captures alloc base book)) }
+    ensures sync { (name : Sym) (alloc base book : NamedLft) → IsSync (TupleAt name (captures alloc base book)) }
+    ensures wanted { IsSync WantedRow.the_row }
+    ensures filed { IsSend FiledRow.the_row }
+{
+    bases_are_shared();
+    books_are_shared();
+    answers_cross()
 }
