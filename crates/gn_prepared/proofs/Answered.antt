@@ -3,8 +3,8 @@ use denote.RattleType.{RattleType}
 use denote.Enum.Declared as enums
 use denote.Struct.Declared.{shape}
 use denote.Struct.Field.{usize-field}
-use denote.Param.Send.{IsSend, IsSync, EachSend, EachSync, sendable, view_send, view_sync, recorded_send, recorded_sync, struct_send, struct_sync, enum_send, enum_sync}
-use Rattle.std.proofs.Crossing.{crosses, Arc-send, Arc-sync, Vec-send, Vec-sync}
+use denote.Param.Send.{IsSend, IsSync, sendable, view_send, view_sync, recorded_send, recorded_sync, struct_send, struct_sync, enum_send, enum_sync}
+use Rattle.std.proofs.Crossing.{crosses, Arc-sync, Vec-send, Vec-sync}
 use Rattle.std.proofs.MapsCrossing.{BTreeMap-send, BTreeMap-sync}
 use Rattle.gn_paths.specs.contracts.path.Path as Path
 use Rattle.gn_paths.specs.contracts.place.Place as Place
@@ -60,14 +60,34 @@ module _ (fields_send : IsSend Fields.the_row) (fields : IsSync Fields.the_row) 
   item = search (tools, sendable, crosses) depth 40 fits 10000
 
   inside_outcome_send : IsSend TheOutcome.the_row
-  inside_outcome_send = recorded_send _ _ _ (TheOutcome.the_type).to_one (struct_send (shape TheOutcome.the_type)
-    (search (sendable, crosses) depth 30, (Vec-send _ item_send, (BTreeMap-send Label.the_row usize-field.row _ equal.ghosts partial.ghosts label_send (search (sendable, crosses) depth 30), (tools_send,
-    (search (sendable, crosses) depth 40 fits 10000, (search (sendable, crosses) depth 40 fits 10000, (search (sendable, crosses) depth 40 fits 10000, (search (sendable, crosses) depth 40 fits 10000, (search (sendable, crosses) depth 40 fits 10000, tt))))))))))
+  inside_outcome_send = recorded_send _ _ _ (TheOutcome.the_type).to_one (struct_send (shape TheOutcome.the_type) (
+    search (sendable, crosses) depth 30,
+    (
+      Vec-send _ item_send,
+      (
+        BTreeMap-send Label.the_row usize-field.row _ equal.ghosts partial.ghosts label_send (search (sendable, crosses) depth 30),
+        (
+          tools_send,
+          (search (sendable, crosses) depth 40 fits 10000, (search (sendable, crosses) depth 40 fits 10000, (search (sendable, crosses) depth 40 fits 10000, (search (sendable, crosses) depth 40 fits 10000, (search (sendable, crosses) depth 40 fits 10000, tt))))),
+        ),
+      ),
+    ),
+  ))
 
   inside_outcome : IsSync TheOutcome.the_row
-  inside_outcome = recorded_sync _ _ _ (TheOutcome.the_type).to_one (struct_sync (shape TheOutcome.the_type)
-    (search (sendable, crosses) depth 30, (Vec-sync _ item, (BTreeMap-sync Label.the_row usize-field.row _ equal.ghosts partial.ghosts label (search (sendable, crosses) depth 30), (tools,
-    (search (sendable, crosses) depth 40 fits 10000, (search (sendable, crosses) depth 40 fits 10000, (search (sendable, crosses) depth 40 fits 10000, (search (sendable, crosses) depth 40 fits 10000, (search (sendable, crosses) depth 40 fits 10000, tt))))))))))
+  inside_outcome = recorded_sync _ _ _ (TheOutcome.the_type).to_one (struct_sync (shape TheOutcome.the_type) (
+    search (sendable, crosses) depth 30,
+    (
+      Vec-sync _ item,
+      (
+        BTreeMap-sync Label.the_row usize-field.row _ equal.ghosts partial.ghosts label (search (sendable, crosses) depth 30),
+        (
+          tools,
+          (search (sendable, crosses) depth 40 fits 10000, (search (sendable, crosses) depth 40 fits 10000, (search (sendable, crosses) depth 40 fits 10000, (search (sendable, crosses) depth 40 fits 10000, (search (sendable, crosses) depth 40 fits 10000, tt))))),
+        ),
+      ),
+    ),
+  ))
 
   pub outcome_send : IsSend Outcome.the_row
   outcome_send = view_send _ _ _ _ _ inside_outcome_send
@@ -83,11 +103,11 @@ code = search sendable depth 400 fits 10000
 
 fault_send : IsSend (Fault.the_field).row
 fault_send = struct_send (shape Fault.the_type)
-  (search (sendable, crosses) depth 40, (search (sendable, crosses) depth 40 fits 10000, (search (sendable, crosses) depth 40, (code_send, (search (sendable, crosses) depth 40 fits 10000, tt)))))
+    (search (sendable, crosses) depth 40, (search (sendable, crosses) depth 40 fits 10000, (search (sendable, crosses) depth 40, (code_send, (search (sendable, crosses) depth 40 fits 10000, tt)))))
 
 fault : IsSync (Fault.the_field).row
 fault = struct_sync (shape Fault.the_type)
-  (search (sendable, crosses) depth 40, (search (sendable, crosses) depth 40 fits 10000, (search (sendable, crosses) depth 40, (code, (search (sendable, crosses) depth 40 fits 10000, tt)))))
+    (search (sendable, crosses) depth 40, (search (sendable, crosses) depth 40 fits 10000, (search (sendable, crosses) depth 40, (code, (search (sendable, crosses) depth 40 fits 10000, tt)))))
 
 place_send : IsSend (Place.the_field).row
 place_send = search (sendable, crosses) depth 40 fits 10000
@@ -122,12 +142,12 @@ module _ (outcome_send : IsSend Outcome.the_row) (outcome : IsSync Outcome.the_r
   module _ (import_send : IsSend ImportValue.the_row) (import_sync : IsSync ImportValue.the_row) where
     pub filed_send : IsSend Filed.the_row
     filed_send = recorded_send _ _ _ (Filed.the_type).to_one
-      (enum_send (enums.shape Filed.the_type)
+        (enum_send (enums.shape Filed.the_type)
         ((content_send, tt), ((executed_send _ import_send, tt), ((search (executed_send, sendable, crosses) depth 40 fits 10000, tt), ((path_send, (place_send, (search (sendable, crosses) depth 40 fits 10000, tt))), tt)))))
 
     pub filed : IsSync Filed.the_row
     filed = recorded_sync _ _ _ (Filed.the_type).to_one
-      (enum_sync (enums.shape Filed.the_type)
+        (enum_sync (enums.shape Filed.the_type)
         ((content, tt), ((executed _ import_sync, tt), ((search (executed, sendable, crosses) depth 40 fits 10000, tt), ((path, (place, (search (sendable, crosses) depth 40 fits 10000, tt))), tt)))))
 
     inside_answer : IsSync TheAnswer.the_row

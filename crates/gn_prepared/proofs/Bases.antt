@@ -48,7 +48,7 @@ module _ (bindings_send : IsSend Bindings.the_row) (bindings : IsSync Bindings.t
 
     inside_base : IsSync TheBase.the_row
     inside_base = recorded_sync _ _ _ (TheBase.the_type).to_one (struct_sync (shape TheBase.the_type)
-      (Arc-sync _ context_send context, (Vec-sync _ (Arc-sync _ scope_send scope), (Arc-sync _ made_send made, (search (built_in, sendable, crosses) depth 40 fits 10000, (search (sendable, crosses) depth 40, (search (sendable, crosses) depth 40, tt)))))))
+        (Arc-sync _ context_send context, (Vec-sync _ (Arc-sync _ scope_send scope), (Arc-sync _ made_send made, (search (built_in, sendable, crosses) depth 40 fits 10000, (search (sendable, crosses) depth 40, (search (sendable, crosses) depth 40, tt)))))))
 
     pub base : IsSync Base.the_row
     base = view_sync _ _ _ _ _ inside_base

@@ -1,8 +1,7 @@
 -- What threads may share of the book of loading.
-use denote.Enum.Declared as enums
 use denote.Struct.Declared.{shape}
-use denote.Struct.Field.{usize-field, u32-field}
-use denote.Param.Send.{IsSend, IsSync, sendable, view_sync, recorded_sync, struct_sync, enum_sync}
+use denote.Struct.Field.{usize-field}
+use denote.Param.Send.{IsSync, sendable, view_sync, recorded_sync, struct_sync}
 use Rattle.std.proofs.Crossing.{crosses, Vec-sync}
 use Rattle.std.proofs.MapsCrossing.{BTreeMap-sync, crosses as maps}
 use Rattle.gn_items.specs.contracts.key.Key as Key

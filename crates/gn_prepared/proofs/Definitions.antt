@@ -1,7 +1,7 @@
 -- What threads may share and hand over of definitions of templates, and of what stands on them.
 use denote.Struct.Declared.{shape}
 use denote.Param.Send.{IsSend, IsSync, sendable, view_send, view_sync, recorded_send, recorded_sync, struct_send, struct_sync}
-use Rattle.std.proofs.Crossing.{crosses, Arc-send, Arc-sync, Vec-send, Vec-sync}
+use Rattle.std.proofs.Crossing.{crosses, Arc-send}
 use Rattle.gn_tree.specs.contracts.tree.Block as Block
 use Rattle.gn_paths.specs.contracts.place.Place as Place
 use Rattle.gn_definitions.specs.contracts.kept.KeptScope as KeptScope
@@ -27,4 +27,3 @@ module _ (block_send : IsSend Block.the_row) (block : IsSync Block.the_row) (sco
 
   pub definition_sync : IsSync Definition.the_row
   definition_sync = view_sync _ _ _ _ _ inside_definition
-

@@ -1,8 +1,6 @@
 -- What is filed, and the content of one more path: among what is filed later, and of what was filed.
-use Rattle.std.proofs.Common.{◌≡◌, ◌⊎◌, inl, inr, ℕ, List, Some, ◌∙◌, sym, ap, subst}
-use Rattle.gn_runs.specs.Runs.{Content}
-use Rattle.gn_core.specs.Keys.{Key, Read, Answer, found, Filed}
-use Rattle.gn_core.specs.Layered.{IsPart}
+use Rattle.std.proofs.Common.{◌≡◌, ◌⊎◌, inl, inr, Some, ◌∙◌, ap, subst}
+use Rattle.gn_core.specs.Keys.{Read, found}
 use Rattle.gn_core.proofs.Puts.{put_some, put_grows}
 use Rattle.gn_prepared.specs.Contents.{IsIncludedLater, IncludesFiled}
 

@@ -21,8 +21,8 @@ ghost use Rattle.gn_prepared.specs.Captures.{captures};
 ghost use Rattle.gn_prepared.specs.contracts.wanted.Wanted as WantedRow;
 ghost use Rattle.gn_tree.specs.contracts.tree.Block as BlockRow;
 
-use gn_definitions::KeptScope;
 use gn_define::Fields;
+use gn_definitions::KeptScope;
 use gn_graph::Graph;
 use gn_tree::Block;
 use gn_values::Bindings;
