@@ -1,0 +1,6 @@
+//! What a source has read where some of it is read ahead of the seat that loads.
+#![tactic(auto)]
+
+mod laws;
+
+pub use laws::reads_ahead_are_asked;
