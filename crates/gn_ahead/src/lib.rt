@@ -3,4 +3,4 @@
 
 mod laws;
 
-pub use laws::reads_ahead_are_asked;
+pub use laws::{reads_ahead_are_asked, what_was_read_is_known};
