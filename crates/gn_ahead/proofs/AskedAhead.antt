@@ -19,7 +19,7 @@ use Rattle.gn_ahead.specs.Laws.{NothingIsRead, OnlyAskedIsRead, AllIsAsked}
 use Rattle.gn_ahead.proofs.Paths.{each_in, differ_both, nothing_more, told_behind, last_told}
 
 -- a read that is asked for is wanted by the build of a tree
-is_asked_for : (start : BaseState) (before : SourceState) (path : List ℕ) → IsAskedRead start before path → (tree : Tree) → before.tree ≡ Some tree → IsAskedFor (files_of start tree) path
+pub is_asked_for : (start : BaseState) (before : SourceState) (path : List ℕ) → IsAskedRead start before path → (tree : Tree) → before.tree ≡ Some tree → IsAskedFor (files_of start tree) path
 is_asked_for start before path asked tree told =
     read_asked (files_of start tree) asked.log asked.keys asked.driven (asked.over tree told) path (in_read asked.log.keys path asked.numbered)
 

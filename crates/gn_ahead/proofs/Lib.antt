@@ -1,3 +1,4 @@
 pub mod Paths
 pub mod AskedAhead
 pub mod Rebased
+pub mod EndsAhead

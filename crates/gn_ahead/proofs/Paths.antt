@@ -39,6 +39,14 @@ module _ {X : Type 0} where
     differ_both xs ys first.1 second (λ y i j. apart y (inr i) j),
   )
 
+  each_front : (P : X → Type 0) (xs ys : List X) → Each P (xs ++ ys) → Each P xs
+  each_front P [] ys each = tt
+  each_front P (x ∷ xs) ys each = (each.0, each_front P xs ys each.1)
+
+  pub differ_front : (xs ys : List X) → AllDiffer (xs ++ ys) → AllDiffer xs
+  differ_front [] ys differ = tt
+  differ_front (x ∷ xs) ys differ = (each_front (λ y. x ≢ y) xs ys differ.0, differ_front xs ys differ.1)
+
 -- paths that differ, as a test says it
 
 pub differ_tested : (ps : List (List ℕ)) → IsDistinct path_eq ps → AllDiffer ps
@@ -84,6 +92,22 @@ pub last_told : (before now : Option (List SourceRead)) (reads : List SourceRead
     → (all earlier : List SourceRead) × (before ≡ Some all) × (now ≡ Some (all ++ earlier ++ read ∷ []))
 last_told None now reads read more some = cc
 last_told (Some all) now reads read more some = (all, reads, refl, more ∙ ap Some (sym (append_assoc all reads (read ∷ []))))
+
+pub told_still : {X : Type 0} (before now : Option (List X)) (xs : List X) → Extends before now xs → IsSome before → IsSome now
+told_still None now xs more some = cc
+told_still (Some b) now xs more some = subst IsSome (sym more) some
+
+-- what was told last is the last of all
+pub last_behind : (before mid now : Option (List SourceRead)) (first : List SourceRead) → Extends before mid first → (reads earlier : List SourceRead) (read : SourceRead) → mid ≡ Some reads
+    → now ≡ Some (reads ++ earlier ++ read ∷ []) → IsSome before → (all others : List SourceRead) × (before ≡ Some all) × (now ≡ Some (all ++ others ++ read ∷ []))
+last_behind None mid now first more reads earlier read is last some = cc
+last_behind (Some all) mid now first more reads earlier read is last some = (all, first ++ earlier, refl, last ∙ ap Some same)
+  where
+    front : all ++ first ≡ reads
+    front = let e : Some (all ++ first) ≡ Some reads = sym more ∙ is in cc e
+
+    same : reads ++ earlier ++ read ∷ [] ≡ all ++ (first ++ earlier) ++ read ∷ []
+    same = ap (λ (xs : List SourceRead). xs ++ earlier ++ read ∷ []) (sym front) ∙ ap (λ (xs : List SourceRead). xs ++ read ∷ []) (append_assoc all first earlier)
 
 -- Reads that haven't failed, and others behind them
 

@@ -100,7 +100,7 @@ module _ (start : BaseState) (known : List (List ℕ)) (before mid now : SourceS
     numbered = read_in l.keys path (in_one (paths_read l.keys) path (new_read path i).0);
   }
 
-  read_by_seat : HasReadAll start known before now (all ++ new)
+  pub read_by_seat : HasReadAll start known before now (all ++ new)
   read_by_seat = record {
     tree = going.source.tree ∙ has.tree;
     faults = going.source.faults ∙ has.faults;
@@ -117,7 +117,7 @@ module _ (start : BaseState) (known : List (List ℕ)) (before mid now : SourceS
     going = rebased start (known ++ all) (known ++ (all ++ new)) mid now now l cs reads going (known_with_new known all (paths_read l.keys)) going.source.tree;
   }
 
-  long_in_all : length (all ++ new) ≡ length all + reads
+  pub long_in_all : length (all ++ new) ≡ length all + reads
   long_in_all = let long = length-append all new in omega (arith, long, going.counted)
 
 pub seat_reads_on : SeatReadsOn

@@ -1,6 +1,6 @@
 // Reads that are made ahead of the seat that loads.
 
-ghost use Rattle.gn_ahead.specs.Laws.{NothingIsRead, OnlyAskedIsRead, AllIsAsked, SeatReadsOn, ReadsAheadGoOn};
+ghost use Rattle.gn_ahead.specs.Laws.{NothingIsRead, OnlyAskedIsRead, AllIsAsked, SeatReadsOn, ReadsAheadGoOn, SeatEndsAsked, SeatFailsOn, SeatEndsLarge, FewReadsAreSmall, ManyReadsAreTooLarge};
 
 /// Whatever was read ahead, only what the build asks for was read, and nothing twice.
 pub fn reads_ahead_are_asked()
@@ -13,4 +13,18 @@ pub fn reads_ahead_are_asked()
 pub fn what_was_read_is_known()
     ensures seat { SeatReadsOn }
     ensures ahead { ReadsAheadGoOn }
+{}
+
+/// Wherever such a seat ends, only what the build asks for was read, a read that has failed is the last one, and the build is too large
+/// where the seat finds that.
+pub fn ends_are_those_of_all_reads()
+    ensures asked { SeatEndsAsked }
+    ensures fails { SeatFailsOn }
+    ensures large { SeatEndsLarge }
+{}
+
+/// The reads of a seat and those ahead of it, together, are no more than a build may ask for, or it is too large.
+pub fn all_reads_are_counted()
+    ensures small { FewReadsAreSmall }
+    ensures large { ManyReadsAreTooLarge }
 {}

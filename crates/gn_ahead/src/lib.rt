@@ -3,4 +3,6 @@
 
 mod laws;
 
-pub use laws::{reads_ahead_are_asked, what_was_read_is_known};
+pub use laws::{
+    all_reads_are_counted, ends_are_those_of_all_reads, reads_ahead_are_asked, what_was_read_is_known,
+};
