@@ -2,3 +2,4 @@ pub mod Paths
 pub mod AskedAhead
 pub mod Rebased
 pub mod EndsAhead
+pub mod FirstReads

@@ -1,12 +1,18 @@
 // Reads that are made ahead of the seat that loads.
 
-ghost use Rattle.gn_ahead.specs.Laws.{NothingIsRead, OnlyAskedIsRead, AllIsAsked, SeatReadsOn, ReadsAheadGoOn, SeatEndsAsked, SeatFailsOn, SeatEndsLarge, FewReadsAreSmall, ManyReadsAreTooLarge};
+ghost use Rattle.gn_ahead.specs.Laws.{NothingIsRead, OnlyAskedIsRead, AllIsAsked, SeatReadsOn, ReadsAheadGoOn, SeatEndsAsked, SeatFailsOn, SeatEndsLarge, FewReadsAreSmall, ManyReadsAreTooLarge, FirstReadIsAsked, NeededReadIsAsked};
 
 /// Whatever was read ahead, only what the build asks for was read, and nothing twice.
 pub fn reads_ahead_are_asked()
     ensures nothing { NothingIsRead }
     ensures only { OnlyAskedIsRead }
     ensures all { AllIsAsked }
+{}
+
+/// What the work on a unit needs first is asked for, before the unit is claimed too.
+pub fn first_reads_are_asked()
+    ensures first { FirstReadIsAsked }
+    ensures needed { NeededReadIsAsked }
 {}
 
 /// A seat goes on where all that was read so far, by itself and ahead of it, counts as known before.
