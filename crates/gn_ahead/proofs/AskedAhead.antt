@@ -1,7 +1,7 @@
 -- What a source has read in any order is asked for.
-use Rattle.std.proofs.Common.{◌≡◌, ◌≢◌, ◌⊎◌, inl, inr, ℕ, ◌<◌, List, [], ◌∷◌, ◌++◌, Option, Some, None, Bool, true, false, refl, sym, ◌∙◌, ap, subst, append-nil}
+use Rattle.std.proofs.Common.{◌≡◌, ◌⊎◌, inl, inr, ℕ, ◌<◌, List, [], ◌∷◌, ◌++◌, Some, Bool, true, false, refl, sym, ◌∙◌, subst}
 use Rattle.gn_outside.specs.Tree.{Tree}
-use Rattle.gn_outside.specs.States.{SourceRead, SourceState, paths_of}
+use Rattle.gn_outside.specs.States.{SourceState, paths_of}
 use Rattle.gn_outside.specs.Lists.{AllDiffer, Extends}
 use Rattle.gn_outside.specs.Sources.{CountsFailures, plain_reads}
 use Rattle.gn_closure.specs.Closure.{In}
@@ -10,10 +10,9 @@ use Rattle.gn_executions.specs.Base.{BaseState}
 use Rattle.gn_projects.specs.Files.{files_of}
 use Rattle.gn_projects.specs.Loaded.{IsAskedFor}
 use Rattle.gn_builds.specs.Driving.{FailsAt}
-use Rattle.gn_builds.specs.Rest.{ReadsAsked}
 use Rattle.gn_builds.proofs.Asked.{read_asked}
 use Rattle.gn_builds.proofs.ReadPaths.{in_read}
-use Rattle.gn_builds.proofs.PlainReads.{one_read, ended_by, some_failed, paths-plain, stops-plain, none-plain, paths-ended, stops-ended, some-ended, plain-ended}
+use Rattle.gn_builds.proofs.PlainReads.{one_read, ended_by, paths-plain, stops-plain, none-plain, paths-ended, stops-ended, some-ended, plain-ended}
 use Rattle.gn_ahead.specs.Ahead.{IsAskedRead, HasReadAll, ReadsOnlyAsked}
 use Rattle.gn_ahead.specs.Laws.{NothingIsRead, OnlyAskedIsRead, AllIsAsked}
 use Rattle.gn_ahead.proofs.Paths.{each_in, differ_both, nothing_more, told_behind, last_told}

@@ -1,31 +1,30 @@
 -- Wherever the seat ends, and within which limits.
-use Rattle.std.proofs.Common.{◌≡◌, ◌⊎◌, inl, inr, ℕ, ◌+◌, ◌<◌, ◌≤◌, List, [], ◌∷◌, ◌++◌, length, Option, Some, None, Bool, true, false, refl, sym, ◌∙◌, ap, subst, append_assoc, arith}
+use Rattle.std.proofs.Common.{◌≡◌, ◌⊎◌, inl, inr, ℕ, ◌+◌, ◌<◌, List, [], ◌∷◌, ◌++◌, length, Some, Bool, true, sym, ◌∙◌, subst, arith}
 use Rattle.std.specs.Prelude.{IsSome}
 use Rattle.std.specs.List.{IsDistinct}
 use Rattle.std.proofs.lemmas.List.{length-append}
 use Rattle.gn_outside.specs.Tree.{Tree}
 use Rattle.gn_outside.specs.States.{SourceRead, SourceState, paths_of}
-use Rattle.gn_outside.specs.Lists.{AllDiffer, Extends}
-use Rattle.gn_outside.specs.Sources.{CountsFailures, FailedAt, plain_reads}
+use Rattle.gn_outside.specs.Lists.{AllDiffer}
+use Rattle.gn_outside.specs.Sources.{CountsFailures, plain_reads}
 use Rattle.gn_imports.proofs.PathOrder.{path_eq, path_eq-Decides}
 use Rattle.gn_closure.specs.Closure.{In}
 use Rattle.gn_closure.proofs.Opened.{in_append, in_left, in_right}
 use Rattle.gn_executions.specs.Base.{BaseState}
 use Rattle.gn_core.specs.Keys.{Key, Read}
-use Rattle.gn_core.specs.Machine.{IsFiled, IsOver, read_limit}
+use Rattle.gn_core.specs.Machine.{IsFiled, read_limit}
 use Rattle.gn_book.specs.Logs.{Log, state_of}
-use Rattle.gn_book.specs.declared.book.Claim.{Claim}
 use Rattle.gn_projects.specs.Files.{Files, files_of}
 use Rattle.gn_projects.specs.Worlds.{world_of}
 use Rattle.gn_projects.specs.Loaded.{IsAskedFor}
 use Rattle.gn_projects.proofs.Layered.{whole_builds_are_layered}
-use Rattle.gn_builds.specs.Driving.{IsDriven, IsGoing, HasRead, HasTooMany, ReadsNumbered, FailsAt, paths_read, unknown_of}
-use Rattle.gn_builds.specs.Rest.{IsAtRest, IsSmall}
+use Rattle.gn_builds.specs.Driving.{IsDriven, IsGoing, HasTooMany, ReadsNumbered, FailsAt, paths_read, unknown_of}
+use Rattle.gn_builds.specs.Rest.{IsAtRest}
 use Rattle.gn_builds.proofs.Logs.{opens}
 use Rattle.gn_builds.proofs.Named.{once}
 use Rattle.gn_builds.proofs.ReadPaths.{read_in, in_read, reads_distinct, reads_still}
-use Rattle.gn_builds.proofs.Unknown.{unknown_distinct, unknown_is_one, unknown_not_known, one_front}
-use Rattle.gn_builds.proofs.Asked.{unknown_new, unknown_in, too_many, driven_both}
+use Rattle.gn_builds.proofs.Unknown.{unknown_distinct, unknown_not_known}
+use Rattle.gn_builds.proofs.Asked.{unknown_new, too_many, driven_both}
 use Rattle.gn_builds.proofs.Rest.{rest_is_loaded, key_filed}
 use Rattle.gn_builds.proofs.Members.{in_one, one_in, no_longer}
 use Rattle.gn_builds.proofs.PlainReads.{some_failed}

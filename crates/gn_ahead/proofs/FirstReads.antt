@@ -1,5 +1,5 @@
 -- What the work on a unit needs first is asked for, before the unit is claimed too.
-use Rattle.std.proofs.Common.{◌≡◌, inl, inr, ℕ, List, [], ◌∷◌, ◌++◌, Option, Some, None, false, refl, sym, ◌∙◌, ap, subst}
+use Rattle.std.proofs.Common.{◌≡◌, inl, inr, ℕ, List, [], ◌∷◌, Option, Some, None, false, refl, sym, ◌∙◌, subst}
 use Rattle.gn_paths.specs.declared.place.Place.{Place}
 use Rattle.gn_outside.specs.Tree.{Tree}
 use Rattle.gn_outside.specs.States.{SourceState}

@@ -1,5 +1,5 @@
 -- Lists of which each member stands once, and lists that are told.
-use Rattle.std.proofs.Common.{◌≡◌, ◌≢◌, inl, inr, ℕ, List, [], ◌∷◌, ◌++◌, length, map, Option, Some, None, Bool, true, false, refl, sym, ◌∙◌, ap, subst, append_assoc, append-nil, true≢false}
+use Rattle.std.proofs.Common.{◌≡◌, ◌≢◌, inl, inr, ℕ, List, [], ◌∷◌, ◌++◌, Option, Some, None, Bool, true, false, refl, sym, ◌∙◌, ap, subst, append_assoc, append-nil, true≢false}
 use Rattle.std.specs.Prelude.{option_map, IsSome}
 use Rattle.std.specs.List.{list_any, IsDistinct, AllByRecursion}
 use Rattle.std.specs.Str.{bytes_eq}
@@ -12,7 +12,6 @@ use Rattle.gn_outside.specs.Sources.{StopsAtFailure, plain_reads}
 use Rattle.gn_environment.specs.Chains.{is_one_of}
 use Rattle.gn_imports.proofs.PathOrder.{path_eq, path_eq-Decides}
 use Rattle.gn_closure.specs.Closure.{In}
-use Rattle.gn_closure.proofs.Opened.{in_append, in_left, in_right}
 use Rattle.gn_builds.proofs.PlainReads.{some_failed}
 
 -- Members

@@ -1,33 +1,27 @@
 -- All that was read so far counts as known before from now on.
-use Rattle.std.proofs.Common.{◌≡◌, ◌⊎◌, inl, inr, ℕ, ◌+◌, ◌<◌, ◌≤◌, List, [], ◌∷◌, ◌++◌, length, Option, Some, None, Bool, true, false, not, refl, sym, ◌∙◌, ap, subst, arith}
+use Rattle.std.proofs.Common.{◌≡◌, ◌⊎◌, inl, inr, ℕ, ◌+◌, List, [], ◌∷◌, ◌++◌, length, Bool, true, false, refl, sym, ◌∙◌, ap, subst, arith}
 use Rattle.std.specs.Prelude.{Result, Ok, Err}
-use Rattle.std.specs.List.{IsDistinct}
 use Rattle.std.proofs.lemmas.List.{length-append}
-use Rattle.gn_outside.specs.Tree.{Tree}
-use Rattle.gn_outside.specs.States.{SourceRead, SourceState, paths_of}
-use Rattle.gn_outside.specs.Lists.{AllDiffer, Extends}
+use Rattle.gn_outside.specs.States.{SourceState}
+use Rattle.gn_outside.specs.Lists.{Extends}
 use Rattle.gn_outside.specs.Sources.{plain_reads}
 use Rattle.gn_environment.specs.Chains.{is_one_of}
-use Rattle.gn_imports.proofs.PathOrder.{path_eq, path_eq-Decides}
 use Rattle.gn_closure.specs.Closure.{In}
 use Rattle.gn_closure.proofs.Opened.{in_append, in_left, in_right}
 use Rattle.gn_executions.specs.Base.{BaseState}
-use Rattle.gn_core.specs.Machine.{IsOver, read_limit}
 use Rattle.gn_book.specs.Logs.{Log}
 use Rattle.gn_book.specs.declared.book.Claim.{Claim}
-use Rattle.gn_projects.specs.Files.{files_of}
-use Rattle.gn_projects.specs.Worlds.{world_of}
-use Rattle.gn_builds.specs.Driving.{IsDriven, IsGoing, HasRead, paths_read, unknown_of}
+use Rattle.gn_builds.specs.Driving.{IsGoing, paths_read, unknown_of}
 use Rattle.gn_builds.proofs.Named.{once}
 use Rattle.gn_builds.proofs.ReadPaths.{read_in, reads_distinct}
 use Rattle.gn_builds.proofs.Unknown.{unknown_distinct, unknown_not_known}
 use Rattle.gn_builds.proofs.Asked.{unknown_new, unknown_in}
-use Rattle.gn_builds.proofs.Members.{none_in, in_one, one_in}
+use Rattle.gn_builds.proofs.Members.{none_in, in_one}
 use Rattle.gn_answers.specs.Reading.{IsReadBy}
 use Rattle.gn_answers.specs.declared.answer.FileContent.{FileContent}
 use Rattle.gn_answers.specs.declared.reading.PerformStop.{PerformStop}
 use Rattle.gn_answers.specs.declared.reading.PerformStop.TheVariants.{Failed, Memory}
-use Rattle.gn_ahead.specs.Ahead.{IsAskedRead, HasReadAll, ReadsOnlyAsked, GoesOnAhead, read_in_all, IsReadAhead}
+use Rattle.gn_ahead.specs.Ahead.{IsAskedRead, HasReadAll, GoesOnAhead, IsReadAhead}
 use Rattle.gn_ahead.specs.Laws.{SeatReadsOn, ReadsAheadGoOn}
 use Rattle.gn_ahead.proofs.Paths.{differ_both, differ_tested, one_in_list, nothing_more, told_behind, plain_both}
 use Rattle.gn_ahead.proofs.AskedAhead.{read_more, read_failed, read_lost_ahead}

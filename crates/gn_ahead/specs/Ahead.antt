@@ -1,5 +1,5 @@
 -- What a source has read: paths that loading asks for, each once, in any order.
-use Rattle.std.specs.Prelude.{◌≡◌, ◌⊎◌, ℕ, List, [], ◌∷◌, ◌++◌, Option, Some, None, Result, Ok, Err}
+use Rattle.std.specs.Prelude.{◌≡◌, ℕ, List, [], ◌∷◌, ◌++◌, Some, Result, Ok, Err}
 use Rattle.gn_outside.specs.Tree.{Tree}
 use Rattle.gn_outside.specs.States.{SourceRead, SourceState, paths_of}
 use Rattle.gn_outside.specs.Lists.{Extends, AllDiffer}

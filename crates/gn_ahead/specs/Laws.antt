@@ -1,5 +1,5 @@
 -- What holds where some files are read ahead of the seat that loads.
-use Rattle.std.specs.Prelude.{◌≡◌, ◌⊎◌, ℕ, ◌+◌, ◌<◌, ◌≤◌, List, [], ◌∷◌, ◌++◌, length, Some, None, Result}
+use Rattle.std.specs.Prelude.{◌≡◌, ℕ, ◌+◌, ◌<◌, ◌≤◌, List, [], ◌∷◌, ◌++◌, length, Some, Result}
 use Rattle.gn_paths.specs.declared.place.Place.{Place}
 use Rattle.gn_outside.specs.Tree.{Tree}
 use Rattle.gn_outside.specs.States.{SourceState}
@@ -7,7 +7,7 @@ use Rattle.gn_outside.specs.Lists.{AllDiffer}
 use Rattle.gn_runs.specs.Runs.{Question}
 use Rattle.gn_closure.specs.Closure.{In}
 use Rattle.gn_executions.specs.Base.{BaseState}
-use Rattle.gn_core.specs.Keys.{Key, Read}
+use Rattle.gn_core.specs.Keys.{Read}
 use Rattle.gn_core.specs.Machine.{read_limit}
 use Rattle.gn_book.specs.Graphs.{UnitsHaveNumbers}
 use Rattle.gn_book.specs.Keys.{key_of}
@@ -16,7 +16,7 @@ use Rattle.gn_book.specs.Next.{IsReadyNumber}
 use Rattle.gn_book.specs.declared.book.Claim.{Claim}
 use Rattle.gn_projects.specs.Files.{files_of}
 use Rattle.gn_builds.specs.Working.{IsInNeed}
-use Rattle.gn_builds.specs.Driving.{IsGoing, HasTooMany, ReadsNumbered, FailsAt, IsLarge}
+use Rattle.gn_builds.specs.Driving.{IsGoing, ReadsNumbered, FailsAt, IsLarge}
 use Rattle.gn_builds.specs.Rest.{IsAtRest, IsSmall, IsTooLarge, ReadsAsked}
 use Rattle.gn_answers.specs.Reading.{IsReadBy}
 use Rattle.gn_answers.specs.declared.answer.FileContent.{FileContent}
