@@ -89,9 +89,9 @@ fn wait(
     ensures { IfOk result (IsWaiting book.old book.new) }
 {
     let key = import(alloc, on)?;
-    let place = beginning(alloc, from)?;
     let on = book.number(key)?;
     claims_stay();
+    let place = beginning(alloc, from)?;
     book.block(claim, on, place)
 }
 
@@ -134,7 +134,9 @@ fn closes(
     ensures { IfOk result (λ _. KeepsClaims book.old book.new) }
 {
     let blocked = wait(alloc, book, claim, from, on)?;
-    Ok(matches!(blocked, Blocked::Cyclic))
+    let is_cyclic = matches!(blocked, Blocked::Cyclic);
+    drop(blocked);
+    Ok(is_cyclic)
 }
 
 // Whether it waits for the import of a seat.
@@ -149,7 +151,9 @@ fn waits_for(
     ensures { IfOk result (λ _. KeepsClaims book.old book.new) }
 {
     let blocked = wait(alloc, book, claim, paths.0, paths.1)?;
-    Ok(matches!(blocked, Blocked::Wait(other) if other == seat))
+    let is_waiting = matches!(blocked, Blocked::Wait(other) if other == seat);
+    drop(blocked);
+    Ok(is_waiting)
 }
 
 fn no_value(alloc: Global, from: &Path, on: &Path) -> Result<NoValue, AllocError> {
@@ -173,7 +177,10 @@ fn settle(
     claims_stay();
     match book.file(claim, answer) {
         Ok(()) => Ok(()),
-        Err(_) => Err(AllocError),
+        Err(failed) => {
+            drop(failed);
+            Err(AllocError)
+        }
     }
 }
 
@@ -184,11 +191,15 @@ fn is_answered(
     from: &Path,
     on: &Path,
 ) -> Result<bool, AllocError> {
+    let place = beginning(alloc, from)?;
     let key = import(alloc, from)?;
-    Ok(match book.find(&key) {
+    let is_so = match book.find(&key) {
         None => false,
-        Some(answer) => answer.path == *on && answer.place == beginning(alloc, from)?,
-    })
+        Some(answer) => answer.path == *on && answer.place == place,
+    };
+    drop(key);
+    drop(place);
+    Ok(is_so)
 }
 
 fn are_answered(
@@ -262,15 +273,21 @@ fn load_by_one(
 {
     match enter(book, 0)? {
         None => Ok(false),
-        Some(entry) => need_first(alloc, book, &entry, x, y),
+        Some(entry) => {
+            let is_closed = need_first(alloc, book, &entry, x, y);
+            drop(entry);
+            is_closed
+        }
     }
 }
 
 fn is_cycle_of_one(alloc: Global, x: &Path, y: &Path) -> Result<bool, AllocError> {
     let mut book = Book::new(alloc, 1)?;
-    let is_closed = load_by_one(alloc, &mut book, x, y)?;
+    let is_closed = load_by_one(alloc, &mut book, x, y);
     let is_small = !book.reaches_too_many();
-    Ok(is_closed && is_small && are_answered(alloc, &book, x, y)?)
+    let are_answered = are_answered(alloc, &book, x, y);
+    drop(book);
+    Ok(is_closed? && is_small && are_answered?)
 }
 
 // A seat claims the import of the file at a path in a book without events.
@@ -330,14 +347,20 @@ fn load_by_two(
     let first = claim_first(alloc, book, x)?;
     match enter(book, 1)? {
         None => Ok(false),
-        Some(entry) => need_other(alloc, book, (first, &entry), x, y),
+        Some(entry) => {
+            let is_closed = need_other(alloc, book, (first, &entry), x, y);
+            drop(entry);
+            is_closed
+        }
     }
 }
 
 fn is_cycle_of_two(alloc: Global, x: &Path, y: &Path) -> Result<bool, AllocError> {
     let mut book = Book::new(alloc, 2)?;
-    let is_closed = load_by_two(alloc, &mut book, x, y)?;
-    Ok(is_closed && are_answered(alloc, &book, x, y)?)
+    let is_closed = load_by_two(alloc, &mut book, x, y);
+    let are_answered = are_answered(alloc, &book, x, y);
+    drop(book);
+    Ok(is_closed? && are_answered?)
 }
 
 fn file(alloc: Global, name: &[u8]) -> Result<Path, PathError> {
@@ -348,11 +371,12 @@ fn file(alloc: Global, name: &[u8]) -> Result<Path, PathError> {
 fn are_cycles(alloc: Global) -> Result<bool, Fail> {
     let x = file(alloc, b"x.gni")?;
     let y = file(alloc, b"y.gni")?;
-    Ok(
-        is_cycle_of_one(alloc, &x, &y)?
-            && is_cycle_of_one(alloc, &y, &x)?
-            && is_cycle_of_two(alloc, &x, &y)?,
-    )
+    let one_from_x = is_cycle_of_one(alloc, &x, &y);
+    let one_from_y = is_cycle_of_one(alloc, &y, &x);
+    let two = is_cycle_of_two(alloc, &x, &y);
+    drop(y);
+    drop(x);
+    Ok(one_from_x? && one_from_y? && two?)
 }
 
 #[test]

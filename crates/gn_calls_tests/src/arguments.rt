@@ -69,10 +69,14 @@ fn is_integer(value: &Value, wanted: i64) -> bool {
 }
 
 fn takes(alloc: Global, row: &str) -> Result<bool, AllocError> {
-    let default = Value::Int(number(field(row, 2)));
     let lists = lists_of(alloc, field(row, 0))?;
-    let value = apply(alloc, lists.as_slice(), field(row, 1).as_bytes(), default)?;
-    Ok(is_integer(&value, number(field(row, 3))))
+    let default = Value::Int(number(field(row, 2)));
+    let value = apply(alloc, lists.as_slice(), field(row, 1).as_bytes(), default);
+    drop(lists);
+    let value = value?;
+    let is_so = is_integer(&value, number(field(row, 3)));
+    drop(value);
+    Ok(is_so)
 }
 
 #[test]
@@ -111,25 +115,30 @@ fn texts(alloc: Global, names: &str) -> Result<Texts, AllocError> {
     Ok(texts)
 }
 
-fn spaced(alloc: Global, texts: &Texts) -> Result<Text, AllocError> {
-    let mut spaced = Text::new(alloc);
+// Whether the texts are these words, each of which has a space behind it.
+fn are_words(texts: &Texts, words: &str) -> bool {
+    let mut words = words.split_terminator(' ');
     for text in texts.as_slice() {
-        spaced.append(text.as_bytes())?;
-        spaced.push(b' ')?;
+        let Some(word) = words.next() else {
+            return false;
+        };
+        if text.as_bytes() != word.as_bytes() {
+            return false;
+        }
     }
-    Ok(spaced)
-}
-
-fn is_spaced(alloc: Global, texts: &Texts, wanted: &str) -> Result<bool, AllocError> {
-    let spaced = spaced(alloc, texts)?;
-    Ok(spaced.as_bytes() == wanted.as_bytes())
+    words.next().is_none()
 }
 
 fn have_no_effect(alloc: Global, row: &str) -> Result<bool, AllocError> {
     let given = overrides(alloc, field(row, 0))?;
     let declared = texts(alloc, field(row, 1))?;
-    let names = unused(alloc, &given, &declared)?;
-    is_spaced(alloc, &names, field(row, 2))
+    let names = unused(alloc, &given, &declared);
+    drop(declared);
+    drop(given);
+    let names = names?;
+    let is_so = are_words(&names, field(row, 2));
+    drop(names);
+    Ok(is_so)
 }
 
 #[test]

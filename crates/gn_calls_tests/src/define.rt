@@ -80,10 +80,7 @@ const ITEMS: &str = items! {
     tool("cc") { command = "x"; } => Missing("outputs");
     tool("stamp") { } => Missing("command");
     tool("copy") { command = ""; } => Missing("command");
-};
-
-// A value of a wrong type and a bad content of each row.
-const BAD_VALUES: &str = items! {
+    // A value of a wrong type and a bad content of each row.
     group("g") { testonly = "x"; } => WrongType("testonly");
     group("g") { check_includes = "x"; } => WrongType("check_includes");
     group("g") { output_prefix_override = "x"; } => WrongType("output_prefix_override");
@@ -289,11 +286,8 @@ impl Block for Assignments {
     }
 }
 
-fn set(alloc: Global, block: &mut Assignments, name: &str, value: Value) -> Result<(), AllocError> {
-    match block
-        .entries
-        .set(Text::from_bytes(alloc, name.as_bytes())?, value)
-    {
+fn set(block: &mut Assignments, name: Text, value: Value) -> Result<(), AllocError> {
+    match block.entries.set(name, value) {
         Ok(()) => Ok(()),
         Err(_) => Err(AllocError),
     }
@@ -301,7 +295,9 @@ fn set(alloc: Global, block: &mut Assignments, name: &str, value: Value) -> Resu
 
 fn assign(alloc: Global, block: &mut Assignments, assignment: &str) -> Result<(), AllocError> {
     let (name, text) = assignment.split_once(" = ").unwrap_or((assignment, ""));
-    set(alloc, block, name, value(alloc, text)?)
+    let name = Text::from_bytes(alloc, name.as_bytes())?;
+    let value = value(alloc, text)?;
+    set(block, name, value)
 }
 
 fn block(alloc: Global, assignments: &str) -> Result<Assignments, AllocError> {
@@ -326,7 +322,9 @@ fn place(alloc: Global, kind: ItemKind) -> Result<Where, PathError> {
 
 fn is_label(alloc: Global, label: &Label, text: &str) -> Result<bool, AllocError> {
     let default = Text::from_bytes(alloc, b"//t:t")?;
-    let printed = label.print(alloc, &default)?;
+    let printed = label.print(alloc, &default);
+    drop(default);
+    let printed = printed?;
     Ok(printed.as_bytes() == text.as_bytes())
 }
 
@@ -407,11 +405,15 @@ fn is_outcome(
 }
 
 fn defines(alloc: Global, row: &str, kind: ItemKind) -> Result<bool, PathError> {
-    let at = place(alloc, kind)?;
     let block = block(alloc, field(row, 2))?;
+    let at = place(alloc, kind)?;
     let name = field(row, 1).as_bytes();
     let defined = define(alloc, &at, rows_of(kind), name, &block);
-    Ok(is_outcome(alloc, row, kind, &defined)?)
+    drop(at);
+    drop(block);
+    let is_so = is_outcome(alloc, row, kind, &defined);
+    drop(defined);
+    Ok(is_so?)
 }
 
 fn is_defined(alloc: Global, row: &str) -> Result<bool, PathError> {
@@ -419,14 +421,6 @@ fn is_defined(alloc: Global, row: &str) -> Result<bool, PathError> {
         Some(kind) => defines(alloc, row, kind),
         None => Ok(false),
     }
-}
-
-#[test]
-fn bad_values_are_refused(rt: HostRuntime) -> Result<(), Fail> {
-    for row in BAD_VALUES.split_terminator('\x1e') {
-        assert!(rt; is_defined(rt.alloc(), row)?, "at {row}");
-    }
-    Ok(())
 }
 
 #[test]

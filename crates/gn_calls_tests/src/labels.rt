@@ -1,10 +1,9 @@
 // Calls on labels, and templates of paths: each on its happy path and at its bounds, and the order of its faults.
 
 use crate::rows::calls;
-use crate::standing::is_answered;
-use std::test::Fail;
 
-const LABELS: &str = calls! {
+/// Calls with their places.
+pub(crate) const LABELS: &str = calls! {
     inner: get_label_info(":b", "name") => "b";
     inner: get_label_info(":b", "dir") => "//a";
     inner: get_label_info(":b", "target_out_dir") => "//out/u/obj/a";
@@ -77,17 +76,6 @@ const LABELS: &str = calls! {
     inner: label_matches(":b", [":b␀"]) => BadPattern(1);
     inner: label_matches(":b", ["*", "ÿ:*"]) => BadPath(1);
     inner: label_matches(":b", ["␊/*"]) => BadPath(1);
-};
-
-#[test]
-fn labels_are_told_and_matched(rt: HostRuntime) -> Result<(), Fail> {
-    for row in LABELS.split_terminator('\x1e') {
-        assert!(rt; is_answered(rt.alloc(), row)?, "at {row}");
-    }
-    Ok(())
-}
-
-const TEMPLATES: &str = calls! {
     root: process_file_template(["foo.idl", "bar.idl"], ["//out/Debug/{{source_name_part}}.cc", "//out/Debug/{{source_name_part}}.h"]) => ["//out/Debug/foo.cc", "//out/Debug/foo.h", "//out/Debug/bar.cc", "//out/Debug/bar.h"];
     inner: process_file_template(["x/f.idl"], "{{source}} {{source_file_part}} {{source_dir}} {{source_root_relative_dir}}") => ["//a/x/f.idl f.idl //a/x a/x"];
     inner: process_file_template(["x/f.idl"], "{{source_gen_dir}} {{source_out_dir}}") => ["//out/u/gen/a/x //out/u/obj/a/x"];
@@ -121,11 +109,3 @@ const TEMPLATES: &str = calls! {
     root: process_file_template(["␊"], "a") => BadPath(0);
     root: process_file_template(["ÿ"], "{{nope}}") => BadPath(0);
 };
-
-#[test]
-fn templates_are_expanded(rt: HostRuntime) -> Result<(), Fail> {
-    for row in TEMPLATES.split_terminator('\x1e') {
-        assert!(rt; is_answered(rt.alloc(), row)?, "at {row}");
-    }
-    Ok(())
-}

@@ -1,12 +1,9 @@
 // Calls on strings of 16,777,216 bytes and lists of 1,048,576 items, which are the longest, and answers that would be longer.
 
-use crate::conversions::is_converted;
 use crate::rows::calls;
-use crate::standing::is_answered as is_told;
-use crate::texts::is_answered;
-use std::test::Fail;
 
-const LISTS: &str = calls! {
+/// Calls on texts and lists.
+pub(crate) const TEXTS: &str = calls! {
     filter_include(many(1048576, "a"), ["a"]) => many(1048576);
     filter_include([long(16777216), "b"], ["*a"]) => many(1);
     filter_include(["a"], [long(16777216)]) => [];
@@ -17,17 +14,6 @@ const LISTS: &str = calls! {
     split_list(deep(199), 1) => many(1);
     split_list(many(1048576, ""), 1048576) => many(1048576);
     split_list([long(16777216)], 1) => many(1);
-};
-
-#[test]
-fn the_longest_lists_are_filtered_and_split(rt: HostRuntime) -> Result<(), Fail> {
-    for row in LISTS.split_terminator('\x1e') {
-        assert!(rt; is_answered(rt.alloc(), row)?, "at {row}");
-    }
-    Ok(())
-}
-
-const STRINGS: &str = calls! {
     string_join("aaaaaaaaaaaaaaa", many(1048576, "a")) => long(16777201);
     string_join("", [long(16777216)]) => long(16777216);
     string_join("", [long(16777216), "a"]) => TooLong;
@@ -40,17 +26,6 @@ const STRINGS: &str = calls! {
     string_replace(long(8388609), long(1048576), long(2097152)) => TooLong;
     string_replace("a", "a", long(16777216)) => long(16777216);
     string_replace("ab", "a", long(16777216)) => TooLong;
-};
-
-#[test]
-fn the_longest_strings_are_joined_and_replaced(rt: HostRuntime) -> Result<(), Fail> {
-    for row in STRINGS.split_terminator('\x1e') {
-        assert!(rt; is_answered(rt.alloc(), row)?, "at {row}");
-    }
-    Ok(())
-}
-
-const PIECES: &str = calls! {
     string_split(long(16777216)) => many(1);
     string_split(long(16777216), long(16777216)) => ["", ""];
     string_split(long(1048575), "a") => many(1048576);
@@ -59,43 +34,14 @@ const PIECES: &str = calls! {
     string_split(repeat(1048577, "a␊")) => TooLong;
 };
 
-#[test]
-fn the_longest_strings_are_split(rt: HostRuntime) -> Result<(), Fail> {
-    for row in PIECES.split_terminator('\x1e') {
-        assert!(rt; is_answered(rt.alloc(), row)?, "at {row}");
-    }
-    Ok(())
-}
-
-const LABELS: &str = calls! {
+/// Calls on labels and paths, with their places.
+pub(crate) const PATHS: &str = calls! {
     root: get_label_info(long(16777216), "name") => BadLabel(0);
     root: get_label_info(long(16777215, ":"), "name") => long(16777215);
     root: get_label_info(long(16777213, ":"), "label_no_toolchain") => long(16777216);
     root: get_label_info(long(16777214, ":"), "label_no_toolchain") => TooLong;
-};
-
-#[test]
-fn the_longest_labels_are_told(rt: HostRuntime) -> Result<(), Fail> {
-    for row in LABELS.split_terminator('\x1e') {
-        assert!(rt; is_told(rt.alloc(), row)?, "at {row}");
-    }
-    Ok(())
-}
-
-const MATCHED: &str = calls! {
     inner: label_matches(long(16777215, ":"), [":b", "*"]) => true;
     inner: label_matches(":b", many(1048576, "*")) => true;
-};
-
-#[test]
-fn the_longest_labels_are_matched(rt: HostRuntime) -> Result<(), Fail> {
-    for row in MATCHED.split_terminator('\x1e') {
-        assert!(rt; is_told(rt.alloc(), row)?, "at {row}");
-    }
-    Ok(())
-}
-
-const TEMPLATES: &str = calls! {
     root: process_file_template(many(1024, "f"), many(1024, "a")) => many(1048576);
     root: process_file_template(many(1024, "f"), many(1025, "a")) => TooLong;
     root: process_file_template(many(1048576, "f"), ["a"]) => many(1048576);
@@ -103,33 +49,11 @@ const TEMPLATES: &str = calls! {
     root: process_file_template(["f"], long(16777206, "{{source}}")) => many(1);
     root: process_file_template(["ffffffff"], long(16777206, "{{source}}")) => many(1);
     root: process_file_template(["fffffffff"], long(16777206, "{{source}}")) => TooLong;
-};
-
-#[test]
-fn the_longest_templates_are_expanded(rt: HostRuntime) -> Result<(), Fail> {
-    for row in TEMPLATES.split_terminator('\x1e') {
-        assert!(rt; is_told(rt.alloc(), row)?, "at {row}");
-    }
-    Ok(())
-}
-
-const REBASED: &str = calls! {
     root: rebase_path(long(16777211)) => long(16777216);
     root: rebase_path(long(16777212)) => TooLong;
     root: rebase_path("a", long(16777216)) => "../a";
     root: rebase_path(many(1048576, "a"), "//c") => many(1048576);
     root: rebase_path(["b", long(16777214)], "//c") => TooLong;
-};
-
-#[test]
-fn the_longest_paths_are_rebased(rt: HostRuntime) -> Result<(), Fail> {
-    for row in REBASED.split_terminator('\x1e') {
-        assert!(rt; is_told(rt.alloc(), row)?, "at {row}");
-    }
-    Ok(())
-}
-
-const PATHS: &str = calls! {
     root: get_path_info(long(16777214), "abspath") => long(16777216);
     root: get_path_info(long(16777216), "file") => long(16777216);
     root: get_path_info(repeat(8388604, "/a"), "gen_dir") => long(16777215);
@@ -137,41 +61,15 @@ const PATHS: &str = calls! {
     root: get_path_info(many(1048576, "a"), "dir") => many(1048576);
 };
 
-#[test]
-fn the_longest_paths_are_told(rt: HostRuntime) -> Result<(), Fail> {
-    for row in PATHS.split_terminator('\x1e') {
-        assert!(rt; is_told(rt.alloc(), row)?, "at {row}");
-    }
-    Ok(())
-}
-
-const CONTENTS: &str = calls! {
+/// Contents in their forms.
+pub(crate) const CONTENTS: &str = calls! {
     string(long(16777216)) => long(16777216);
     string(long(16777217)) => TooLong;
     trim_string(long(16777216, " ␊")) => long(16777216);
     trim_string(repeat(8388608, " ␊")) => "";
-};
-
-#[test]
-fn the_longest_contents_are_strings(rt: HostRuntime) -> Result<(), Fail> {
-    for row in CONTENTS.split_terminator('\x1e') {
-        assert!(rt; is_converted(rt.alloc(), row)?, "at {row}");
-    }
-    Ok(())
-}
-
-const LINES: &str = calls! {
     lines(long(16777216)) => many(1);
     lines(repeat(1048576, "a␊")) => many(1048576);
     lines(repeat(1048577, "a␊")) => TooLong;
     trim_lines(repeat(1048576, "a␊")) => many(1048576);
     trim_lines(repeat(1048577, "a␊")) => TooLong;
 };
-
-#[test]
-fn the_longest_contents_are_lists(rt: HostRuntime) -> Result<(), Fail> {
-    for row in LINES.split_terminator('\x1e') {
-        assert!(rt; is_converted(rt.alloc(), row)?, "at {row}");
-    }
-    Ok(())
-}

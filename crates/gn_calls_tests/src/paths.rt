@@ -1,10 +1,9 @@
 // Calls on paths: each on its happy path and at its bounds, and the order of its faults.
 
 use crate::rows::calls;
-use crate::standing::is_answered;
-use std::test::Fail;
 
-const REBASED: &str = calls! {
+/// Calls with their places.
+pub(crate) const PATHS: &str = calls! {
     root: rebase_path("a/b/", "//c") => "../a/b/";
     root: rebase_path("//c", "//c") => ".";
     root: rebase_path("//c/", "//c") => "./";
@@ -59,17 +58,6 @@ const REBASED: &str = calls! {
     root: rebase_path("a", "b", "ÿ") => BadPath(2);
     root: rebase_path("/", "") => "/";
     root: rebase_path(["", "a"], "", "") => BadPath(0);
-};
-
-#[test]
-fn paths_are_rebased(rt: HostRuntime) -> Result<(), Fail> {
-    for row in REBASED.split_terminator('\x1e') {
-        assert!(rt; is_answered(rt.alloc(), row)?, "at {row}");
-    }
-    Ok(())
-}
-
-const PATHS: &str = calls! {
     root: get_path_info("foo/bar.txt", "file") => "bar.txt";
     root: get_path_info("bar.txt", "file") => "bar.txt";
     root: get_path_info("foo/", "file") => "";
@@ -136,11 +124,3 @@ const PATHS: &str = calls! {
     root: get_path_info("/../ÿ", "out_dir") => BadPath(0);
     root: get_path_info(["a", "../b"], "abspath") => AboveRoot(0);
 };
-
-#[test]
-fn paths_are_told(rt: HostRuntime) -> Result<(), Fail> {
-    for row in PATHS.split_terminator('\x1e') {
-        assert!(rt; is_answered(rt.alloc(), row)?, "at {row}");
-    }
-    Ok(())
-}

@@ -49,10 +49,14 @@ fn call_named(name: &str) -> Option<PathCall> {
 }
 
 fn answers(alloc: Global, row: &str, call: PathCall) -> Result<bool, PathError> {
-    let at = place_named(alloc, field(row, 3))?;
     let values = values(alloc, field(row, 1))?;
+    let at = place_named(alloc, field(row, 3))?;
     let answered = call_path(alloc, call, values.as_slice(), &at);
-    Ok(is_answer(alloc, &answered, field(row, 2))?)
+    drop(at);
+    drop(values);
+    let is_so = is_answer(alloc, &answered, field(row, 2));
+    drop(answered);
+    Ok(is_so?)
 }
 
 /// Whether the call of a row answers what the row expects.

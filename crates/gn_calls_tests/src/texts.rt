@@ -3,9 +3,9 @@
 use crate::rows::{calls, field, is_answer, values};
 use gn_calls_text::{TextCall, call_text};
 use std::alloc::{AllocError, Global};
-use std::test::Fail;
 
-const FILTERS: &str = calls! {
+/// Calls with their answers.
+pub(crate) const TEXTS: &str = calls! {
     filter_include(["a.cc", "b.h"], ["*.cc"]) => ["a.cc"];
     filter_exclude(["a.cc", "b.h"], ["*.cc"]) => ["b.h"];
     filter_include([], ["*"]) => [];
@@ -47,9 +47,6 @@ const FILTERS: &str = calls! {
     filter_exclude(["", "a"], [""]) => ["a"];
     filter_exclude(["a␊b", "␊"], ["␊"]) => ["a␊b"];
     filter_include(["ÿ", "þ"], ["ÿ", "ÿ*"]) => ["ÿ"];
-};
-
-const LISTS: &str = calls! {
     split_list([1, 2, 3, 4, 5], 2) => [[1, 2, 3], [4, 5]];
     split_list([1, 2, 3, 4], 2) => [[1, 2], [3, 4]];
     split_list([1, 2, 3, 4, 5], 3) => [[1, 2], [3, 4], [5]];
@@ -76,9 +73,6 @@ const LISTS: &str = calls! {
     split_list([], 1) => [[]];
     split_list([], 0) => BadArguments;
     split_list(["␀", "␊", "ÿ"], 2) => [["␀", "␊"], ["ÿ"]];
-};
-
-const STRINGS: &str = calls! {
     string_join(", ", ["a", "b", "c"]) => "a, b, c";
     string_join("", ["a", "", "b"]) => "ab";
     string_join("␀", ["ÿ", "␊"]) => "ÿ␀␊";
@@ -179,7 +173,10 @@ fn call_named(name: &str) -> Option<TextCall> {
 fn answers(alloc: Global, row: &str, call: TextCall) -> Result<bool, AllocError> {
     let values = values(alloc, field(row, 1))?;
     let answered = call_text(alloc, call, values.as_slice());
-    is_answer(alloc, &answered, field(row, 2))
+    drop(values);
+    let is_so = is_answer(alloc, &answered, field(row, 2));
+    drop(answered);
+    is_so
 }
 
 /// Whether the call of a row answers what the row expects.
@@ -188,28 +185,4 @@ pub(crate) fn is_answered(alloc: Global, row: &str) -> Result<bool, AllocError> 
         Some(call) => answers(alloc, row, call),
         None => Ok(false),
     }
-}
-
-#[test]
-fn strings_are_filtered(rt: HostRuntime) -> Result<(), Fail> {
-    for row in FILTERS.split_terminator('\x1e') {
-        assert!(rt; is_answered(rt.alloc(), row)?, "at {row}");
-    }
-    Ok(())
-}
-
-#[test]
-fn lists_are_split(rt: HostRuntime) -> Result<(), Fail> {
-    for row in LISTS.split_terminator('\x1e') {
-        assert!(rt; is_answered(rt.alloc(), row)?, "at {row}");
-    }
-    Ok(())
-}
-
-#[test]
-fn strings_are_joined_replaced_and_split(rt: HostRuntime) -> Result<(), Fail> {
-    for row in STRINGS.split_terminator('\x1e') {
-        assert!(rt; is_answered(rt.alloc(), row)?, "at {row}");
-    }
-    Ok(())
 }

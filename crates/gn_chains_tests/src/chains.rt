@@ -8,8 +8,8 @@ use gn_labels::Label;
 use std::alloc::{AllocError, Global};
 use std::test::Fail;
 
-// A graph on each line, with a target and the configurations that apply to it.
-const APPLIED: &str = "\
+/// A graph on each line, with a target and the configurations that apply to it.
+pub(crate) const APPLIED: &str = "\
 k config;c group public_configs=k;b group public_deps=c;a group deps=b|a|k
 k config;c group public_configs=k;b group deps=c;a group deps=b|a|
 k config;m config;c group all_dependent_configs=k;b group deps=c;a group configs=k,m deps=b|a|k,m
@@ -22,8 +22,8 @@ k config;b group public_configs=k all_dependent_configs=k;a group data_deps=b|a|
 k config;b group configs=k;a group public_deps=b|a|
 k config;d group public_configs=k;c group public_deps=d;b group deps=c;a group deps=b public_deps=c|a|k";
 
-// A graph on each line, with a target and the libraries that it inherits.
-const INHERITED: &str = "\
+/// A graph on each line, with a target and the libraries that it inherits.
+pub(crate) const INHERITED: &str = "\
 b static_library;a executable deps=b|a|b
 c static_library;b shared_library deps=c;a executable deps=b|a|b
 c source_set;b group public_deps=c;a shared_library deps=b|a|c
@@ -36,48 +36,46 @@ d source_set;b source_set deps=d;c static_library public_deps=d;a executable dep
 b source_set;z source_set deps=b;c source_set;a executable deps=b,c,z|a|c,z,b
 b source_set;c action deps=b;a executable deps=c|a|";
 
-fn is_applied(alloc: Global, tree: &Tree, target: &Label, names: &str) -> Result<bool, AllocError>
+/// What goes along dependencies.
+#[derive(Clone, Copy)]
+pub(crate) enum Along {
+    /// The configurations that apply.
+    Configurations,
+    /// The libraries that are inherited.
+    Libraries,
+}
+
+fn found(
+    alloc: Global,
+    tree: &Tree,
+    target: &Label,
+    along: Along,
+) -> Result<Option<Vec<Label>>, AllocError>
     requires { HoldsRecords tree.now }
 {
-    match tree.applied(alloc, target)? {
-        None => Ok(false),
-        Some(labels) => Ok(are_named(&labels, names)),
+    match along {
+        Along::Configurations => tree.applied(alloc, target),
+        Along::Libraries => tree.inherited(alloc, target),
     }
 }
 
-fn is_inherited(alloc: Global, tree: &Tree, target: &Label, names: &str) -> Result<bool, AllocError>
-    requires { HoldsRecords tree.now }
-{
-    match tree.inherited(alloc, target)? {
-        None => Ok(false),
-        Some(labels) => Ok(are_named(&labels, names)),
+fn have_names(found: Option<Vec<Label>>, names: &str) -> bool {
+    match found {
+        None => false,
+        Some(labels) => {
+            let are_named = are_named(&labels, names);
+            drop(labels);
+            are_named
+        }
     }
 }
 
-fn applies(alloc: Global, row: &str) -> Result<bool, Fail> {
+/// Whether a target has what a line says along its dependencies.
+pub(crate) fn goes(alloc: Global, row: &str, along: Along) -> Result<bool, Fail> {
     let target = label(alloc, part(row, '|', 1))?;
     let tree = resolved(alloc, part(row, '|', 0))?;
-    Ok(is_applied(alloc, &tree, &target, part(row, '|', 2))?)
-}
-
-fn inherits(alloc: Global, row: &str) -> Result<bool, Fail> {
-    let target = label(alloc, part(row, '|', 1))?;
-    let tree = resolved(alloc, part(row, '|', 0))?;
-    Ok(is_inherited(alloc, &tree, &target, part(row, '|', 2))?)
-}
-
-#[test]
-fn configurations_apply(rt: HostRuntime) -> Result<(), Fail> {
-    for row in APPLIED.split('\n') {
-        assert!(rt; applies(rt.alloc(), row)?, "{row}");
-    }
-    Ok(())
-}
-
-#[test]
-fn libraries_are_inherited(rt: HostRuntime) -> Result<(), Fail> {
-    for row in INHERITED.split('\n') {
-        assert!(rt; inherits(rt.alloc(), row)?, "{row}");
-    }
-    Ok(())
+    let found = found(alloc, &tree, &target, along);
+    drop(tree);
+    drop(target);
+    Ok(have_names(found?, part(row, '|', 2)))
 }

@@ -33,8 +33,9 @@ fn labels(alloc: Global, names: &str) -> Result<Vec<Label>, AllocError> {
 fn field(alloc: Global, variable: Variable, names: &str) -> Result<Field, Fail> {
     match variable {
         Variable::Testonly => Ok(Field::Boolean(true)),
-        Variable::Visibility => Ok(Field::Patterns(patterns(alloc, names)?)),
-        Variable::AssertNoDeps => Ok(Field::Patterns(patterns(alloc, names)?)),
+        Variable::Visibility | Variable::AssertNoDeps => {
+            Ok(Field::Patterns(patterns(alloc, names)?))
+        }
         _ => Ok(Field::Labels(labels(alloc, names)?)),
     }
 }
@@ -62,9 +63,10 @@ fn first_place(alloc: Global) -> Result<Place, AllocError> {
     })
 }
 
-fn with_fields(alloc: Global, text: &str, fields: Fields) -> Result<Item, AllocError> {
+fn item(alloc: Global, text: &str) -> Result<Item, Fail> {
     let label = label(alloc, part(text, ' ', 0))?;
     let place = first_place(alloc)?;
+    let fields = fields(alloc, text)?;
     Ok(Item {
         kind: kind_named(part(text, ' ', 1)),
         label,
@@ -75,8 +77,7 @@ fn with_fields(alloc: Global, text: &str, fields: Fields) -> Result<Item, AllocE
 }
 
 fn push_item(alloc: Global, items: &mut Vec<Item>, text: &str) -> Result<(), Fail> {
-    let fields = fields(alloc, text)?;
-    let item = with_fields(alloc, text, fields)?;
+    let item = item(alloc, text)?;
     items.push(item)?;
     Ok(())
 }

@@ -15,9 +15,9 @@ use std::alloc::{AllocError, Global};
 use std::slice;
 use std::test::Fail;
 
-// A graph on each line, with a target and its faults. `;` ends a fault, which is told by its code, its line, its details and its
-// toolchain.
-const FAULTS: &str = "\
+/// A graph on each line, with a target and its faults. `;` ends a fault, which is told by its code, its line, its details and its
+/// toolchain.
+pub(crate) const FAULTS: &str = "\
 a group;b group deps=a|b|
 n group;b group deps=a|b|33 2 //:b //:a ;
 b group data_deps=m,n deps=n,m public_deps=n|b|33 1 //:b //:m ;33 1 //:b //:n ;
@@ -43,8 +43,8 @@ a group;x executable deps=a;b group deps=x assert_no_deps=:*|b|
 a group visibility=;c group testonly=;k config;b group data_deps=n,b deps=k public_deps=c,a assert_no_deps=:c|b|\
 33 4 //:b //:n ;34 4 //:b //:k ;35 4 //:b //:b ;36 4 //:b //:a ;37 4 //:b //:c ;38 4 //:b //:c ;";
 
-// A graph on each line, with the fault that is told of its targets in their order.
-const LEAST: &str = "\
+/// A graph on each line, with the fault that is told of its targets in their order.
+pub(crate) const LEAST: &str = "\
 a group;b group deps=a|
 a group deps=a;b group deps=n|35 1 //:a //:a ;
 a group deps=n;b group deps=n|33 1 //:a //:n ;
@@ -94,7 +94,9 @@ fn faults_of(alloc: Global, tree: &Tree, target: &Label, known: &Firsts) -> Resu
     requires { AreSettled (shape_in tree.now) known.now }
 {
     let faults = label_faults(alloc, target, tree, known)?;
-    told(alloc, &faults)
+    let text = told(alloc, &faults);
+    drop(faults);
+    text
 }
 
 fn least_of(
@@ -107,39 +109,54 @@ fn least_of(
 {
     match least_fault(alloc, targets, tree, known)? {
         None => Ok(Text::new(alloc)),
-        Some(fault) => told(alloc, slice::from_ref(&fault)),
+        Some(fault) => {
+            let text = told(alloc, slice::from_ref(&fault));
+            drop(fault);
+            text
+        }
     }
 }
 
-fn has_faults(alloc: Global, row: &str) -> Result<bool, Fail> {
+// The faults of the target of a row, in a graph with these targets.
+fn faults_in(alloc: Global, tree: &Tree, order: &[Label], row: &str) -> Result<Text, AllocError> {
     let target = label(alloc, part(row, '|', 1))?;
+    let known = settled(alloc, order, tree)?;
+    let text = faults_of(alloc, tree, &target, &known);
+    drop(known);
+    drop(target);
+    text
+}
+
+// The fault that is told of these targets of a graph.
+fn least_in(alloc: Global, tree: &Tree, targets: &[Label]) -> Result<Text, AllocError> {
+    let known = settled(alloc, targets, tree)?;
+    let text = least_of(alloc, tree, targets, &known);
+    drop(known);
+    text
+}
+
+fn is_text(text: Text, wanted: &str) -> bool {
+    let is_text = text.as_bytes() == wanted.as_bytes();
+    drop(text);
+    is_text
+}
+
+/// Whether a target has the faults of its line.
+pub(crate) fn has_faults(alloc: Global, row: &str) -> Result<bool, Fail> {
     let order = labels(alloc, part(row, '|', 0))?;
     let tree = unresolved(alloc, part(row, '|', 0))?;
-    let known = settled(alloc, &order, &tree)?;
-    let text = faults_of(alloc, &tree, &target, &known)?;
-    Ok(text.as_bytes() == part(row, '|', 2).as_bytes())
+    let text = faults_in(alloc, &tree, &order, row);
+    drop(tree);
+    drop(order);
+    Ok(is_text(text?, part(row, '|', 2)))
 }
 
-fn has_least(alloc: Global, row: &str) -> Result<bool, Fail> {
+/// Whether the fault of a line is told.
+pub(crate) fn has_least(alloc: Global, row: &str) -> Result<bool, Fail> {
     let targets = labels(alloc, part(row, '|', 0))?;
     let tree = unresolved(alloc, part(row, '|', 0))?;
-    let known = settled(alloc, &targets, &tree)?;
-    let text = least_of(alloc, &tree, &targets, &known)?;
-    Ok(text.as_bytes() == part(row, '|', 1).as_bytes())
-}
-
-#[test]
-fn targets_have_faults(rt: HostRuntime) -> Result<(), Fail> {
-    for row in FAULTS.split('\n') {
-        assert!(rt; has_faults(rt.alloc(), row)?, "{row}");
-    }
-    Ok(())
-}
-
-#[test]
-fn the_least_fault_is_told(rt: HostRuntime) -> Result<(), Fail> {
-    for row in LEAST.split('\n') {
-        assert!(rt; has_least(rt.alloc(), row)?, "{row}");
-    }
-    Ok(())
+    let text = least_in(alloc, &tree, &targets);
+    drop(tree);
+    drop(targets);
+    Ok(is_text(text?, part(row, '|', 1)))
 }

@@ -2,7 +2,7 @@
 
 use crate::defining::executions;
 use crate::reading::{are_named, label, part};
-use crate::rules::{FORBIDDEN, is_forbidden};
+use crate::rules::is_forbidden;
 use gn_items::Item;
 use gn_labelled::{ItemGraph, ItemIndex, NoRecords};
 use gn_labels::Label;
@@ -10,8 +10,8 @@ use gn_paths::Text;
 use std::alloc::{AllocError, Global};
 use std::test::Fail;
 
-// On each line the items of executions; a label; the kind of what is found, if something is; and the labels that are defined again.
-const FOUND: &str = "\
+/// On each line the items of executions; a label; the kind of what is found, if something is; and the labels that are defined again.
+pub(crate) const FOUND: &str = "\
 a group;b config|b|config|
 a group;b config|c||
 a group;a config|a|group|a
@@ -48,17 +48,26 @@ fn labels_of(alloc: Global, items: &[&Item]) -> Result<Vec<Label>, AllocError> {
 
 fn is_found(alloc: Global, index: &ItemIndex<'_>, row: &str) -> Result<bool, AllocError> {
     let label = label(alloc, part(row, '|', 1))?;
+    let is_kind = is_kind(index.item(&label), part(row, '|', 2));
+    drop(label);
     let again = labels_of(alloc, index.repeated())?;
-    Ok(is_kind(index.item(&label), part(row, '|', 2)) && are_named(&again, part(row, '|', 3)))
+    let are_named = are_named(&again, part(row, '|', 3));
+    drop(again);
+    Ok(is_kind && are_named)
 }
 
-fn finds(alloc: Global, row: &str) -> Result<bool, Fail> {
+/// Whether what a line says is found.
+pub(crate) fn finds(alloc: Global, row: &str) -> Result<bool, Fail> {
     let executions = executions(alloc, part(row, '|', 0))?;
     let index = index(alloc, executions.as_slice())?;
-    Ok(is_found(alloc, &index, row)?)
+    let is_so = is_found(alloc, &index, row);
+    drop(index);
+    drop(executions);
+    Ok(is_so?)
 }
 
-fn forbids(alloc: Global, row: &str) -> Result<bool, Fail> {
+/// Whether the graph of a line forbids what it says, over items.
+pub(crate) fn forbids(alloc: Global, row: &str) -> Result<bool, Fail> {
     let executions = executions(alloc, part(row, '|', 1))?;
     let default = Text::from_bytes(alloc, b"//t:t")?;
     let items = index(alloc, executions.as_slice())?;
@@ -67,21 +76,9 @@ fn forbids(alloc: Global, row: &str) -> Result<bool, Fail> {
         items,
         records: NoRecords,
     };
-    Ok(is_forbidden(alloc, &graph, row)?)
-}
-
-#[test]
-fn items_are_found_by_label(rt: HostRuntime) -> Result<(), Fail> {
-    for row in FOUND.split('\n') {
-        assert!(rt; finds(rt.alloc(), row)?, "{row}");
-    }
-    Ok(())
-}
-
-#[test]
-fn rules_forbid_over_items(rt: HostRuntime) -> Result<(), Fail> {
-    for row in FORBIDDEN.split('\n') {
-        assert!(rt; forbids(rt.alloc(), row)?, "{row}");
-    }
-    Ok(())
+    let is_so = is_forbidden(alloc, &graph, row);
+    drop(graph);
+    drop(default);
+    drop(executions);
+    Ok(is_so?)
 }

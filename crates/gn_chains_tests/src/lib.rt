@@ -10,6 +10,8 @@ mod defining;
 mod faults;
 #[cfg(test)]
 mod labelled;
+#[cfg(test)]
+mod lines;
 mod makers;
 #[cfg(test)]
 mod outputs;

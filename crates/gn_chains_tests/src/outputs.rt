@@ -9,8 +9,8 @@ use indexmap::IndexMap;
 use std::alloc::{AllocError, Global};
 use std::test::Fail;
 
-// On each line targets with what they make, and what is made again.
-const AGAIN: &str = "\
+/// On each line targets with what they make, and what is made again.
+pub(crate) const AGAIN: &str = "\
 a=x,y;b=z|
 a=x,y;b=y|b=y
 a=x,x;b=z|a=x
@@ -26,13 +26,19 @@ fn texts(alloc: Global, names: &str) -> Result<Vec<Text>, AllocError> {
 }
 
 fn put(alloc: Global, makers: &mut Makers, text: &str) -> Result<(), AllocError> {
-    let outputs = texts(alloc, part(text, '=', 1))?;
     let target = label(alloc, part(text, '=', 0))?;
     makers.targets.push(target)?;
     let target = label(alloc, part(text, '=', 0))?;
+    let outputs = texts(alloc, part(text, '=', 1))?;
     match makers.outputs.insert(target, outputs) {
-        Ok(_) => Ok(()),
-        Err(_) => Err(AllocError),
+        Ok(old) => {
+            drop(old);
+            Ok(())
+        }
+        Err(failed) => {
+            drop(failed);
+            Err(AllocError)
+        }
     }
 }
 
@@ -67,16 +73,13 @@ fn are_made(again: &[MadeOutput], texts: &str) -> bool {
     texts.next().is_none()
 }
 
-fn repeats(alloc: Global, row: &str) -> Result<bool, Fail> {
+/// Whether what a line says is made again.
+pub(crate) fn repeats(alloc: Global, row: &str) -> Result<bool, Fail> {
     let makers = makers(alloc, part(row, '|', 0))?;
-    let again = repeated_outputs(alloc, &makers)?;
-    Ok(are_made(&again, part(row, '|', 1)))
-}
-
-#[test]
-fn outputs_are_made_again(rt: HostRuntime) -> Result<(), Fail> {
-    for row in AGAIN.split('\n') {
-        assert!(rt; repeats(rt.alloc(), row)?, "{row}");
-    }
-    Ok(())
+    let found = repeated_outputs(alloc, &makers);
+    drop(makers);
+    let again = found?;
+    let are_made = are_made(&again, part(row, '|', 1));
+    drop(again);
+    Ok(are_made)
 }

@@ -113,27 +113,45 @@ fn set(alloc: Global, item: &mut Item, variable: &str, names: &str) -> Result<()
     Ok(())
 }
 
-fn item(alloc: Global, text: &str, line: u32) -> Result<Item, Fail> {
-    let mut item = Item::new(alloc, kind_named(part(text, ' ', 1)));
-    item.place.line = line;
+fn set_all(alloc: Global, item: &mut Item, text: &str) -> Result<(), Fail> {
     for list in text.split(' ').skip(2) {
-        set(alloc, &mut item, part(list, '=', 0), part(list, '=', 1))?;
+        set(alloc, item, part(list, '=', 0), part(list, '=', 1))?;
     }
-    Ok(item)
+    Ok(())
 }
 
+/// Puts an item with others, in the place of one that has its label.
+pub(crate) fn insert(
+    items: &mut IndexMap<Label, Item>,
+    label: Label,
+    item: Item,
+) -> Result<(), AllocError> {
+    match items.insert(label, item) {
+        Ok(old) => {
+            drop(old);
+            Ok(())
+        }
+        Err(failed) => {
+            drop(failed);
+            Err(AllocError)
+        }
+    }
+}
+
+// Puts the item that a text describes with others. It is put also where not all that it has could be set, which is an error.
 fn put(
     alloc: Global,
     items: &mut IndexMap<Label, Item>,
     text: &str,
     line: u32,
 ) -> Result<(), Fail> {
-    let item = item(alloc, text, line)?;
     let label = label(alloc, part(text, ' ', 0))?;
-    match items.insert(label, item) {
-        Ok(_) => Ok(()),
-        Err(_) => Err(AllocError)?,
-    }
+    let mut item = Item::new(alloc, kind_named(part(text, ' ', 1)));
+    item.place.line = line;
+    let is_set = set_all(alloc, &mut item, text);
+    let is_put = insert(items, label, item);
+    is_set?;
+    Ok(is_put?)
 }
 
 fn items(alloc: Global, graph: &str) -> Result<IndexMap<Label, Item>, Fail> {
@@ -159,9 +177,29 @@ pub(crate) fn labels(alloc: Global, graph: &str) -> Result<Vec<Label>, AllocErro
 pub(crate) fn unresolved(alloc: Global, graph: &str) -> Result<Tree, Fail>
     ensures { IfOk result HoldsRecords }
 {
-    let items = items(alloc, graph)?;
     let default = Text::from_bytes(alloc, b"//t:t")?;
+    let items = items(alloc, graph)?;
     Ok(Tree::new(alloc, default, items))
+}
+
+/// A graph with these targets resolved, each of which stands behind its dependencies.
+pub(crate) fn with_records(
+    alloc: Global,
+    mut tree: Tree,
+    targets: Vec<Label>,
+) -> Result<Tree, AllocError>
+    requires { HoldsRecords tree }
+    ensures { IfOk result HoldsRecords }
+{
+    let are_resolved = tree.resolve_all(alloc, &targets);
+    drop(targets);
+    match are_resolved {
+        Ok(_) => Ok(tree),
+        Err(error) => {
+            drop(tree);
+            Err(error)
+        }
+    }
 }
 
 /// The graph that a text describes, with all of its targets resolved.
@@ -169,9 +207,8 @@ pub(crate) fn resolved(alloc: Global, graph: &str) -> Result<Tree, Fail>
     ensures { IfOk result HoldsRecords }
 {
     let labels = labels(alloc, graph)?;
-    let mut tree = unresolved(alloc, graph)?;
-    tree.resolve_all(alloc, &labels)?;
-    Ok(tree)
+    let tree = unresolved(alloc, graph)?;
+    Ok(with_records(alloc, tree, labels)?)
 }
 
 fn is_named(label: &Label, name: Option<&str>) -> bool {

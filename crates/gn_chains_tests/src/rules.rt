@@ -106,19 +106,18 @@ pub(crate) fn is_forbidden<G: Marks>(
     row: &str,
 ) -> Result<bool, AllocError> {
     let target = label(alloc, part(row, '|', 2))?;
-    let labels = forbidden(alloc, part(row, '|', 0), &target, graph)?;
-    Ok(are_named(&labels, part(row, '|', 3)))
+    let found = forbidden(alloc, part(row, '|', 0), &target, graph);
+    drop(target);
+    let labels = found?;
+    let are_named = are_named(&labels, part(row, '|', 3));
+    drop(labels);
+    Ok(are_named)
 }
 
-fn forbids(alloc: Global, row: &str) -> Result<bool, Fail> {
+/// Whether the graph of a line forbids what it says.
+pub(crate) fn forbids(alloc: Global, row: &str) -> Result<bool, Fail> {
     let tree = unresolved(alloc, part(row, '|', 1))?;
-    Ok(is_forbidden(alloc, &tree, row)?)
-}
-
-#[test]
-fn rules_forbid(rt: HostRuntime) -> Result<(), Fail> {
-    for row in FORBIDDEN.split('\n') {
-        assert!(rt; forbids(rt.alloc(), row)?, "{row}");
-    }
-    Ok(())
+    let is_so = is_forbidden(alloc, &tree, row);
+    drop(tree);
+    Ok(is_so?)
 }

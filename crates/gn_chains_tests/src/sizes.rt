@@ -3,7 +3,7 @@
 ghost use Rattle.std.specs.Prelude.{IfOk};
 ghost use Rattle.gn_chains_tests.specs.Trees.{HoldsRecords};
 
-use crate::reading::label;
+use crate::reading::{insert, label, with_records};
 use crate::tree::{Item, Tree};
 use gn_cycles::shortest_cycle;
 use gn_labels::Label;
@@ -25,13 +25,17 @@ fn push(alloc: Global, list: &mut Vec<Label>, number: usize) -> Result<(), Alloc
     Ok(())
 }
 
-// The labels of numbers from the first to right before the end, the greatest first.
-fn downwards(alloc: Global, first: usize, end: usize) -> Result<Vec<Label>, AllocError> {
-    let mut labels = Vec::new(alloc);
+// Puts the labels of numbers from the first to right before the end behind others, the greatest first.
+fn push_downwards(
+    alloc: Global,
+    list: &mut Vec<Label>,
+    first: usize,
+    end: usize,
+) -> Result<(), AllocError> {
     for number in (first..end).rev() {
-        push(alloc, &mut labels, number)?;
+        push(alloc, list, number)?;
     }
-    Ok(labels)
+    Ok(())
 }
 
 // The labels of the numbers below an end.
@@ -51,14 +55,14 @@ fn kind_of(number: usize, last: usize) -> ItemKind {
     }
 }
 
-// An item that depends on so many right below it, and has one of ten public configurations.
-fn item(alloc: Global, number: usize, width: usize, last: usize) -> Result<Item, AllocError> {
-    let mut item = Item::new(alloc, kind_of(number, last));
-    item.public_deps = downwards(alloc, number.saturating_sub(width), number)?;
-    push(alloc, &mut item.public_configs, number % 10)?;
-    Ok(item)
+// Lets an item depend on so many right below it, and have one of ten public configurations.
+fn set(alloc: Global, item: &mut Item, number: usize, width: usize) -> Result<(), AllocError> {
+    let first = number.saturating_sub(width);
+    push_downwards(alloc, &mut item.public_deps, first, number)?;
+    push(alloc, &mut item.public_configs, number % 10)
 }
 
+// Puts the item of a number with others. It is put also where not all that it has could be set, which is an error.
 fn put(
     alloc: Global,
     items: &mut IndexMap<Label, Item>,
@@ -66,12 +70,12 @@ fn put(
     width: usize,
     last: usize,
 ) -> Result<(), AllocError> {
-    let item = item(alloc, number, width, last)?;
     let label = numbered(alloc, number)?;
-    match items.insert(label, item) {
-        Ok(_) => Ok(()),
-        Err(_) => Err(AllocError),
-    }
+    let mut item = Item::new(alloc, kind_of(number, last));
+    let is_set = set(alloc, &mut item, number, width);
+    let is_put = insert(items, label, item);
+    is_set?;
+    is_put
 }
 
 fn items(alloc: Global, last: usize, width: usize) -> Result<IndexMap<Label, Item>, AllocError> {
@@ -85,8 +89,8 @@ fn items(alloc: Global, last: usize, width: usize) -> Result<IndexMap<Label, Ite
 fn tree(alloc: Global, last: usize, width: usize) -> Result<Tree, AllocError>
     ensures { IfOk result HoldsRecords }
 {
-    let items = items(alloc, last, width)?;
     let default = Text::from_bytes(alloc, b"//t:t")?;
+    let items = items(alloc, last, width)?;
     Ok(Tree::new(alloc, default, items))
 }
 
@@ -95,14 +99,14 @@ fn resolved(alloc: Global, last: usize, width: usize) -> Result<Tree, AllocError
     ensures { IfOk result HoldsRecords }
 {
     let labels = upwards(alloc, last)?;
-    let mut tree = tree(alloc, last, width)?;
-    tree.resolve_all(alloc, &labels)?;
-    Ok(tree)
+    let tree = tree(alloc, last, width)?;
+    with_records(alloc, tree, labels)
 }
 
 // Whether these are all labels below the last, the greatest first.
 fn are_all(alloc: Global, labels: &[Label], last: usize) -> Result<bool, AllocError> {
-    let wanted = downwards(alloc, 0, last)?;
+    let mut wanted = Vec::new(alloc);
+    push_downwards(alloc, &mut wanted, 0, last)?;
     Ok(labels == wanted.as_slice())
 }
 
@@ -111,7 +115,11 @@ fn inherits_all(alloc: Global, tree: &Tree, target: &Label, last: usize) -> Resu
 {
     match tree.inherited(alloc, target)? {
         None => Ok(false),
-        Some(labels) => are_all(alloc, &labels, last),
+        Some(labels) => {
+            let are_all = are_all(alloc, &labels, last);
+            drop(labels);
+            are_all
+        }
     }
 }
 
@@ -129,7 +137,11 @@ fn has_ten(alloc: Global, tree: &Tree, target: &Label) -> Result<bool, AllocErro
 fn goes_through(alloc: Global, last: usize, width: usize) -> Result<bool, AllocError> {
     let target = numbered(alloc, last)?;
     let tree = resolved(alloc, last, width)?;
-    Ok(has_ten(alloc, &tree, &target)? && inherits_all(alloc, &tree, &target, last)?)
+    let has_ten = has_ten(alloc, &tree, &target);
+    let inherits_all = inherits_all(alloc, &tree, &target, last);
+    drop(tree);
+    drop(target);
+    Ok(has_ten? && inherits_all?)
 }
 
 #[test]
@@ -140,26 +152,38 @@ fn large_graphs_are_resolved(rt: HostRuntime) -> Result<(), Fail> {
     Ok(())
 }
 
-// The graph with a dependency of the first on the last.
-fn closed(alloc: Global, last: usize, width: usize) -> Result<Tree, AllocError> {
-    let mut first = Item::new(alloc, ItemKind::SourceSet);
-    push(alloc, &mut first.data_deps, last)?;
+// Lets the first depend on the last.
+fn close(alloc: Global, items: &mut IndexMap<Label, Item>, last: usize) -> Result<(), AllocError> {
     let label = numbered(alloc, 0)?;
-    let mut tree = tree(alloc, last, width)?;
-    match tree.items.insert(label, first) {
-        Ok(_) => Ok(tree),
-        Err(_) => Err(AllocError),
+    let mut first = Item::new(alloc, ItemKind::SourceSet);
+    let is_set = push(alloc, &mut first.data_deps, last);
+    let is_put = insert(items, label, first);
+    is_set?;
+    is_put
+}
+
+// How many edges the shortest cycle has on which a target lies; 0 where it lies on none.
+fn edges_of(alloc: Global, tree: &Tree, target: &Label) -> Result<usize, AllocError> {
+    match shortest_cycle(alloc, target, tree)? {
+        None => Ok(0),
+        Some(labels) => {
+            let edges = labels.len();
+            drop(labels);
+            Ok(edges)
+        }
     }
 }
 
 // Whether the shortest cycle on which the last lies has so many edges.
 fn goes_round(alloc: Global, last: usize, width: usize, edges: usize) -> Result<bool, AllocError> {
     let target = numbered(alloc, last)?;
-    let tree = closed(alloc, last, width)?;
-    match shortest_cycle(alloc, &target, &tree)? {
-        None => Ok(false),
-        Some(labels) => Ok(labels.len() == edges),
-    }
+    let mut tree = tree(alloc, last, width)?;
+    let is_closed = close(alloc, &mut tree.items, last);
+    let found = edges_of(alloc, &tree, &target);
+    drop(tree);
+    drop(target);
+    is_closed?;
+    Ok(found? == edges)
 }
 
 #[test]
