@@ -1,4 +1,5 @@
 pub mod Current
+pub mod Ahead
 pub mod Turns
 pub mod Ends
 pub mod Plain
