@@ -9,3 +9,5 @@ mod TakeLemmas
 mod EndLemmas
 mod SetupLemmas
 pub mod KeptLemmas
+mod KnownAhead
+mod RebasedDriver
