@@ -11,3 +11,4 @@ mod SetupLemmas
 pub mod KeptLemmas
 mod KnownAhead
 mod RebasedDriver
+mod AheadEnds
