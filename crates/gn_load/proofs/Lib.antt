@@ -9,3 +9,6 @@ mod TakeLemmas
 mod EndLemmas
 mod SetupLemmas
 pub mod KeptLemmas
+mod KnownAhead
+mod RebasedDriver
+mod AheadEnds
