@@ -1,6 +1,7 @@
 pub mod Current
+pub mod Turns
 pub mod Ahead
 pub mod Rebased
-pub mod Turns
 pub mod Ends
 pub mod Plain
+pub mod Rounds

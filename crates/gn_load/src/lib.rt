@@ -4,6 +4,8 @@
 mod ahead;
 mod current;
 mod driver;
+mod executed;
+mod found;
 mod plain;
 mod ready;
 mod round;

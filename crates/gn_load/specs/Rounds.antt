@@ -1,0 +1,72 @@
+-- What a round of looking ahead does.
+use Rattle.std.specs.Prelude.{◌≡◌, ℕ, ◌≤◌, List, [], ◌∷◌, Option, Some, None, Result, Ok, Err, true}
+use Rattle.gn_outside.specs.States.{SourceState}
+use Rattle.gn_outside.specs.Lists.{Each}
+use Rattle.gn_closure.specs.Reach.{Load}
+use Rattle.gn_executions.specs.Base.{BaseState}
+use Rattle.gn_core.specs.Keys.{Read, Unit_of, found, Filed}
+use Rattle.gn_core.specs.Layered.{IsPart}
+use Rattle.gn_book.specs.Graphs.{is_unit}
+use Rattle.gn_book.specs.Keys.{key_of}
+use Rattle.gn_book.specs.Logs.{state_of}
+use Rattle.gn_book.specs.declared.book.Claim.{Claim}
+use Rattle.gn_builds.specs.Working.{IsRightOver}
+use Rattle.gn_builds.specs.Driving.{with_claim, units_left, files_begun, IsOfLayer}
+use Rattle.gn_answers.specs.Answers.{content_view, meaning_of}
+use Rattle.gn_prepared.specs.declared.wanted.Wanted.{Wanted}
+use Rattle.gn_load.specs.Current.{layer_now}
+use Rattle.gn_load.specs.Turns.{Goes, IsStop}
+use Rattle.gn_load.specs.Plain.{HasBegun}
+use Rattle.gn_load.specs.Ahead.{IsStopAhead}
+use Rattle.gn_load.specs.Rebased.{IsRebased}
+use Rattle.gn_load.specs.declared.current.CurrentBase.{CurrentBase}
+use Rattle.gn_load.specs.declared.driver.Driver.{Driver}
+use Rattle.gn_load.specs.declared.driver.Stop.{Stop}
+use Rattle.gn_load.specs.declared.found.Found.{Found}
+use Rattle.gn_load.specs.declared.ready.Ready.{Ready}
+
+-- Files that are read ahead
+
+-- the build file is of the layer of the base, and its file isn't filed
+abbrev pub IsWanted : CurrentBase → Filed → Wanted → Type 0
+IsWanted b filed w = IsOfLayer (layer_now b) (key_of w.key) × (filed (Read w.path) ≡ None)
+
+-- some were read, and nothing else has changed of the driver
+pub record HasFound (known : List (List ℕ)) (before now : SourceState) (old new : Driver) (total : ℕ) (files : Found) : Type 0 where
+  pub goes : IsRebased known before now new [] total
+  pub base : new.base ≡ old.base
+  pub book : new.book ≡ old.book
+  pub waiting : new.waiting ≡ old.waiting
+  pub wanted : Each (IsWanted old.base (state_of old.book).filed) files.wanted.items
+
+abbrev pub FindsFiles : List (List ℕ) → SourceState → SourceState → Driver → Driver → ℕ → Result Found Stop → Type 0
+FindsFiles known before now old new total (Ok files) = HasFound known before now old new total files
+FindsFiles known before now old new total (Err s) = IsStopAhead old.base.start known before now s
+
+-- What was executed ahead
+
+-- it is right over more that is filed, where its file is filed with this content
+abbrev pub WillBeRight : BaseState → Filed → Ready → Type 0
+WillBeRight start filed r = (more : Filed) → IsPart filed more → more (key_of r.file) ≡ Some (found (content_view r.content))
+    → IsRightOver start more (Unit_of (Load r.directory r.toolchain)) (meaning_of r.answer)
+
+-- Loading what was executed
+
+-- the seat has claimed a unit, or nothing
+pub record IsGivenOut (known : List (List ℕ)) (before now : SourceState) (old new : Driver) (units : ℕ) (next : Option Claim) : Type 0 where
+  pub goes : Goes known before now new (with_claim next [])
+  pub start : new.base.start ≡ old.base.start
+  pub waiting : new.waiting ≡ old.waiting
+  pub counted : units ≡ files_begun new.book
+  pub left : units_left new.book ≤ units_left old.book
+  pub more : IsPart (state_of old.book).filed (state_of new.book).filed
+
+abbrev pub GivesOut : List (List ℕ) → SourceState → SourceState → Driver → Driver → ℕ → Result (Option Claim) Stop → Type 0
+GivesOut known before now old new units (Ok None) = IsGivenOut known before now old new units None
+GivesOut known before now old new units (Ok (Some c)) = IsGivenOut known before now old new units (Some c) × (is_unit (key_of c.key) ≡ true)
+GivesOut known before now old new units (Err s) = IsStop old.base.start known before now s × HasBegun old.base.start before units
+
+-- units were loaded
+abbrev pub LoadsMore : List (List ℕ) → SourceState → SourceState → Driver → Driver → ℕ → Result (Unit {0}) Stop → Type 0
+LoadsMore known before now old new units (Ok u) = IsGivenOut known before now old new units None × (new.waiting.items ≡ [])
+LoadsMore known before now old new units (Err s) = IsStop old.base.start known before now s × HasBegun old.base.start before units
