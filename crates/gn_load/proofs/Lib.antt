@@ -7,6 +7,7 @@ mod TurnLemmas
 mod PlainLemmas
 mod TakeLemmas
 mod EndLemmas
+mod FinishLemmas
 mod SetupLemmas
 pub mod KeptLemmas
 mod KnownAhead

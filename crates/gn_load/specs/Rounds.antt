@@ -17,7 +17,7 @@ use Rattle.gn_prepared.specs.declared.wanted.Wanted.{Wanted}
 use Rattle.gn_load.specs.Current.{layer_now}
 use Rattle.gn_load.specs.Turns.{Goes, IsStop}
 use Rattle.gn_load.specs.Plain.{HasBegun}
-use Rattle.gn_load.specs.Ahead.{IsStopAhead}
+use Rattle.gn_load.specs.Ahead.{GoesAhead, IsStopAhead}
 use Rattle.gn_load.specs.Rebased.{IsRebased}
 use Rattle.gn_load.specs.declared.current.CurrentBase.{CurrentBase}
 use Rattle.gn_load.specs.declared.driver.Driver.{Driver}
@@ -70,3 +70,16 @@ GivesOut known before now old new units (Err s) = IsStop old.base.start known be
 abbrev pub LoadsMore : List (List ℕ) → SourceState → SourceState → Driver → Driver → ℕ → Result (Unit {0}) Stop → Type 0
 LoadsMore known before now old new units (Ok u) = IsGivenOut known before now old new units None × (new.waiting.items ≡ [])
 LoadsMore known before now old new units (Err s) = IsStop old.base.start known before now s × HasBegun old.base.start before units
+
+-- A round, or none
+
+pub record IsLookedAhead (known : List (List ℕ)) (before now : SourceState) (old new : Driver) (units total : ℕ) : Type 0 where
+  pub goes : GoesAhead known before now new [] total
+  pub start : new.base.start ≡ old.base.start
+  pub waiting : new.waiting.items ≡ []
+  pub counted : units ≡ files_begun new.book
+  pub left : units_left new.book ≤ units_left old.book
+
+abbrev pub LooksAhead : List (List ℕ) → SourceState → SourceState → Driver → Driver → ℕ → ℕ → Result (Unit {0}) Stop → Type 0
+LooksAhead known before now old new units total (Ok u) = IsLookedAhead known before now old new units total
+LooksAhead known before now old new units total (Err s) = IsStopAhead old.base.start known before now s × HasBegun old.base.start before units

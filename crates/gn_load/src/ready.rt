@@ -1,4 +1,16 @@
-// Build files that were executed ahead: each is filed once its unit is claimed and its file is.
+// Build files that were executed ahead: what each leaves is filed once its unit is claimed, and its file is filed.
+
+ghost use Rattle.std.specs.Prelude.{◌≡◌, ◌∷◌, ℕ, List, Some, true};
+ghost use Rattle.gn_outside.specs.States.{SourceState};
+ghost use Rattle.gn_closure.specs.Reach.{Load};
+ghost use Rattle.gn_core.specs.Keys.{Unit_of, found};
+ghost use Rattle.gn_book.specs.Keys.{key_of};
+ghost use Rattle.gn_book.specs.Logs.{state_of};
+ghost use Rattle.gn_builds.specs.Stacks.{MayWait};
+ghost use Rattle.gn_builds.specs.Working.{IsRightOver};
+ghost use Rattle.gn_answers.specs.Answers.{content_view, meaning_of};
+ghost use Rattle.gn_load.specs.Turns.{Goes, IsTurn, IsFinish};
+ghost use Rattle.gn_load.specs.Rounds.{WillBeRight};
 
 use crate::driver::{Driver, Stop, finish, lifted, settle, turn};
 use gn_answers::{Answer, FileContent, Filed, find};
@@ -26,18 +38,28 @@ pub(crate) struct Ready {
     pub(crate) answer: Filed,
 }
 
+fn is_same_text(one: &[u8], other: &[u8]) -> bool
+    ensures { result ≡ true → one.now ≡ other.now }
+{
+    one == other
+}
+
 // Whether two contents are the bytes of files, and the same.
-fn is_same_content(one: &FileContent, other: &FileContent) -> bool {
+fn is_same_content(one: &FileContent, other: &FileContent) -> bool
+    ensures { result ≡ true → content_view one.now ≡ content_view other.now }
+{
     match (one, other) {
         (FileContent::Bytes(one), FileContent::Bytes(other)) => {
-            one.bytes.as_bytes() == other.bytes.as_bytes()
+            is_same_text(one.bytes.as_bytes(), other.bytes.as_bytes())
         }
         _ => false,
     }
 }
 
 // Whether this is filed where there is this content.
-fn is_content(filed: &Filed, content: &FileContent) -> bool {
+fn is_content(filed: &Filed, content: &FileContent) -> bool
+    ensures { result ≡ true → meaning_of filed.now ≡ found (content_view content.now) }
+{
     match filed {
         Filed::Content(found) => is_same_content(found, content),
         Filed::Import(_) => false,
@@ -47,7 +69,9 @@ fn is_content(filed: &Filed, content: &FileContent) -> bool {
 }
 
 // Whether the content over which a build file was executed ahead is filed.
-fn has_content(book: &Book<Answer>, ready: &Ready) -> bool {
+fn has_content(book: &Book<Answer>, ready: &Ready) -> bool
+    ensures { result ≡ true → (state_of book.now).filed (key_of ready.now.file) ≡ Some (found (content_view ready.now.content)) }
+{
     match find(book, &ready.file) {
         Some(filed) => is_content(filed, &ready.content),
         None => false,
@@ -55,11 +79,15 @@ fn has_content(book: &Book<Answer>, ready: &Ready) -> bool {
 }
 
 // Whether a key is that of the build file.
-fn is_key_of(key: &Key, ready: &Ready) -> bool {
+fn is_key_of(key: &Key, ready: &Ready) -> bool
+    ensures { result ≡ true → key_of key.now ≡ Unit_of (Load ready.now.directory ready.now.toolchain) }
+{
     match key {
         Key::Load(directory, toolchain) => {
-            directory.as_text().as_bytes() == ready.directory.as_text().as_bytes()
-                && toolchain.as_bytes() == ready.toolchain.as_bytes()
+            is_same_text(
+                directory.as_text().as_bytes(),
+                ready.directory.as_text().as_bytes(),
+            ) && is_same_text(toolchain.as_bytes(), ready.toolchain.as_bytes())
         }
         Key::Read(_) => false,
         Key::Import(..) => false,
@@ -75,10 +103,17 @@ fn finish_settled<S: Source>(
     claim: Claim,
     source: &mut S,
     answer: Filed,
-) -> Result<(), Stop> {
-    match lifted(settle(alloc, driver, claim, answer))? {
-        Some(claim) => finish(alloc, driver, claim, source),
-        None => Ok(()),
+) -> Result<(), Stop>
+    requires goes { (known : List (List ℕ)) × (before : SourceState) × Goes known before (S.state source.old) driver.old (claim ∷ driver.old.waiting.items) }
+    requires work { MayWait (key_of claim.key) }
+    requires right { IsRightOver driver.old.base.start (state_of driver.old.book).filed (key_of claim.key) (meaning_of answer) }
+    ensures { (known : List (List ℕ)) (before : SourceState) → Goes known before (S.state source.old) driver.old (claim ∷ driver.old.waiting.items) →
+        IsFinish known before (S.state source.new) driver.old driver.new result }
+{
+    match lifted(settle(alloc, driver, claim, answer)) {
+        Ok(Some(claim)) => finish(alloc, driver, claim, source),
+        Ok(None) => Ok(()),
+        Err(stop) => Err(stop),
     }
 }
 
@@ -89,7 +124,13 @@ fn finish_behind<S: Source>(
     claim: Claim,
     source: &mut S,
     ready: Ready,
-) -> Result<(), Stop> {
+) -> Result<(), Stop>
+    requires goes { (known : List (List ℕ)) × (before : SourceState) × Goes known before (S.state source.old) driver.old (claim ∷ driver.old.waiting.items) }
+    requires work { MayWait (key_of claim.key) }
+    requires right { WillBeRight driver.old.base.start (state_of driver.old.book).filed ready }
+    ensures { (known : List (List ℕ)) (before : SourceState) → Goes known before (S.state source.old) driver.old (claim ∷ driver.old.waiting.items) →
+        IsFinish known before (S.state source.new) driver.old driver.new result }
+{
     if is_key_of(&claim.key, &ready) && has_content(&driver.book, &ready) {
         finish_settled(alloc, driver, claim, source, ready.answer)
     } else {
@@ -104,7 +145,12 @@ fn first_turn<S: Source>(
     driver: &mut Driver,
     claim: Claim,
     source: &mut S,
-) -> Result<Option<Claim>, Stop> {
+) -> Result<Option<Claim>, Stop>
+    requires goes { (known : List (List ℕ)) × (before : SourceState) × Goes known before (S.state source.old) driver.old (claim ∷ driver.old.waiting.items) }
+    requires work { MayWait (key_of claim.key) }
+    ensures { (known : List (List ℕ)) (before : SourceState) → Goes known before (S.state source.old) driver.old (claim ∷ driver.old.waiting.items) →
+        IsTurn known before (S.state source.new) driver.old driver.new result }
+{
     let mut rests = VecDeque::new(alloc);
     turn(alloc, driver, claim, source, &mut rests)
 }
@@ -116,7 +162,13 @@ pub(crate) fn finish_ready<S: Source>(
     claim: Claim,
     source: &mut S,
     ready: Ready,
-) -> Result<(), Stop> {
+) -> Result<(), Stop>
+    requires goes { (known : List (List ℕ)) × (before : SourceState) × Goes known before (S.state source.old) driver.old (claim ∷ driver.old.waiting.items) }
+    requires work { MayWait (key_of claim.key) }
+    requires right { WillBeRight driver.old.base.start (state_of driver.old.book).filed ready }
+    ensures { (known : List (List ℕ)) (before : SourceState) → Goes known before (S.state source.old) driver.old (claim ∷ driver.old.waiting.items) →
+        IsFinish known before (S.state source.new) driver.old driver.new result }
+{
     match first_turn(alloc, driver, claim, source) {
         Ok(Some(claim)) => finish_behind(alloc, driver, claim, source, ready),
         Ok(None) => {

@@ -1,5 +1,16 @@
 // A round of looking ahead: build files that may be claimed are read and executed ahead, and then loaded one by one.
 
+ghost use Rattle.std.specs.Prelude.{◌≡◌, ◌+◌, ◌≤◌, [], ℕ, List, IfOk, true};
+ghost use Rattle.gn_outside.specs.Lists.{Each};
+ghost use Rattle.gn_outside.specs.States.{SourceState};
+ghost use Rattle.gn_core.specs.Machine.{read_limit};
+ghost use Rattle.gn_book.specs.Graphs.{UnitsHaveNumbers};
+ghost use Rattle.gn_book.specs.Logs.{state_of};
+ghost use Rattle.gn_builds.specs.Driving.{files_begun};
+ghost use Rattle.gn_load.specs.Turns.{Goes};
+ghost use Rattle.gn_load.specs.Ahead.{GoesAhead};
+ghost use Rattle.gn_load.specs.Rounds.{WillBeRight, GivesOut, LoadsMore, LooksAhead};
+
 use crate::driver::{Driver, MAX_PATHS, Stop};
 use crate::executed::execute;
 use crate::found::{find_from, is_open};
@@ -22,12 +33,17 @@ pub(crate) struct Ahead {
     pub(crate) total: usize,
 }
 
+// The seat, which has no claim, claims the build file of a number, if that has no answer yet.
 fn take_number(
     alloc: Global,
     driver: &mut Driver,
     number: KeyId,
     units: &mut u64,
-) -> Result<Option<Claim>, Stop> {
+) -> Result<Option<Claim>, Stop>
+    requires goes { (known : List (List ℕ)) × (before : SourceState) × (now : SourceState) × Goes known before now driver.old [] }
+    requires counted { units.old ≡ files_begun driver.old.book }
+    ensures { (known : List (List ℕ)) (before now : SourceState) → Goes known before now driver.old [] → GivesOut known before now driver.old driver.new units.new result }
+{
     number_units(driver)?;
     if is_open(driver, number) {
         Ok(Some(claim_unit(alloc, driver, number, units)?))
@@ -36,13 +52,21 @@ fn take_number(
     }
 }
 
+// A build file that was executed ahead is loaded.
 fn load_ready<S: Source>(
     alloc: Global,
     driver: &mut Driver,
     source: &mut S,
     units: &mut u64,
     ready: Ready,
-) -> Result<(), Stop> {
+) -> Result<(), Stop>
+    requires goes { (known : List (List ℕ)) × (before : SourceState) × Goes known before (S.state source.old) driver.old [] }
+    requires waiting { driver.old.waiting.items ≡ [] }
+    requires counted { units.old ≡ files_begun driver.old.book }
+    requires right { WillBeRight driver.old.base.start (state_of driver.old.book).filed ready }
+    ensures { (known : List (List ℕ)) (before : SourceState) → Goes known before (S.state source.old) driver.old [] →
+        LoadsMore known before (S.state source.new) driver.old driver.new units.new result }
+{
     match take_number(alloc, driver, ready.number, units) {
         Ok(Some(claim)) => finish_ready(alloc, driver, claim, source, ready),
         Ok(None) => {
@@ -63,7 +87,14 @@ fn load_all<S: Source>(
     source: &mut S,
     units: &mut u64,
     all: Vec<Ready>,
-) -> Result<(), Stop> {
+) -> Result<(), Stop>
+    requires goes { (known : List (List ℕ)) × (before : SourceState) × Goes known before (S.state source.old) driver.old [] }
+    requires waiting { driver.old.waiting.items ≡ [] }
+    requires counted { units.old ≡ files_begun driver.old.book }
+    requires right { Each (WillBeRight driver.old.base.start (state_of driver.old.book).filed) all.items }
+    ensures { (known : List (List ℕ)) (before : SourceState) → Goes known before (S.state source.old) driver.old [] →
+        LoadsMore known before (S.state source.new) driver.old driver.new units.new result }
+{
     let mut all = all;
     'files: while let Some(ready) = all.pop() {
         load_ready(alloc, driver, source, units, ready)?;
@@ -71,6 +102,7 @@ fn load_all<S: Source>(
     Ok(())
 }
 
+// Build files that may be claimed are read and executed ahead, and loaded one by one.
 fn round<R: Threads + Sync, S: Source>(
     rt: &R,
     alloc: Global,
@@ -78,7 +110,15 @@ fn round<R: Threads + Sync, S: Source>(
     source: &mut S,
     units: &mut u64,
     ahead: &mut Ahead,
-) -> Result<(), Stop> {
+) -> Result<(), Stop>
+    requires goes { (known : List (List ℕ)) × (before : SourceState) × GoesAhead known before (S.state source.old) driver.old [] ahead.old.total }
+    requires waiting { driver.old.waiting.items ≡ [] }
+    requires counted { units.old ≡ files_begun driver.old.book }
+    requires numbers { UnitsHaveNumbers driver.old.book }
+    requires few { ahead.old.total + driver.old.reads ≤ read_limit }
+    ensures { (known : List (List ℕ)) (before : SourceState) → GoesAhead known before (S.state source.old) driver.old [] ahead.old.total →
+        LooksAhead known before (S.state source.new) driver.old driver.new units.new ahead.new.total result }
+{
     ahead.total += driver.reads;
     driver.reads = 0;
     let found = find_from(alloc, driver, source, ahead.seen, &mut ahead.total)?;
@@ -87,6 +127,26 @@ fn round<R: Threads + Sync, S: Source>(
     load_all(alloc, driver, source, units, all)
 }
 
+// Whether more files may be read behind so many.
+#[tactic(auto, unfolding(gn_core::specs::Machine::read_limit))]
+fn may_read(total: usize, reads: usize) -> bool
+    requires { total ≤ read_limit }
+    ensures { result ≡ true → total + reads ≤ read_limit }
+{
+    reads < MAX_PATHS - total
+}
+
+// Whether it is worth while to look ahead.
+fn is_worth_while(driver: &Driver, ahead: &Ahead) -> bool
+    requires { ahead.now.total ≤ read_limit }
+    ensures { result ≡ true → ahead.now.total + driver.now.reads ≤ read_limit }
+{
+    driver.book.len().saturating_sub(ahead.seen) >= LEAST_KEYS
+        && may_read(ahead.total, driver.reads)
+}
+
+/// Where many keys have got numbers since this was done last, the build files among them that may be claimed are read ahead, several
+/// threads execute them, and they are loaded.
 pub(crate) fn look_ahead<R: Threads + Sync, S: Source>(
     rt: &R,
     alloc: Global,
@@ -94,9 +154,15 @@ pub(crate) fn look_ahead<R: Threads + Sync, S: Source>(
     source: &mut S,
     units: &mut u64,
     ahead: &mut Ahead,
-) -> Result<(), Stop> {
+) -> Result<(), Stop>
+    requires goes { (known : List (List ℕ)) × (before : SourceState) × GoesAhead known before (S.state source.old) driver.old [] ahead.old.total }
+    requires waiting { driver.old.waiting.items ≡ [] }
+    requires counted { units.old ≡ files_begun driver.old.book }
+    ensures { (known : List (List ℕ)) (before : SourceState) → GoesAhead known before (S.state source.old) driver.old [] ahead.old.total →
+        LooksAhead known before (S.state source.new) driver.old driver.new units.new ahead.new.total result }
+{
     number_units(driver)?;
-    if driver.book.len() - ahead.seen >= LEAST_KEYS && ahead.total + driver.reads < MAX_PATHS {
+    if is_worth_while(driver, ahead) {
         round(rt, alloc, driver, source, units, ahead)
     } else {
         Ok(())
