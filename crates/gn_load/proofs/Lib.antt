@@ -13,3 +13,4 @@ pub mod KeptLemmas
 mod KnownAhead
 mod RebasedDriver
 mod AheadEnds
+mod RoundLemmas

@@ -11,12 +11,12 @@ use Rattle.gn_book.specs.Keys.{key_of}
 use Rattle.gn_book.specs.Logs.{state_of}
 use Rattle.gn_book.specs.declared.book.Claim.{Claim}
 use Rattle.gn_builds.specs.Working.{IsRightOver}
-use Rattle.gn_builds.specs.Driving.{with_claim, units_left, files_begun, IsOfLayer}
+use Rattle.gn_builds.specs.Driving.{units_left, files_begun, IsOfLayer}
 use Rattle.gn_answers.specs.Answers.{content_view, meaning_of}
 use Rattle.gn_prepared.specs.declared.wanted.Wanted.{Wanted}
 use Rattle.gn_load.specs.Current.{layer_now}
 use Rattle.gn_load.specs.Turns.{Goes, IsStop}
-use Rattle.gn_load.specs.Plain.{HasBegun}
+use Rattle.gn_load.specs.Plain.{HasBegun, AreNumbered}
 use Rattle.gn_load.specs.Ahead.{GoesAhead, IsStopAhead}
 use Rattle.gn_load.specs.Rebased.{IsRebased}
 use Rattle.gn_load.specs.declared.current.CurrentBase.{CurrentBase}
@@ -52,23 +52,29 @@ WillBeRight start filed r = (more : Filed) → IsPart filed more → more (key_o
 
 -- Loading what was executed
 
--- the seat has claimed a unit, or nothing
-pub record IsGivenOut (known : List (List ℕ)) (before now : SourceState) (old new : Driver) (units : ℕ) (next : Option Claim) : Type 0 where
-  pub goes : Goes known before now new (with_claim next [])
+-- loading has gone on to these claims
+pub record HasGoneOn (known : List (List ℕ)) (before now : SourceState) (old new : Driver) (units : ℕ) (cs : List Claim) : Type 0 where
+  pub goes : Goes known before now new cs
   pub start : new.base.start ≡ old.base.start
-  pub waiting : new.waiting ≡ old.waiting
   pub counted : units ≡ files_begun new.book
   pub left : units_left new.book ≤ units_left old.book
   pub more : IsPart (state_of old.book).filed (state_of new.book).filed
 
+-- the seat has claimed a unit, or nothing
+pub record IsGivenOut (known : List (List ℕ)) (before now : SourceState) (old new : Driver) (units : ℕ) (c : Claim) : Type 0 where
+  pub on : HasGoneOn known before now old new units (c ∷ [])
+  pub waiting : new.waiting ≡ old.waiting
+  pub unit : is_unit (key_of c.key) ≡ true
+  pub numbered : AreNumbered new.book
+
 abbrev pub GivesOut : List (List ℕ) → SourceState → SourceState → Driver → Driver → ℕ → Result (Option Claim) Stop → Type 0
-GivesOut known before now old new units (Ok None) = IsGivenOut known before now old new units None
-GivesOut known before now old new units (Ok (Some c)) = IsGivenOut known before now old new units (Some c) × (is_unit (key_of c.key) ≡ true)
+GivesOut known before now old new units (Ok None) = HasGoneOn known before now old new units [] × (new.waiting ≡ old.waiting)
+GivesOut known before now old new units (Ok (Some c)) = IsGivenOut known before now old new units c
 GivesOut known before now old new units (Err s) = IsStop old.base.start known before now s × HasBegun old.base.start before units
 
 -- units were loaded
 abbrev pub LoadsMore : List (List ℕ) → SourceState → SourceState → Driver → Driver → ℕ → Result (Unit {0}) Stop → Type 0
-LoadsMore known before now old new units (Ok u) = IsGivenOut known before now old new units None × (new.waiting.items ≡ [])
+LoadsMore known before now old new units (Ok u) = HasGoneOn known before now old new units [] × (new.waiting.items ≡ [])
 LoadsMore known before now old new units (Err s) = IsStop old.base.start known before now s × HasBegun old.base.start before units
 
 -- A round, or none

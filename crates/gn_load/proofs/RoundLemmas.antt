@@ -1,0 +1,122 @@
+-- Rounds of looking ahead, by what their calls do.
+use Rattle.std.proofs.Common.{◌≡◌, ℕ, ◌+◌, ◌<◌, ◌≤◌, List, [], ◌∷◌, ◌++◌, Option, Some, None, true, Result, Ok, Err, refl, sym, ◌∙◌, ap, subst, arith}
+use Rattle.std.specs.Result.{IsErrAnd}
+use Rattle.gn_outside.specs.States.{SourceState}
+use Rattle.gn_executions.specs.Base.{BaseState}
+use Rattle.gn_core.specs.Layered.{IsPart}
+use Rattle.gn_book.specs.Graphs.{is_unit}
+use Rattle.gn_book.specs.Keys.{key_of}
+use Rattle.gn_book.specs.Logs.{state_of}
+use Rattle.gn_book.specs.declared.book.Claim.{Claim}
+use Rattle.gn_builds.specs.Driving.{units_left, files_begun}
+use Rattle.gn_ahead.specs.Ahead.{HasReadAll}
+use Rattle.gn_load.specs.Turns.{Goes, IsFinish, IsStop}
+use Rattle.gn_load.specs.Plain.{HasBegun, AreNumbered, HasNumbered, HasClaimed}
+use Rattle.gn_load.specs.Ahead.{GoesAhead, IsStopAhead}
+use Rattle.gn_load.specs.Rounds.{HasGoneOn, IsGivenOut, GivesOut, LoadsMore, WillBeRight}
+use Rattle.gn_load.specs.declared.current.CurrentBase.{CurrentBase}
+use Rattle.gn_load.specs.declared.driver.Driver.{Driver}
+use Rattle.gn_load.specs.declared.driver.Stop.{Stop}
+use Rattle.gn_load.specs.declared.driver.Stop.TheVariants.{Memory}
+use Rattle.gn_load.specs.declared.ready.Ready.{Ready}
+use Rattle.gn_load.proofs.AheadEnds.{begun_before}
+use Rattle.gn_load.proofs.PlainLemmas.{has_begun, finished_counted, finished_less}
+use Rattle.gn_load.proofs.RebasedDriver.{stop_ahead}
+use Rattle.gn_load.proofs.TurnLemmas.{goes_memory}
+
+-- Where files were read ahead
+
+pub goes_ahead_on : (known : List (List ℕ)) (before was now : SourceState) (old new : Driver) (cs ds : List Claim) (total : ℕ) (g : GoesAhead known before was old cs total) → new.base.start ≡ old.base.start → Goes (known ++ g.all) g.mid now new ds → GoesAhead known before now new ds total
+goes_ahead_on known before was now old new cs ds total g start goes = record {
+  all = g.all;
+  mid = g.mid;
+  has = subst (λ (b : BaseState). HasReadAll b known before g.mid g.all) (sym start) g.has;
+  goes = goes;
+  counted = g.counted;
+  few = g.few;
+}
+
+pub ahead_stops : (known : List (List ℕ)) (before was now : SourceState) (d : Driver) (cs : List Claim) (total units : ℕ) (g : GoesAhead known before was d cs total) (s : Stop) → IsStop d.base.start (known ++ g.all) g.mid now s × HasBegun d.base.start g.mid units
+    → IsStopAhead d.base.start known before now s × HasBegun d.base.start before units
+ahead_stops known before was now d cs total units g s stops =
+    (stop_ahead d.base.start known before g.mid now g.all g.has s stops.0, begun_before d.base.start before g.mid units g.has.tree stops.1)
+
+pub ahead_begun : (known : List (List ℕ)) (before now : SourceState) (d : Driver) (cs : List Claim) (total units : ℕ) → GoesAhead known before now d cs total → units ≡ files_begun d.book → HasBegun d.base.start before units
+ahead_begun known before now d cs total units g counted = begun_before d.base.start before g.mid units g.has.tree (has_begun (known ++ g.all) g.mid now d cs units g.goes counted)
+
+-- A unit is given out
+
+module _ (known : List (List ℕ)) (before now : SourceState) (old mid : Driver) (numbered : HasNumbered known before now old mid) where
+  mid_start : mid.base.start ≡ old.base.start
+  mid_start = ap (λ (b : CurrentBase). b.start) numbered.base
+
+  pub gives_nothing : (units : ℕ) → units ≡ files_begun old.book → GivesOut known before now old mid units (Ok None)
+  gives_nothing units counted = (
+    record { goes = numbered.goes; start = mid_start; counted = counted ∙ sym numbered.begun; left = numbered.left; more = numbered.more },
+    numbered.waiting,
+  )
+
+  pub gives_unit : (new : Driver) (units : ℕ) (c : Claim) → HasClaimed known before now mid new units c → GivesOut known before now old new units (Ok (Some c))
+  gives_unit new units c has = record {
+    on = record {
+      goes = has.goes;
+      start = has.start ∙ mid_start;
+      counted = has.counted;
+      left = (let here = has.left in let before = numbered.left in omega (arith, here, before));
+      more = λ k v h. has.more k v (numbered.more k v h);
+    };
+    waiting = has.waiting ∙ numbered.waiting;
+    unit = has.unit;
+    numbered = has.numbered;
+  }
+
+  pub gives_lost : (new : Driver) (units : ℕ) (r : Result (Option Claim) Stop) → IsErrAnd r (λ e. e ≡ Memory) → HasBegun mid.base.start before units → GivesOut known before now old new units r
+  gives_lost new units (Ok next) h begun = absurd h
+  gives_lost new units (Err e) h begun = (
+    subst (IsStop old.base.start known before now) (sym h) (subst (λ (b : BaseState). IsStop b known before now Memory) mid_start (goes_memory known before now mid [] numbered.goes)),
+    subst (λ (b : BaseState). HasBegun b before units) mid_start begun,
+  )
+
+pub gives_stop : (known : List (List ℕ)) (before now : SourceState) (old new : Driver) (units : ℕ) (r : Result (Option Claim) Stop) (s : Stop) → IsErrAnd r (λ e. e ≡ s) → IsStop old.base.start known before now s → HasBegun old.base.start before units → GivesOut known before now old new units r
+gives_stop known before now old new units (Ok next) s h stop begun = absurd h
+gives_stop known before now old new units (Err e) s h stop begun = (subst (IsStop old.base.start known before now) (sym h) stop, begun)
+
+-- It is finished
+module _ (known : List (List ℕ)) (before was now : SourceState) (old mid new : Driver) (c : Claim) (units : ℕ) (given : IsGivenOut known before was old mid units c) where
+  pub given_goes : old.waiting.items ≡ [] → Goes known before was mid (c ∷ mid.waiting.items)
+  given_goes none = subst (λ (cs : List Claim). Goes known before was mid (c ∷ cs)) (sym (ap (λ w. w.items) given.waiting ∙ none)) given.on.goes
+
+  pub given_right : (r : Ready) → WillBeRight old.base.start (state_of old.book).filed r → WillBeRight mid.base.start (state_of mid.book).filed r
+  given_right r right = subst (λ (b : BaseState). WillBeRight b (state_of mid.book).filed r) (sym given.on.start) (λ more part there. right more (λ k v h. part k v (given.on.more k v h)) there)
+
+  pub loads_one : (r : Result (Unit {0}) Stop) → IsFinish known before now mid new r → LoadsMore known before now old new units r
+  loads_one (Ok u) done = (
+    record {
+      goes = done.0.goes;
+      start = ap (λ (b : CurrentBase). b.start) done.0.base ∙ given.on.start;
+      counted = finished_counted known before was now mid new c units given.on.goes done.0 given.on.counted;
+      left = (let fewer = finished_less known before was now mid new c given.on.goes given.unit given.numbered done.0 in let before = given.on.left in omega (arith, fewer, before));
+      more = λ k v h. done.0.more k v (given.on.more k v h);
+    },
+    done.1,
+  )
+  loads_one (Err s) stop = (
+    subst (λ (b : BaseState). IsStop b known before now s) given.on.start stop,
+    subst (λ (b : BaseState). HasBegun b before units) given.on.start (has_begun known before was mid (c ∷ []) units given.on.goes given.on.counted),
+  )
+
+-- Some behind others
+
+pub goes_on_on : (known : List (List ℕ)) (before was now : SourceState) (old mid new : Driver) (units more : ℕ) (cs ds : List Claim) → HasGoneOn known before was old mid units cs → HasGoneOn known before now mid new more ds → HasGoneOn known before now old new more ds
+goes_on_on known before was now old mid new units more cs ds one two = record {
+  goes = two.goes;
+  start = two.start ∙ one.start;
+  counted = two.counted;
+  left = (let here = one.left in let there = two.left in omega (arith, here, there));
+  more = λ k v h. two.more k v (one.more k v h);
+}
+
+pub loads_stop : (known : List (List ℕ)) (before now : SourceState) (old mid new : Driver) (units : ℕ) (r : Result (Unit {0}) Stop) (s : Stop) → mid.base.start ≡ old.base.start → IsErrAnd r (λ e. e ≡ s) → IsStop mid.base.start known before now s × HasBegun mid.base.start before units → LoadsMore known before now old new units r
+loads_stop known before now old mid new units (Ok u) s start h stops = absurd h
+loads_stop known before now old mid new units (Err e) s start h stops =
+    (subst (λ (b : BaseState). IsStop b known before now e) start (subst (IsStop mid.base.start known before now) (sym h) stops.0), subst (λ (b : BaseState). HasBegun b before units) start stops.1)
