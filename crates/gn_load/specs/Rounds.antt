@@ -1,28 +1,33 @@
 -- What a round of looking ahead does.
-use Rattle.std.specs.Prelude.{◌≡◌, ℕ, ◌≤◌, List, [], ◌∷◌, Option, Some, None, Result, Ok, Err, true}
+use Rattle.std.specs.Prelude.{◌≡◌, ◌⊎◌, ℕ, ◌+◌, ◌<◌, ◌≤◌, List, [], ◌∷◌, Option, Some, None, Result, Ok, Err, true}
 use Rattle.gn_outside.specs.States.{SourceState}
 use Rattle.gn_outside.specs.Lists.{Each}
 use Rattle.gn_closure.specs.Reach.{Load}
 use Rattle.gn_executions.specs.Base.{BaseState}
 use Rattle.gn_core.specs.Keys.{Read, Unit_of, found, Filed}
 use Rattle.gn_core.specs.Layered.{IsPart}
+use Rattle.gn_core.specs.Machine.{read_limit}
 use Rattle.gn_book.specs.Graphs.{is_unit}
 use Rattle.gn_book.specs.Keys.{key_of}
 use Rattle.gn_book.specs.Logs.{state_of}
 use Rattle.gn_book.specs.declared.book.Claim.{Claim}
 use Rattle.gn_builds.specs.Working.{IsRightOver}
-use Rattle.gn_builds.specs.Driving.{units_left, files_begun, IsOfLayer}
+use Rattle.gn_builds.specs.Driving.{with_claim, units_left, files_begun, IsOfLayer}
+use Rattle.gn_builds.specs.Rest.{Rests, ReachesFew}
+use Rattle.gn_projects.specs.Errors.{too_large}
 use Rattle.gn_answers.specs.Answers.{content_view, meaning_of}
 use Rattle.gn_prepared.specs.declared.wanted.Wanted.{Wanted}
 use Rattle.gn_load.specs.Current.{layer_now}
 use Rattle.gn_load.specs.Turns.{Goes, IsStop}
-use Rattle.gn_load.specs.Plain.{HasBegun, AreNumbered}
+use Rattle.gn_load.specs.Plain.{HasBegun, AreNumbered, ComesNext, IsEndAt}
 use Rattle.gn_load.specs.Ahead.{GoesAhead, IsStopAhead}
 use Rattle.gn_load.specs.Rebased.{IsRebased}
 use Rattle.gn_load.specs.declared.current.CurrentBase.{CurrentBase}
 use Rattle.gn_load.specs.declared.driver.Driver.{Driver}
 use Rattle.gn_load.specs.declared.driver.Stop.{Stop}
 use Rattle.gn_load.specs.declared.found.Found.{Found}
+use Rattle.gn_load.specs.declared.plain.LoadEnd.{LoadEnd}
+use Rattle.gn_load.specs.declared.plain.LoadEnd.TheVariants as end
 use Rattle.gn_load.specs.declared.ready.Ready.{Ready}
 
 -- Files that are read ahead
@@ -89,3 +94,31 @@ pub record IsLookedAhead (known : List (List ℕ)) (before now : SourceState) (o
 abbrev pub LooksAhead : List (List ℕ) → SourceState → SourceState → Driver → Driver → ℕ → ℕ → Result (Unit {0}) Stop → Type 0
 LooksAhead known before now old new units total (Ok u) = IsLookedAhead known before now old new units total
 LooksAhead known before now old new units total (Err s) = IsStopAhead old.base.start known before now s × HasBegun old.base.start before units
+
+-- a unit was loaded, and perhaps others
+abbrev pub LoadsNext : List (List ℕ) → SourceState → SourceState → Driver → Driver → ℕ → ℕ → Result (Unit {0}) Stop → Type 0
+LoadsNext known before now old new units total (Ok u) = IsLookedAhead known before now old new units total × (units_left new.book < units_left old.book)
+LoadsNext known before now old new units total (Err s) = IsStopAhead old.base.start known before now s × HasBegun old.base.start before units
+
+-- All units
+
+pub record IsDrivingAhead (known : List (List ℕ)) (before now : SourceState) (d : Driver) (units total : ℕ) (next : Option Claim) : Type 0 where
+  pub goes : GoesAhead known before now d (with_claim next []) total
+  pub waiting : d.waiting.items ≡ []
+  pub numbered : AreNumbered d.book
+  pub counted : units ≡ files_begun d.book
+  pub comes : ComesNext d.book next
+
+pub record IsWhollyLoadedAhead (known : List (List ℕ)) (before now : SourceState) (d : Driver) (units total : ℕ) : Type 0 where
+  pub goes : GoesAhead known before now d [] total
+  pub rests : Rests d.base.start d.book
+  pub few : ReachesFew d.book
+  pub counted : units ≡ files_begun d.book
+
+abbrev pub IsDriveAhead : List (List ℕ) → SourceState → SourceState → Driver → Driver → ℕ → ℕ → Result (Unit {0}) Stop → Type 0
+IsDriveAhead known before now old d units total (Ok u) = IsWhollyLoadedAhead known before now d units total × (d.base.start ≡ old.base.start)
+IsDriveAhead known before now old d units total (Err s) = IsStopAhead old.base.start known before now s × HasBegun old.base.start before units
+
+-- the end of one that has come to rest: too many files were read, or it is by what was loaded
+abbrev pub IsEndAhead : Driver → ℕ → LoadEnd → Type 0
+IsEndAhead d total e = ((total + d.reads ≤ read_limit) × IsEndAt d.book e) ⊎ ((read_limit < total + d.reads) × (e ≡ end.Wrong too_large))

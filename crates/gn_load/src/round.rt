@@ -1,6 +1,7 @@
 // A round of looking ahead: build files that may be claimed are read and executed ahead, and then loaded one by one.
 
-ghost use Rattle.std.specs.Prelude.{◌≡◌, ◌+◌, ◌≤◌, [], ℕ, List, IfOk, true};
+ghost use Rattle.std.specs.Prelude.{◌≡◌, ◌+◌, ◌<◌, ◌≤◌, [], ℕ, List, true};
+ghost use Rattle.std.specs.Bool.{OnTrue, OnFalse};
 ghost use Rattle.gn_outside.specs.Lists.{Each};
 ghost use Rattle.gn_outside.specs.States.{SourceState};
 ghost use Rattle.gn_core.specs.Machine.{read_limit};
@@ -127,13 +128,14 @@ fn round<R: Threads + Sync, S: Source>(
     load_all(alloc, driver, source, units, all)
 }
 
-// Whether more files may be read behind so many.
+/// Whether so many reads behind others are no more in all than a build may ask for.
 #[tactic(auto, unfolding(gn_core::specs::Machine::read_limit))]
-fn may_read(total: usize, reads: usize) -> bool
+pub(crate) fn may_read(total: usize, reads: usize) -> bool
     requires { total ≤ read_limit }
-    ensures { result ≡ true → total + reads ≤ read_limit }
+    ensures few { OnTrue result (total + reads ≤ read_limit) }
+    ensures many { OnFalse result (read_limit < total + reads) }
 {
-    reads < MAX_PATHS - total
+    reads <= MAX_PATHS - total
 }
 
 // Whether it is worth while to look ahead.
