@@ -1,6 +1,7 @@
 -- Rounds of looking ahead, by what their calls do.
 use Rattle.std.proofs.Common.{◌≡◌, ℕ, ◌+◌, ◌<◌, ◌≤◌, List, [], ◌∷◌, ◌++◌, Option, Some, None, true, Result, Ok, Err, refl, sym, ◌∙◌, ap, subst, arith}
 use Rattle.std.specs.Result.{IsErrAnd}
+use Rattle.gn_outside.specs.Lists.{Each}
 use Rattle.gn_outside.specs.States.{SourceState}
 use Rattle.gn_executions.specs.Base.{BaseState}
 use Rattle.gn_core.specs.Layered.{IsPart}
@@ -120,3 +121,14 @@ pub loads_stop : (known : List (List ℕ)) (before now : SourceState) (old mid n
 loads_stop known before now old mid new units (Ok u) s start h stops = absurd h
 loads_stop known before now old mid new units (Err e) s start h stops =
     (subst (λ (b : BaseState). IsStop b known before now e) start (subst (IsStop mid.base.start known before now) (sym h) stops.0), subst (λ (b : BaseState). HasBegun b before units) start stops.1)
+
+-- what will be right over what is filed will be right later
+pub right_on : (known : List (List ℕ)) (before now : SourceState) (old new : Driver) (units : ℕ) (cs : List Claim) → HasGoneOn known before now old new units cs → (rs : List Ready) → Each (WillBeRight old.base.start (state_of old.book).filed) rs → Each (WillBeRight new.base.start (state_of new.book).filed) rs
+right_on known before now old new units cs gone [] each = tt
+right_on known before now old new units cs gone (r ∷ rs) each = (
+  subst (λ (b : BaseState). WillBeRight b (state_of new.book).filed r) (sym gone.start) (λ more part there. each.0 more (λ k v h. part k v (gone.more k v h)) there),
+  right_on known before now old new units cs gone rs each.1,
+)
+
+pub gone_nowhere : (known : List (List ℕ)) (before now : SourceState) (d : Driver) (units : ℕ) → Goes known before now d [] → units ≡ files_begun d.book → HasGoneOn known before now d d units []
+gone_nowhere known before now d units goes counted = record { goes = goes; start = refl; counted = counted; left = omega arith; more = λ k v h. h }

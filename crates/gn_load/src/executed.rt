@@ -8,6 +8,7 @@ use gn_book::KeyId;
 use gn_items::Key;
 use gn_prepared::{Wanted, prepare};
 use std::alloc::{AllocError, Global};
+use std::collections::VecDeque;
 use std::thread::Threads;
 
 // What a build file leaves that was executed ahead, if it leaves something.
@@ -30,12 +31,12 @@ fn all_ready(
     alloc: Global,
     mut found: Found,
     mut answers: Vec<Option<Filed>>,
-) -> Result<Vec<Ready>, AllocError> {
-    let mut all = Vec::new(alloc);
+) -> Result<VecDeque<Ready>, AllocError> {
+    let mut all = VecDeque::new(alloc);
     while let Some(wanted) = found.wanted.pop() {
         match (found.numbers.pop(), answers.pop()) {
             (Some(number), Some(answer)) => match ready_of(number, wanted, answer) {
-                Some(ready) => all.push(ready)?,
+                Some(ready) => all.push_front(ready)?,
                 None => {}
             },
             _ => {}
@@ -50,7 +51,7 @@ pub(crate) fn execute<R: Threads + Sync>(
     alloc: Global,
     driver: &Driver,
     found: Found,
-) -> Result<Vec<Ready>, AllocError> {
+) -> Result<VecDeque<Ready>, AllocError> {
     let answers = prepare(rt, alloc, driver.base.base(), &driver.book, &found.wanted)?;
     all_ready(alloc, found, answers)
 }

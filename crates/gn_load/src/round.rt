@@ -20,6 +20,7 @@ use crate::ready::{Ready, finish_ready};
 use gn_book::{Claim, KeyId};
 use gn_outside::Source;
 use std::alloc::Global;
+use std::collections::VecDeque;
 use std::thread::Threads;
 
 // From how many new keys on it is worth while to look ahead.
@@ -87,7 +88,7 @@ fn load_all<S: Source>(
     driver: &mut Driver,
     source: &mut S,
     units: &mut u64,
-    all: Vec<Ready>,
+    all: VecDeque<Ready>,
 ) -> Result<(), Stop>
     requires goes { (known : List (List ℕ)) × (before : SourceState) × Goes known before (S.state source.old) driver.old [] }
     requires waiting { driver.old.waiting.items ≡ [] }
@@ -97,7 +98,7 @@ fn load_all<S: Source>(
         LoadsMore known before (S.state source.new) driver.old driver.new units.new result }
 {
     let mut all = all;
-    'files: while let Some(ready) = all.pop() {
+    'files: while let Some(ready) = all.pop_front() {
         load_ready(alloc, driver, source, units, ready)?;
     }
     Ok(())

@@ -1,7 +1,11 @@
-//! Build files that are executed ahead by several threads, over what is filed and the bytes of their own files.
+//! Build files that are executed ahead by several threads, over what is filed and the content of their own files.
 #![tactic(auto)]
 
-mod part;
-mod prepare;
+mod prepared;
+mod shared;
+mod wanted;
+mod with_content;
 
-pub use prepare::{Wanted, prepare};
+pub use prepared::prepare;
+pub use wanted::Wanted;
+pub use with_content::contents_are_included;
