@@ -55,6 +55,14 @@ abbrev pub WillBeRight : BaseState → Filed → Ready → Type 0
 WillBeRight start filed r = (more : Filed) → IsPart filed more → more (key_of r.file) ≡ Some (found (content_view r.content))
     → IsRightOver start more (Unit_of (Load r.directory r.toolchain)) (meaning_of r.answer)
 
+-- some were executed, and nothing else has changed of the driver
+pub record HasReady (known : List (List ℕ)) (before now : SourceState) (old new : Driver) (total : ℕ) (files : List Ready) : Type 0 where
+  pub goes : IsRebased known before now new [] total
+  pub base : new.base ≡ old.base
+  pub book : new.book ≡ old.book
+  pub waiting : new.waiting ≡ old.waiting
+  pub right : Each (WillBeRight new.base.start (state_of new.book).filed) files
+
 -- Loading what was executed
 
 -- loading has gone on to these claims

@@ -86,7 +86,6 @@ fn ended_ahead(alloc: Global, driver: Driver, total: usize) -> Result<LoadEnd, A
     requires rest { Rests driver.base.start driver.book }
     requires few { ReachesFew driver.book }
     requires total { total ≤ read_limit }
-    requires reads { driver.reads ≤ read_limit }
     ensures { IfOk result (IsEndAhead driver total) }
 {
     if may_read(total, driver.reads) {

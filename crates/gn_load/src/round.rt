@@ -1,6 +1,6 @@
 // A round of looking ahead: build files that may be claimed are read and executed ahead, and then loaded one by one.
 
-ghost use Rattle.std.specs.Prelude.{◌≡◌, ◌+◌, ◌<◌, ◌≤◌, [], ℕ, List, true};
+ghost use Rattle.std.specs.Prelude.{◌≡◌, ◌+◌, ◌<◌, ◌≤◌, [], ℕ, List, IfOk, IfErr, true};
 ghost use Rattle.std.specs.Bool.{OnTrue, OnFalse};
 ghost use Rattle.gn_outside.specs.Lists.{Each};
 ghost use Rattle.gn_outside.specs.States.{SourceState};
@@ -9,8 +9,9 @@ ghost use Rattle.gn_book.specs.Graphs.{UnitsHaveNumbers};
 ghost use Rattle.gn_book.specs.Logs.{state_of};
 ghost use Rattle.gn_builds.specs.Driving.{files_begun};
 ghost use Rattle.gn_load.specs.Turns.{Goes};
-ghost use Rattle.gn_load.specs.Ahead.{GoesAhead};
-ghost use Rattle.gn_load.specs.Rounds.{WillBeRight, GivesOut, LoadsMore, LooksAhead};
+ghost use Rattle.gn_load.specs.Ahead.{GoesAhead, IsStopAhead};
+ghost use Rattle.gn_load.specs.Rebased.{IsRebased};
+ghost use Rattle.gn_load.specs.Rounds.{WillBeRight, HasReady, GivesOut, LoadsMore, LooksAhead};
 
 use crate::driver::{Driver, MAX_PATHS, Stop};
 use crate::executed::execute;
@@ -104,6 +105,41 @@ fn load_all<S: Source>(
     Ok(())
 }
 
+// The reads of the driver begin anew, and those so far are counted.
+#[tactic(auto, unfolding(gn_core::specs::Machine::read_limit))]
+fn count_reads(driver: &mut Driver, total: &mut usize)
+    requires { total.old + driver.old.reads ≤ read_limit }
+    ensures total { total.new ≡ total.old + driver.old.reads }
+    ensures reads { driver.new.reads ≡ 0 }
+    ensures base { driver.new.base ≡ driver.old.base }
+    ensures book { driver.new.book ≡ driver.old.book }
+    ensures waiting { driver.new.waiting ≡ driver.old.waiting }
+    ensures known { driver.new.known ≡ driver.old.known }
+{
+    *total += driver.reads;
+    driver.reads = 0;
+}
+
+// Build files from a number on that may be claimed are read and executed ahead.
+fn find_ready<R: Threads + Sync, S: Source>(
+    rt: &R,
+    alloc: Global,
+    driver: &mut Driver,
+    source: &mut S,
+    from: KeyId,
+    total: &mut usize,
+) -> Result<VecDeque<Ready>, Stop>
+    requires goes { (known : List (List ℕ)) × (before : SourceState) × IsRebased known before (S.state source.old) driver.old [] total.old }
+    requires numbers { UnitsHaveNumbers driver.old.book }
+    ensures ok { IfOk result (λ ready. (known : List (List ℕ)) (before : SourceState) → IsRebased known before (S.state source.old) driver.old [] total.old →
+        HasReady known before (S.state source.new) driver.old driver.new total.new ready.items) }
+    ensures err { IfErr result (λ stop. (known : List (List ℕ)) (before : SourceState) → IsRebased known before (S.state source.old) driver.old [] total.old →
+        IsStopAhead driver.old.base.start known before (S.state source.new) stop) }
+{
+    let found = find_from(alloc, driver, source, from, total)?;
+    Ok(execute(rt, alloc, driver, found)?)
+}
+
 // Build files that may be claimed are read and executed ahead, and loaded one by one.
 fn round<R: Threads + Sync, S: Source>(
     rt: &R,
@@ -121,12 +157,11 @@ fn round<R: Threads + Sync, S: Source>(
     ensures { (known : List (List ℕ)) (before : SourceState) → GoesAhead known before (S.state source.old) driver.old [] ahead.old.total →
         LooksAhead known before (S.state source.new) driver.old driver.new units.new ahead.new.total result }
 {
-    ahead.total += driver.reads;
-    driver.reads = 0;
-    let found = find_from(alloc, driver, source, ahead.seen, &mut ahead.total)?;
+    let from = ahead.seen;
     ahead.seen = driver.book.len();
-    let all = execute(rt, alloc, driver, found)?;
-    load_all(alloc, driver, source, units, all)
+    count_reads(driver, &mut ahead.total);
+    let ready = find_ready(rt, alloc, driver, source, from, &mut ahead.total)?;
+    load_all(alloc, driver, source, units, ready)
 }
 
 /// Whether so many reads behind others are no more in all than a build may ask for.
