@@ -1,5 +1,5 @@
 -- What the work on one claim comes to, outside the book: over some part of the answers that are filed.
-use Rattle.std.specs.Prelude.{◌≡◌, true, ◌⊎◌, ℕ, ◌<◌, List, [], ◌∷◌, Option, Result, Ok, Err}
+use Rattle.std.specs.Prelude.{◌≡◌, true, ◌⊎◌, ℕ, ◌<◌, List, [], ◌∷◌, Option, Some, None, Result, Ok, Err}
 use Rattle.gn_outside.specs.Tree.{Tree, read_of}
 use Rattle.gn_outside.specs.States.{SourceState, SourceRead}
 use Rattle.gn_outside.specs.Lists.{Extends}
@@ -12,6 +12,7 @@ use Rattle.gn_projects.specs.Files.{content_in}
 use Rattle.gn_builds.specs.Working.{IsRightOver, IsInNeed, AsksContent}
 use Rattle.gn_answers.specs.Answers.{meaning_of}
 use Rattle.gn_answers.specs.Bases.{IsBaseFor}
+use Rattle.gn_answers.specs.declared.answer.Filed.{Filed as FiledAnswer}
 use Rattle.gn_perform.specs.Kept.{asked_so_far, asked_for, KeepsOf}
 use Rattle.gn_perform.specs.declared.work.Performed.{Performed}
 use Rattle.gn_perform.specs.declared.work.Performed.TheVariants.{Answered, Needs}
@@ -27,6 +28,11 @@ IsPerformed start part k (Needs on place kept) =
 -- it is the work on a claim over a base, where the base is that of its key
 abbrev pub IsPerformedOver : BaseState → Filed → Key → Performed → Type 0
 IsPerformedOver base part k done = (start : BaseState) → IsBaseFor start part k base → IsPerformed start part k done
+
+-- an answer over it, where the work needs nothing else
+abbrev pub IsAnsweredOver : BaseState → Filed → Key → Option FiledAnswer → Type 0
+IsAnsweredOver base part k None = Unit {0}
+IsAnsweredOver base part k (Some answer) = IsPerformedOver base part k (Answered answer)
 
 -- what is kept is the rest of the execution of the key over this part, where it is to go on
 abbrev pub KeepsFor : BaseState → Filed → Named → Performed → Type 0

@@ -276,7 +276,7 @@ pub(crate) fn perform_setup<P: Part>(
 }
 
 /// The work on the claim of a build file, over a base and some part of what is filed.
-pub fn perform_load<P: Part>(
+pub(crate) fn perform_load<P: Part>(
     alloc: Global,
     base: &Base,
     part: &P,

@@ -5,6 +5,5 @@ mod evaluating;
 mod kept;
 mod work;
 
-pub use evaluating::perform_load;
 pub use kept::{Kept, KeyRest, Rest, asked_until, store, take_rest};
-pub use work::{Performed, perform};
+pub use work::{Performed, load_answer, perform};

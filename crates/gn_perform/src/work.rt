@@ -3,17 +3,18 @@
 ghost use Rattle.std.specs.Prelude.{◌≡◌, ℕ, List, IfOk, IfSome, Some};
 ghost use Rattle.gn_executions.specs.Base.{BaseState};
 ghost use Rattle.gn_outside.specs.Tree.{Tree};
-ghost use Rattle.gn_core.specs.Keys.{Read, Filed as Answers};
+ghost use Rattle.gn_core.specs.Keys.{Read, Unit_of, Key as Asked, Filed as Answers};
 ghost use Rattle.gn_book.specs.Keys.{key_of};
 ghost use Rattle.gn_perform.specs.Kept.{IsKeptOf};
-ghost use Rattle.gn_perform.specs.Performing.{IsPerformed, IsPerformedOver, KeepsFor, IsOfTree, IsWorkOf, HasWork, IsEvaluated};
+ghost use Rattle.gn_closure.specs.Reach.{Load as load};
+ghost use Rattle.gn_perform.specs.Performing.{IsPerformed, IsPerformedOver, IsAnsweredOver, KeepsFor, IsOfTree, IsWorkOf, HasWork, IsEvaluated};
 
 use crate::evaluating::{perform_import, perform_load, perform_setup};
 use crate::kept::{Kept, Rest};
 use gn_answers::{Filed, Part, PerformStop, read_content};
 use gn_items::Key;
 use gn_outside::Source;
-use gn_paths::{Path, Place};
+use gn_paths::{Path, Place, Text};
 use gn_unit::Base;
 use std::alloc::{AllocError, Global};
 
@@ -84,4 +85,29 @@ pub fn perform<P: Part, S: Source>(
         }
         Key::Resolve(_) => unreachable!(),
     }
+}
+
+// What the work on a claim has answered, where it needs nothing else.
+fn answer_in(done: Performed) -> Option<Filed>
+    ensures { (base : BaseState) (part : Answers) (key : Asked) → IsPerformedOver base part key done → IsAnsweredOver base part key result }
+{
+    match done {
+        Performed::Answered(answer) => Some(answer),
+        Performed::Needs(..) => None,
+    }
+}
+
+/// The answer of a build file, over a base and some part of the answers that are filed, before it is claimed: what the work on its
+/// claim comes to from its beginning. None comes where that needs another answer first. It reads nothing.
+pub fn load_answer<P: Part>(
+    alloc: Global,
+    base: &Base,
+    part: &P,
+    directory: &Path,
+    toolchain: &Text,
+) -> Result<Option<Filed>, AllocError>
+    ensures { IfOk result (IsAnsweredOver base.now (P.answers part.now) (Unit_of (load directory.now toolchain.now))) }
+{
+    let done = perform_load(alloc, base, part, directory, toolchain, None)?;
+    Ok(answer_in(done))
 }

@@ -1,0 +1,4 @@
+use Rattle.gn_prepared.proofs.shared.scopes_are_shared.Goals as goal
+
+pub returns : goal.returns
+returns c = record { shared = λ d b o κ. c.is_shared.ensures.shared d b o κ }
