@@ -12,20 +12,22 @@ use Rattle.gn_book.specs.declared.book.Claim.{Claim}
 use Rattle.gn_builds.specs.Driving.{with_claim, units_left, files_begun}
 use Rattle.gn_builds.specs.Rest.{BegunAreReached, ReachedAreCounted}
 use Rattle.gn_ahead.specs.Ahead.{HasReadAll}
+use Rattle.gn_load.specs.Current.{IsCurrent}
 use Rattle.gn_load.specs.Turns.{Goes, IsTurned, IsFinish, IsStop}
 use Rattle.gn_load.specs.Plain.{HasBegun, AreNumbered, HasNumbered, HasClaimed, IsTakenUp, IsLoadedAs, IsLoad}
 use Rattle.gn_load.specs.Ahead.{GoesAhead, IsStopAhead}
-use Rattle.gn_load.specs.Rounds.{HasGoneOn, IsGivenOut, GivesOut, LoadsMore, WillBeRight, LooksAhead, LoadsNext, IsDrivingAhead, IsWhollyLoadedAhead, IsDriveAhead, IsEndAhead}
+use Rattle.gn_load.specs.Rounds.{HasGoneOn, IsGivenOut, GivesOut, LoadsMore, IsWanted, HasFound, HasReady, WillBeRight, LooksAhead, LoadsNext, IsDrivingAhead, IsWhollyLoadedAhead, IsDriveAhead, IsEndAhead}
 use Rattle.gn_load.specs.declared.current.CurrentBase.{CurrentBase}
 use Rattle.gn_load.specs.declared.driver.Driver.{Driver}
 use Rattle.gn_load.specs.declared.driver.Stop.{Stop}
 use Rattle.gn_load.specs.declared.driver.Stop.TheVariants.{Memory}
+use Rattle.gn_load.specs.declared.found.Found.{Found}
 use Rattle.gn_load.specs.declared.plain.LoadEnd.{LoadEnd}
 use Rattle.gn_load.specs.declared.plain.LoadEnd.TheVariants as end
 use Rattle.gn_load.specs.declared.ready.Ready.{Ready}
 use Rattle.gn_load.proofs.AheadEnds.{begun_before, loaded_ahead, too_many_ahead, stopped_ahead}
 use Rattle.gn_load.proofs.PlainLemmas.{has_begun, finished_counted, finished_less}
-use Rattle.gn_load.proofs.RebasedDriver.{stop_ahead, ahead_memory}
+use Rattle.gn_load.proofs.RebasedDriver.{stop_ahead, ahead_memory, rebased_memory}
 use Rattle.gn_load.proofs.TurnLemmas.{goes_memory}
 
 -- Where files were read ahead
@@ -250,3 +252,16 @@ ended_loads begun reached known differ before now d units total whole (Ok e) (in
     subst (IsLoadedAs d.base.start known before now units) (sym is.1) (too_many_ahead begun reached known differ before now d units total whole.goes whole.rests whole.counted is.0)
 ended_loads begun reached known differ before now d units total whole (Err e) is =
     stopped_ahead begun reached d.base.start known differ before now units (ahead_begun known before now d [] total units whole.goes whole.counted) Memory end.Memory (ahead_memory known before now d [] total whole.goes) refl
+
+-- What was found and executed
+module _ (known : List (List ℕ)) (before now : SourceState) (old new : Driver) (total : ℕ) (files : Found) (has : HasFound known before now old new total files) where
+  found_wanted : Each (IsWanted new.base (state_of new.book).filed) files.wanted.items
+  found_wanted = subst (λ (b : CurrentBase). Each (IsWanted b (state_of new.book).filed) files.wanted.items) (sym has.base)
+      (subst (λ (l : Log). Each (IsWanted old.base (state_of l).filed) files.wanted.items) (sym has.book) has.wanted)
+
+  pub found_ready : (rs : List Ready) → (IsCurrent new.base (state_of new.book).filed → Each (IsWanted new.base (state_of new.book).filed) files.wanted.items → Each (WillBeRight new.base.start (state_of new.book).filed) rs)
+      → HasReady known before now old new total rs
+  found_ready rs right = record { goes = has.goes; base = has.base; book = has.book; waiting = has.waiting; right = right has.goes.goes.base found_wanted }
+
+  pub found_lost : IsStopAhead old.base.start known before now Memory
+  found_lost = subst (λ (b : CurrentBase). IsStopAhead b.start known before now Memory) has.base (rebased_memory known before now new [] total has.goes)

@@ -11,6 +11,9 @@ count_reads-requires g c = c.requires.few
 
 pub find_ready-requires-clause-goes : goal.find_ready-requires-clause-goes
 find_ready-requires-clause-goes g c =
-    let is = rebased c.requires.goes.0 c.requires.goes.1 (g.S.Source.state c.args.source.now) c.args.driver.now [] c.args.ahead.now.total c.requires.goes.2 c.count_reads.new.driver
-        c.count_reads.ensures.base c.count_reads.ensures.book (ap (λ m. m.entries) c.count_reads.ensures.known) c.count_reads.ensures.reads c.requires.few in
-    (c.requires.goes.0, c.requires.goes.1, is)
+    let counts = c.count_reads.ensures in
+    (c.requires.goes.0, c.requires.goes.1,
+    rw counts.total (rebased c.requires.goes.0 c.requires.goes.1 (g.S.Source.state c.args.source.now) c.args.driver.now [] c.args.ahead.now.total c.requires.goes.2 c.count_reads.new.driver counts.base counts.book (ap (λ m. m.entries) counts.known) counts.reads c.requires.few))
+
+pub find_ready-requires-clause-numbers : goal.find_ready-requires-clause-numbers
+find_ready-requires-clause-numbers g c = subst (λ (l : Log). UnitsHaveNumbers l) (sym c.count_reads.ensures.book) c.requires.numbers

@@ -1,0 +1,1 @@
+use Rattle.gn_load.proofs.ready.first_turn.Goals as goal
