@@ -1,10 +1,11 @@
 -- Rounds of looking ahead, by what their calls do.
-use Rattle.std.proofs.Common.{◌≡◌, ℕ, ◌+◌, ◌<◌, ◌≤◌, List, [], ◌∷◌, ◌++◌, Option, Some, None, true, Result, Ok, Err, IfOk, inl, inr, refl, sym, ◌∙◌, ap, subst, arith}
+use Rattle.std.proofs.Common.{◌≡◌, ℕ, ◌+◌, ◌<◌, ◌≤◌, List, [], ◌∷◌, ◌++◌, Option, Some, None, true, Result, Ok, Err, IfOk, IfErr, inl, inr, refl, sym, ◌∙◌, ap, subst, arith}
 use Rattle.std.specs.Result.{IsErrAnd}
 use Rattle.gn_outside.specs.Lists.{AllDiffer, Each}
 use Rattle.gn_outside.specs.States.{SourceState}
 use Rattle.gn_executions.specs.Base.{BaseState}
 use Rattle.gn_core.specs.Layered.{IsPart}
+use Rattle.gn_core.specs.Machine.{read_limit}
 use Rattle.gn_book.specs.Graphs.{is_unit}
 use Rattle.gn_book.specs.Keys.{key_of}
 use Rattle.gn_book.specs.Logs.{Log, state_of}
@@ -14,7 +15,7 @@ use Rattle.gn_builds.specs.Rest.{BegunAreReached, ReachedAreCounted}
 use Rattle.gn_ahead.specs.Ahead.{HasReadAll}
 use Rattle.gn_load.specs.Current.{IsCurrent}
 use Rattle.gn_load.specs.Turns.{Goes, IsTurned, IsFinish, IsStop}
-use Rattle.gn_load.specs.Plain.{HasBegun, AreNumbered, HasNumbered, HasClaimed, IsTakenUp, IsLoadedAs, IsLoad}
+use Rattle.gn_load.specs.Plain.{HasBegun, AreNumbered, HasNumbered, HasClaimed, IsTakenUp, IsEndAt, IsLoadedAs, IsLoad}
 use Rattle.gn_load.specs.Ahead.{GoesAhead, IsStopAhead}
 use Rattle.gn_load.specs.Rounds.{HasGoneOn, IsGivenOut, GivesOut, LoadsMore, IsWanted, HasFound, HasReady, WillBeRight, LooksAhead, LoadsNext, IsDrivingAhead, IsWhollyLoadedAhead, IsDriveAhead, IsEndAhead}
 use Rattle.gn_load.specs.declared.current.CurrentBase.{CurrentBase}
@@ -265,3 +266,16 @@ module _ (known : List (List ℕ)) (before now : SourceState) (old new : Driver)
 
   pub found_lost : IsStopAhead old.base.start known before now Memory
   found_lost = subst (λ (b : CurrentBase). IsStopAhead b.start known before now Memory) has.base (rebased_memory known before now new [] total has.goes)
+
+-- what leaves a function by its error
+pub err_there : {T E : Type 0} (P : E → Type 0) (r : Result T E) (s : E) → IsErrAnd r (λ e. e ≡ s) → P s → IfErr r P
+err_there P (Ok x) s h is = absurd h
+err_there P (Err e) s h is = subst P (sym h) is
+
+pub err_not_ok : {T E : Type 0} (P : T → Type 0) (r : Result T E) (s : E) → IsErrAnd r (λ e. e ≡ s) → IfOk r P
+err_not_ok P (Ok x) s h = absurd h
+err_not_ok P (Err e) s h = tt
+
+pub ends_within : {E : Type 0} (d : Driver) (total : ℕ) → total + d.reads ≤ read_limit → (r : Result LoadEnd E) → IfOk r (IsEndAt d.book) → IfOk r (IsEndAhead d total)
+ends_within d total few (Ok e) is = inl (few, is)
+ends_within d total few (Err e) is = tt

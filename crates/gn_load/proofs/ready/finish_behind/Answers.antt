@@ -4,9 +4,3 @@ use Rattle.gn_book.specs.Logs.{state_of}
 use Rattle.gn_answers.specs.Answers.{meaning_of}
 use Rattle.gn_builds.specs.Working.{IsRightOver}
 use Rattle.gn_load.proofs.ready.finish_behind.Goals as goal
-
-pub finish_settled-requires-clause-goes : goal.finish_settled-requires-clause-goes
-finish_settled-requires-clause-goes g c = c.requires.goes
-
-pub finish-requires-clause-goes : goal.finish-requires-clause-goes
-finish-requires-clause-goes g c = c.requires.goes

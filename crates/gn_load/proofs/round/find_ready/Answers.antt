@@ -1,5 +1,5 @@
 use Rattle.std.proofs.Common.{[], refl}
-use Rattle.gn_load.proofs.RoundLemmas.{found_ready, found_lost}
+use Rattle.gn_load.proofs.RoundLemmas.{found_ready, found_lost, err_there, err_not_ok}
 use Rattle.gn_load.proofs.round.find_ready.Goals as goal
 
 pub find_from-requires-clause-goes : goal.find_from-requires-clause-goes
@@ -7,3 +7,9 @@ find_from-requires-clause-goes g c = c.requires.goes
 
 pub find_from-requires-clause-numbers : goal.find_from-requires-clause-numbers
 find_from-requires-clause-numbers g c = c.requires.numbers
+
+pub returns-in_err-found-clause-ok : goal.returns-in_err-found-clause-ok
+returns-in_err-found-clause-ok g c = err_not_ok _ c.from_residual.result _ c.from_residual.ensures.1
+
+pub returns-in_err-found-clause-err : goal.returns-in_err-found-clause-err
+returns-in_err-found-clause-err g c = err_there _ c.from_residual.result _ c.from_residual.ensures.1 c.in_err-found.ensures
