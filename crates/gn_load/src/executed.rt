@@ -1,5 +1,11 @@
 // Build files that were read ahead are executed by several threads.
 
+ghost use Rattle.std.specs.Prelude.{IfOk};
+ghost use Rattle.gn_outside.specs.Lists.{Each};
+ghost use Rattle.gn_book.specs.Logs.{state_of};
+ghost use Rattle.gn_load.specs.Current.{IsCurrent};
+ghost use Rattle.gn_load.specs.Rounds.{IsWanted, WillBeRight};
+
 use crate::driver::Driver;
 use crate::found::Found;
 use crate::ready::Ready;
@@ -51,7 +57,10 @@ pub(crate) fn execute<R: Threads + Sync>(
     alloc: Global,
     driver: &Driver,
     found: Found,
-) -> Result<VecDeque<Ready>, AllocError> {
+) -> Result<VecDeque<Ready>, AllocError>
+    ensures { IfOk result (λ ready. IsCurrent driver.now.base (state_of driver.now.book).filed → Each (IsWanted driver.now.base (state_of driver.now.book).filed) found.wanted.items →
+        Each (WillBeRight driver.now.base.start (state_of driver.now.book).filed) ready.items) }
+{
     let answers = prepare(rt, alloc, driver.base.base(), &driver.book, &found.wanted)?;
     all_ready(alloc, found, answers)
 }

@@ -137,7 +137,8 @@ fn find_ready<R: Threads + Sync, S: Source>(
         IsStopAhead driver.old.base.start known before (S.state source.new) stop) }
 {
     let found = find_from(alloc, driver, source, from, total)?;
-    Ok(execute(rt, alloc, driver, found)?)
+    let ready = execute(rt, alloc, driver, found)?;
+    Ok(ready)
 }
 
 // Build files that may be claimed are read and executed ahead, and loaded one by one.

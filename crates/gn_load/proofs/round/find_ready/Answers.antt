@@ -13,3 +13,6 @@ returns-in_err-found-clause-ok g c = err_not_ok _ c.from_residual.result _ c.fro
 
 pub returns-in_err-found-clause-err : goal.returns-in_err-found-clause-err
 returns-in_err-found-clause-err g c = err_there _ c.from_residual.result _ c.from_residual.ensures.1 c.in_err-found.ensures
+
+pub returns-in_err-ready-clause-ok : goal.returns-in_err-ready-clause-ok
+returns-in_err-ready-clause-ok g c = err_not_ok _ c.from_residual-in_err-ready.result _ c.from_residual-in_err-ready.ensures.1
