@@ -14,3 +14,4 @@ mod KnownAhead
 mod RebasedDriver
 mod AheadEnds
 mod RoundLemmas
+mod FoundLemmas

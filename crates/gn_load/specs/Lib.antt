@@ -5,3 +5,4 @@ pub mod Rebased
 pub mod Ends
 pub mod Plain
 pub mod Rounds
+pub mod Found

@@ -64,4 +64,3 @@ pub(crate) fn execute<R: Threads + Sync>(
     let answers = prepare(rt, alloc, driver.base.base(), &driver.book, &found.wanted)?;
     all_ready(alloc, found, answers)
 }
-

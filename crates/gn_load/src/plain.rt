@@ -114,7 +114,11 @@ pub(crate) fn claim_unit(
 }
 
 /// The seat, which has no claim, takes up what comes next. Nothing comes where all is loaded.
-pub(crate) fn take_up(alloc: Global, driver: &mut Driver, units: &mut u64) -> Result<Option<Claim>, Stop>
+pub(crate) fn take_up(
+    alloc: Global,
+    driver: &mut Driver,
+    units: &mut u64,
+) -> Result<Option<Claim>, Stop>
     requires goes { (known : List (List ℕ)) × (before : SourceState) × (now : SourceState) × Goes known before now driver.old [] }
     requires counted { units.old ≡ files_begun driver.old.book }
     ensures { (known : List (List ℕ)) (before now : SourceState) → Goes known before now driver.old [] → TakesUp known before now driver.old driver.new units.new result }

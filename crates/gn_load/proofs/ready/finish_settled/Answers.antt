@@ -12,7 +12,7 @@ finish-requires-clause-goes g c =
     let known = c.requires.goes.0 in
     let before = c.requires.goes.1 in
     let turned = settled_turn known before (g.S.Source.state c.args.source.now) c.args.driver.now c.args.claim c.requires.goes.2 c.settle.new.driver (meaning_of c.args.answer) c.requires.work c.requires.right
-        c.settle.result (Ok (Some c.in-Ok-Some.claim)) c.settle.ensures (rw c.in-Ok-Some.field-0-is at c.in-Ok-Some.ensures) in
+    c.settle.result (Ok (Some c.in-Ok-Some.claim)) c.settle.ensures (rw c.in-Ok-Some.field-0-is at c.in-Ok-Some.ensures) in
     (known, before, turned.0.goes)
 
 pub finish-requires-clause-work : goal.finish-requires-clause-work
@@ -26,7 +26,7 @@ returns-in-Ok-Some g c = λ known before goes.
     let old = c.args.driver.now in
     let mid = c.settle.new.driver in
     let turned = settled_turn known before now old c.args.claim goes mid (meaning_of c.args.answer) c.requires.work c.requires.right
-        c.settle.result (Ok (Some c.in-Ok-Some.claim)) c.settle.ensures (rw c.in-Ok-Some.field-0-is at c.in-Ok-Some.ensures) in
+    c.settle.result (Ok (Some c.in-Ok-Some.claim)) c.settle.ensures (rw c.in-Ok-Some.field-0-is at c.in-Ok-Some.ensures) in
     finish_on known before now (g.S.Source.state c.finish.new.source) old mid c.finish.new.driver (c.in-Ok-Some.claim ∷ mid.waiting.items) c.finish.result turned.0 (c.finish.ensures known before turned.0.goes)
 
 pub returns-in-Ok-None : goal.returns-in-Ok-None

@@ -41,7 +41,7 @@ load_all-requires-clause-goes g c =
     let before = c.requires.goes.1 in
     let mid = c.count_reads.new.driver in
     let has = c.in_ok-ready.ensures.ok known before
-        (subst (λ (n : ℕ). IsRebased known before was mid [] n) (sym counts.total) (rebased known before was c.args.driver.now [] c.args.ahead.now.total c.requires.goes.2 mid counts.base counts.book (ap (λ m. m.entries) counts.known) counts.reads c.requires.few)) in
+    (subst (λ (n : ℕ). IsRebased known before was mid [] n) (sym counts.total) (rebased known before was c.args.driver.now [] c.args.ahead.now.total c.requires.goes.2 mid counts.base counts.book (ap (λ m. m.entries) counts.known) counts.reads c.requires.few)) in
     (known ++ has.goes.all, g.S.Source.state c.find_ready.new.source, has.goes.goes)
 
 pub load_all-requires-clause-waiting : goal.load_all-requires-clause-waiting
@@ -52,7 +52,7 @@ load_all-requires-clause-waiting g c =
     let before = c.requires.goes.1 in
     let mid = c.count_reads.new.driver in
     let has = c.in_ok-ready.ensures.ok known before
-        (subst (λ (n : ℕ). IsRebased known before was mid [] n) (sym counts.total) (rebased known before was c.args.driver.now [] c.args.ahead.now.total c.requires.goes.2 mid counts.base counts.book (ap (λ m. m.entries) counts.known) counts.reads c.requires.few)) in
+    (subst (λ (n : ℕ). IsRebased known before was mid [] n) (sym counts.total) (rebased known before was c.args.driver.now [] c.args.ahead.now.total c.requires.goes.2 mid counts.base counts.book (ap (λ m. m.entries) counts.known) counts.reads c.requires.few)) in
     ap (λ w. w.items) has.waiting ∙ ap (λ w. w.items) counts.waiting ∙ c.requires.waiting
 
 pub load_all-requires-clause-counted : goal.load_all-requires-clause-counted
@@ -63,7 +63,7 @@ load_all-requires-clause-counted g c =
     let before = c.requires.goes.1 in
     let mid = c.count_reads.new.driver in
     let has = c.in_ok-ready.ensures.ok known before
-        (subst (λ (n : ℕ). IsRebased known before was mid [] n) (sym counts.total) (rebased known before was c.args.driver.now [] c.args.ahead.now.total c.requires.goes.2 mid counts.base counts.book (ap (λ m. m.entries) counts.known) counts.reads c.requires.few)) in
+    (subst (λ (n : ℕ). IsRebased known before was mid [] n) (sym counts.total) (rebased known before was c.args.driver.now [] c.args.ahead.now.total c.requires.goes.2 mid counts.base counts.book (ap (λ m. m.entries) counts.known) counts.reads c.requires.few)) in
     c.requires.counted ∙ ap files_begun (sym (has.book ∙ counts.book))
 
 pub load_all-requires-clause-right : goal.load_all-requires-clause-right
@@ -74,7 +74,7 @@ load_all-requires-clause-right g c =
     let before = c.requires.goes.1 in
     let mid = c.count_reads.new.driver in
     let has = c.in_ok-ready.ensures.ok known before
-        (subst (λ (n : ℕ). IsRebased known before was mid [] n) (sym counts.total) (rebased known before was c.args.driver.now [] c.args.ahead.now.total c.requires.goes.2 mid counts.base counts.book (ap (λ m. m.entries) counts.known) counts.reads c.requires.few)) in
+    (subst (λ (n : ℕ). IsRebased known before was mid [] n) (sym counts.total) (rebased known before was c.args.driver.now [] c.args.ahead.now.total c.requires.goes.2 mid counts.base counts.book (ap (λ m. m.entries) counts.known) counts.reads c.requires.few)) in
     has.right
 
 pub returns : goal.returns
@@ -84,6 +84,6 @@ returns g c = λ known before goes.
     let then = g.S.Source.state c.find_ready.new.source in
     let mid = c.count_reads.new.driver in
     let has = c.in_ok-ready.ensures.ok known before
-        (subst (λ (n : ℕ). IsRebased known before was mid [] n) (sym counts.total) (rebased known before was c.args.driver.now [] c.args.ahead.now.total goes mid counts.base counts.book (ap (λ m. m.entries) counts.known) counts.reads c.requires.few)) in
+    (subst (λ (n : ℕ). IsRebased known before was mid [] n) (sym counts.total) (rebased known before was c.args.driver.now [] c.args.ahead.now.total goes mid counts.base counts.book (ap (λ m. m.entries) counts.known) counts.reads c.requires.few)) in
     loads_looked known before then (g.S.Source.state c.load_all.new.source) c.args.driver.now c.find_ready.new.driver c.load_all.new.driver _ c.load_all.new.units (rebased_goes known before then c.find_ready.new.driver [] _ has.goes)
     (has.base ∙ counts.base) (has.book ∙ counts.book) c.load_all.result (c.load_all.ensures (known ++ has.goes.all) then has.goes.goes)
