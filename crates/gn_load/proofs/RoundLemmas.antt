@@ -248,7 +248,7 @@ drive_ahead_stops known before now old mid d units total (Err e) s same h stops 
 
 -- the end where all is loaded
 pub ended_loads : {E : Type 0} → BegunAreReached → ReachedAreCounted → (known : List (List ℕ)) → AllDiffer known → (before now : SourceState) (d : Driver) (units total : ℕ) → IsWhollyLoadedAhead known before now d units total → (r : Result LoadEnd E) → IfOk r (IsEndAhead d total) → IsLoad d.base.start known before now units r
-ended_loads begun reached known differ before now d units total whole (Ok e) (inl is) = loaded_ahead begun reached known differ before now d units total whole.goes whole.rests whole.counted is.0 (Ok e) is.1
+ended_loads begun reached known differ before now d units total whole (Ok e) (inl is) = loaded_ahead begun reached known differ before now d units total whole.goes whole.rests whole.counted {E = Unit {0}} is.0 (Ok e) is.1
 ended_loads begun reached known differ before now d units total whole (Ok e) (inr is) =
     subst (IsLoadedAs d.base.start known before now units) (sym is.1) (too_many_ahead begun reached known differ before now d units total whole.goes whole.rests whole.counted is.0)
 ended_loads begun reached known differ before now d units total whole (Err e) is =

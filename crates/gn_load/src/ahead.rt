@@ -1,6 +1,6 @@
 // Loading by one seat, for which several threads execute build files ahead.
 
-ghost use Rattle.std.specs.Prelude.{◌≡◌, ◌∷◌, ◌+◌, ◌<◌, ◌≤◌, [], List, ℕ, Some, IfOk, true};
+ghost use Rattle.std.specs.Prelude.{◌≡◌, ◌∷◌, ◌≤◌, [], List, ℕ, Some, IfOk, true};
 ghost use Rattle.gn_outside.specs.Tree.{Tree};
 ghost use Rattle.gn_outside.specs.Lists.{AllDiffer};
 ghost use Rattle.gn_outside.specs.States.{SourceState};
@@ -17,7 +17,7 @@ ghost use Rattle.gn_load.specs.Plain.{Agrees, AreNumbered, IsLoad};
 ghost use Rattle.gn_projects.specs.Errors.{too_large as too_large_fault};
 ghost use Rattle.gn_load.specs.Rounds.{LoadsNext, IsDriveAhead, IsEndAhead};
 
-use crate::driver::{Driver, MAX_PATHS, Stop, finish};
+use crate::driver::{Driver, Stop, finish};
 use crate::plain::{LoadEnd, Plain, end_or_memory, ended, start, stopped, take_up};
 use crate::round::{Ahead, look_ahead, may_read};
 use gn_bases::{Known, Setup};

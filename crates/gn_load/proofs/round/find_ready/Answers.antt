@@ -16,3 +16,11 @@ returns-in_err-found-clause-err g c = err_there _ c.from_residual.result _ c.fro
 
 pub returns-in_err-ready-clause-ok : goal.returns-in_err-ready-clause-ok
 returns-in_err-ready-clause-ok g c = err_not_ok _ c.from_residual-in_err-ready.result _ c.from_residual-in_err-ready.ensures.1
+
+pub returns-in_err-ready-clause-err : goal.returns-in_err-ready-clause-err
+returns-in_err-ready-clause-err g c = err_there _ c.from_residual-in_err-ready.result _ c.from_residual-in_err-ready.ensures.1
+    (λ known before is. found_lost known before (g.S.Source.state c.find_from.new.source) c.args.driver.now c.find_from.new.driver c.find_from.new.total c.in_ok-found.found (c.in_ok-found.ensures known before is))
+
+pub returns-clause-ok : goal.returns-clause-ok
+returns-clause-ok g c = λ known before is.
+    found_ready known before (g.S.Source.state c.find_from.new.source) c.args.driver.now c.find_from.new.driver c.find_from.new.total c.in_ok-found.found (c.in_ok-found.ensures known before is) c.in_ok-ready.ready.items c.in_ok-ready.ensures

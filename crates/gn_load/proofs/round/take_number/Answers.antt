@@ -13,7 +13,7 @@ is_open-requires c =
     let known = c.requires.goes.0 in
     let before = c.requires.goes.1 in
     let now = c.requires.goes.2 in
-    (known, before, now, (c.in_ok-number_units.ensures known before now c.requires.goes.3).goes)
+    record { goes = (known, before, now, (c.in_ok-number_units.ensures known before now c.requires.goes.3).goes) }
 
 pub claim_unit-requires-clause-goes : goal.claim_unit-requires-clause-goes
 claim_unit-requires-clause-goes c =
@@ -38,16 +38,16 @@ claim_unit-requires-clause-counted c =
     let now = c.requires.goes.2 in
     mid_counted known before now c.args.driver.now c.number_units.new.driver (c.in_ok-number_units.ensures known before now c.requires.goes.3) c.args.units.now c.requires.counted
 
-pub returns-in_err-claim_unit-then-is_open : goal.returns-in_err-claim_unit-then-is_open
-returns-in_err-claim_unit-then-is_open c = λ known before now goes.
+pub returns-in_err-claim_unit : goal.returns-in_err-claim_unit
+returns-in_err-claim_unit c = λ known before now goes.
     let numbered = c.in_ok-number_units.ensures known before now goes in
-    gives_lost known before now c.args.driver.now c.number_units.new.driver numbered c.claim_unit.new.driver c.claim_unit.new.units c.from_residual-in_err-claim_unit-then-is_open.result c.from_residual-in_err-claim_unit-then-is_open.ensures.1
-    (c.in_err-claim_unit-then-is_open.ensures known before now numbered.goes)
+    gives_lost known before now c.args.driver.now c.number_units.new.driver numbered c.claim_unit.new.driver c.claim_unit.new.units c.from_residual-in_err-claim_unit.result c.from_residual-in_err-claim_unit.ensures.1
+    (c.in_err-claim_unit.ensures known before now numbered.goes)
 
-pub returns-in_ok-claim_unit-then-is_open : goal.returns-in_ok-claim_unit-then-is_open
-returns-in_ok-claim_unit-then-is_open c = λ known before now goes.
+pub returns-in_ok-claim_unit : goal.returns-in_ok-claim_unit
+returns-in_ok-claim_unit c = λ known before now goes.
     let numbered = c.in_ok-number_units.ensures known before now goes in
-    gives_unit known before now c.args.driver.now c.number_units.new.driver numbered c.claim_unit.new.driver c.claim_unit.new.units _ (c.in_ok-claim_unit-then-is_open.ensures known before now numbered.goes)
+    gives_unit known before now c.args.driver.now c.number_units.new.driver numbered c.claim_unit.new.driver c.claim_unit.new.units _ (c.in_ok-claim_unit.ensures known before now numbered.goes)
 
 pub returns-else-is_open : goal.returns-else-is_open
 returns-else-is_open c = λ known before now goes.
