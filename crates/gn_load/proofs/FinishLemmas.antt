@@ -1,12 +1,9 @@
 -- A unit is finished behind some turns.
-use Rattle.std.proofs.Common.{◌≡◌, ℕ, List, [], ◌∷◌, Option, Some, None, Result, Ok, Err, sym, ap, subst}
+use Rattle.std.proofs.Common.{ℕ, List, [], None, Result, Ok, Err, sym, subst}
 use Rattle.gn_outside.specs.States.{SourceState}
-use Rattle.gn_core.specs.Keys.{Key, Filed}
-use Rattle.gn_core.specs.Layered.{IsPart}
 use Rattle.gn_book.specs.Logs.{state_of}
 use Rattle.gn_book.specs.declared.book.Claim.{Claim}
-use Rattle.gn_builds.specs.Driving.{with_claim}
-use Rattle.gn_load.specs.Turns.{Goes, IsTurned, IsTurn, IsFinish, IsStop}
+use Rattle.gn_load.specs.Turns.{IsTurned, IsTurn, IsFinish, IsStop}
 use Rattle.gn_load.specs.Rounds.{WillBeRight}
 use Rattle.gn_load.specs.declared.current.CurrentBase.{CurrentBase}
 use Rattle.gn_load.specs.declared.driver.Driver.{Driver}

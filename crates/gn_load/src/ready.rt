@@ -38,6 +38,7 @@ pub(crate) struct Ready {
     pub(crate) answer: Filed,
 }
 
+// Whether two texts are the same.
 fn is_same_text(one: &[u8], other: &[u8]) -> bool
     ensures { result ≡ true → one.now ≡ other.now }
 {

@@ -1,4 +1,4 @@
-use Rattle.std.proofs.Common.{◌∷◌, Ok, Some, None}
+use Rattle.std.proofs.Common.{◌∷◌}
 use Rattle.gn_load.proofs.FinishLemmas.{finish_on, finish_none, right_behind}
 use Rattle.gn_load.proofs.ready.finish_ready.Goals as goal
 

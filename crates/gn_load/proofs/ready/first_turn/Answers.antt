@@ -1,1 +1,0 @@
-use Rattle.gn_load.proofs.ready.first_turn.Goals as goal
