@@ -15,9 +15,10 @@ use Rattle.gn_projects.specs.Files.{Files, files_of}
 use Rattle.gn_projects.specs.Worlds.{world_of}
 use Rattle.gn_projects.specs.Errors.{too_large}
 use Rattle.gn_projects.specs.Computed.{faults_of, least_of}
-use Rattle.gn_projects.specs.Loaded.{Build, Failure, Exactly, UpTo, IsCount, AreReached, files_reached, loaded_by, loaded}
+use Rattle.gn_projects.specs.Loaded.{Build, Exactly, UpTo, IsCount, AreReached, files_reached, loaded_by, loaded}
+use Rattle.gn_builds.specs.Driving.{files_begun}
 use Rattle.gn_builds.proofs.Begins.{no_log, starts_going, nothing_numbered}
-use Rattle.gn_builds.specs.Rest.{IsAtRest, Rests, IsSmall, ReachesFew, HasLargeImport, build_left, IsWithinLimits, LargeImportsAreTooLarge, TooManyAreTooLarge, RestIsJudged, BegunAreReached, RestCountsFiles, ReachedAreCounted, RestIsBuilt, NumberedAreAsked}
+use Rattle.gn_builds.specs.Rest.{IsAtRest, Rests, IsSmall, ReachesFew, HasLargeImport, build_left, IsWithinLimits, LargeImportsAreTooLarge, TooManyAreTooLarge, RestIsJudged, BegunAreReached, RestCountsFiles, ReachedAreCounted, RestIsBuilt, ReadsAsked, NumberedAreAsked}
 use Rattle.gn_builds.proofs.ReadPaths.{reads_still}
 use Rattle.gn_builds.proofs.Units.{files_at_first}
 use Rattle.gn_load.specs.Turns.{IsStop}
@@ -106,6 +107,33 @@ module _ (begun : BegunAreReached) (large : LargeImportsAreTooLarge) (is_judged 
   ends_at (judged.Right parts) (inr is) (end.Failed path) by = absurd by
   ends_at (judged.Right parts) (inr is) end.Memory by = absurd by
 
+-- where it has come to rest, and no more files were read than a build may ask for
+module _ (begun : BegunAreReached) (reached : ReachedAreCounted) (base : BaseState) (known : List (List ℕ)) (before now : SourceState) (l : Log) (units : ℕ) (has : HasBegun base before units) (counted : units ≡ files_begun l) (rest : (tree : Tree) → before.tree ≡ Some tree → IsAtRest (files_of base tree) l) (small : IsSmall known l) (reads : ReadsAsked base known before now) (faults : now.faults ≡ before.faults) where
+  end_at_rest : (e : LoadEnd) → IsEndAt l e → IsLoadedAs base known before now units e
+  end_at_rest (end.Built built) is = record {
+    end = λ tree told. (let done = is known (files_of base tree) (rest tree told) small in (done.is, counted ∙ done.counted));
+    reads = reads;
+    faults = faults;
+  }
+  end_at_rest (end.Wrong fault) is = record {
+    end = λ tree told. (
+        let done = is known (files_of base tree) (rest tree told) small in
+        (done.failure, done.is, done.fault, subst (λ (n : ℕ). IsCount n done.failure.units) (sym counted) done.counted)
+        );
+    reads = reads;
+    faults = faults;
+  }
+  end_at_rest (end.Failed path) is = absurd is
+  end_at_rest end.Memory is = absurd is
+
+  -- or memory was wanting then
+  lost_at_rest : IsLoadedAs base known before now units end.Memory
+  lost_at_rest = record { end = λ tree told. are_within begun base before units has tree told reached known; reads = reads; faults = faults }
+
+  pub loads_at_rest : {E : Type 0} (r : Result LoadEnd E) → IfOk r (IsEndAt l) → IsLoad base known before now units r
+  loads_at_rest (Ok e) is = end_at_rest e is
+  loads_at_rest (Err e) is = lost_at_rest
+
 -- where all is loaded
 module _ (asked : NumberedAreAsked) (begun : BegunAreReached) (reached : ReachedAreCounted) (known : List (List ℕ)) (differ : AllDiffer known) (before now : SourceState) (d : Driver) (units : ℕ) (whole : IsWhollyLoaded known before now d units) where
   abbrev base : BaseState
@@ -120,34 +148,9 @@ module _ (asked : NumberedAreAsked) (begun : BegunAreReached) (reached : Reached
   lost : IsStop base known before now stop.Memory
   lost = goes_memory known before now d [] whole.goes
 
-  loaded_end : (e : LoadEnd) → IsEndAt d.book e → IsLoadedAs base known before now units e
-  loaded_end (end.Built built) is = record {
-    end = λ tree told. (let done = is known (files_of base tree) (rest_over tree told) few_read in (done.is, whole.counted ∙ done.counted));
-    reads = asked base known before now differ lost.0;
-    faults = lost.1;
-  }
-  loaded_end (end.Wrong fault) is = record {
-    end = λ tree told. (
-        let done = is known (files_of base tree) (rest_over tree told) few_read in
-        (done.failure, done.is, done.fault, subst (λ (n : ℕ). IsCount n done.failure.units) (sym whole.counted) done.counted)
-        );
-    reads = asked base known before now differ lost.0;
-    faults = lost.1;
-  }
-  loaded_end (end.Failed path) is = absurd is
-  loaded_end end.Memory is = absurd is
-
-  -- or memory was wanting then
-  loaded_lost : IsLoadedAs base known before now units end.Memory
-  loaded_lost = record {
-    end = λ tree told. are_within begun base before units (has_begun known before now d [] units whole.goes whole.counted) tree told reached known;
-    reads = asked base known before now differ lost.0;
-    faults = lost.1;
-  }
-
   pub loaded_as : {E : Type 0} (r : Result LoadEnd E) → IfOk r (IsEndAt d.book) → IsLoad base known before now units r
-  loaded_as (Ok e) is = loaded_end e is
-  loaded_as (Err e) is = loaded_lost
+  loaded_as r is =
+      loads_at_rest begun reached base known before now d.book units (has_begun known before now d [] units whole.goes whole.counted) whole.counted rest_over few_read (asked base known before now differ lost.0) lost.1 r is
 
 -- where it was stopped
 module _ (asked : NumberedAreAsked) (begun : BegunAreReached) (reached : ReachedAreCounted) (large : TooManyAreTooLarge) (base : BaseState) (known : List (List ℕ)) (differ : AllDiffer known) (before now : SourceState) (units : ℕ) (has : HasBegun base before units) where

@@ -7,5 +7,11 @@ mod TurnLemmas
 mod PlainLemmas
 mod TakeLemmas
 mod EndLemmas
+mod FinishLemmas
 mod SetupLemmas
 pub mod KeptLemmas
+mod KnownAhead
+mod RebasedDriver
+mod AheadEnds
+mod RoundLemmas
+mod FoundLemmas

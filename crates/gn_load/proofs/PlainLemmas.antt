@@ -10,6 +10,7 @@ use Rattle.gn_graph.specs.Needs.{home}
 use Rattle.gn_executions.specs.Base.{BaseState}
 use Rattle.gn_core.specs.Keys.{early, Key, Read, Import, Unit_of, Resolve, Filed, units}
 use Rattle.gn_core.specs.Machine.{State, Cause, Claim as Claims, happens, replay}
+use Rattle.gn_core.specs.Layered.{IsPart}
 use Rattle.gn_book.specs.Keys.{key_of}
 use Rattle.gn_book.specs.Graphs.{is_unit, UnitsHaveNumbers, HasMoreKeys, OnlyUnitsAreNew}
 use Rattle.gn_book.specs.Logs.{Log, KeysDiffer, opening, state_of, key_at, with_event, first_cause}
@@ -89,6 +90,7 @@ module _ (known : List (List ℕ)) (before now : SourceState) (old new : Driver)
     numbered = record { numbers = numbers; few = few };
     begun = files_numbered old.base.start old.book new.book goes.going.driven going.driven more;
     left = numbered_left old.book new.book goes.going.driven.apart more;
+    more = subst (λ (s : State). IsPart (state_of old.book).filed s.filed) (sym (ap (replay opening) more.events)) (λ k v h. h);
   }
 
   -- or too many are reached
@@ -193,6 +195,7 @@ module _ (known : List (List ℕ)) (before now : SourceState) (old new : Driver)
       numbered = subst AreNumbered (sym book) begun_numbered;
       counted = begun_files units more counted is ∙ ap files_begun (sym book);
       left = (let same = ap units_left book ∙ claimed_left old.book (key_at old.book n) in omega (arith, same));
+      more = subst (λ (l : Log). IsPart (state_of old.book).filed (state_of l).filed) (sym book) (subst (λ (f : Filed). IsPart (state_of old.book).filed f) (sym same_filed) (λ k v h. h));
     }
 
 pub claim_lost : {E : Type 0} (P : E → Type 0) (known : List (List ℕ)) (before now : SourceState) (old new : Driver) (units : ℕ) (r : Result Claim E) → IsErrAnd r P → HasBegun old.base.start before units → ClaimsUnit known before now old new units r

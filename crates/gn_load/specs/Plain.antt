@@ -7,9 +7,10 @@ use Rattle.gn_outside.specs.Lists.{Each}
 use Rattle.gn_executions.specs.Base.{BaseState}
 use Rattle.gn_core.specs.Keys.{Key}
 use Rattle.gn_core.specs.Machine.{IsOver}
+use Rattle.gn_core.specs.Layered.{IsPart}
 use Rattle.gn_book.specs.Keys.{key_of}
 use Rattle.gn_book.specs.Graphs.{is_unit, UnitsHaveNumbers}
-use Rattle.gn_book.specs.Logs.{Log}
+use Rattle.gn_book.specs.Logs.{Log, state_of}
 use Rattle.gn_book.specs.Next.{NextIs}
 use Rattle.gn_book.specs.declared.book.Claim.{Claim}
 use Rattle.gn_book.specs.declared.next.Next.TheVariants.{Quiet}
@@ -68,6 +69,7 @@ pub record HasNumbered (known : List (List ℕ)) (before now : SourceState) (old
   pub numbered : AreNumbered new.book
   pub begun : files_begun new.book ≡ files_begun old.book
   pub left : units_left new.book ≤ units_left old.book
+  pub more : IsPart (state_of old.book).filed (state_of new.book).filed
 
 abbrev pub NumbersUnits : List (List ℕ) → SourceState → SourceState → Driver → Driver → Result (Unit {0}) Stop → Type 0
 NumbersUnits known before now old new (Ok u) = HasNumbered known before now old new
@@ -82,6 +84,7 @@ pub record HasClaimed (known : List (List ℕ)) (before now : SourceState) (old 
   pub numbered : AreNumbered new.book
   pub counted : units ≡ files_begun new.book
   pub left : units_left new.book ≤ units_left old.book
+  pub more : IsPart (state_of old.book).filed (state_of new.book).filed
 
 abbrev pub ClaimsUnit : {E : Type 0} → List (List ℕ) → SourceState → SourceState → Driver → Driver → ℕ → Result Claim E → Type 0
 ClaimsUnit known before now old new units (Ok c) = HasClaimed known before now old new units c

@@ -49,8 +49,8 @@ impl CurrentBase {
         }
     }
 
-    // Whether it is that of a layer.
-    fn is_of(&self, when: When, toolchain: &Text) -> bool
+    /// Whether it is that of a layer.
+    pub(crate) fn is_of(&self, when: When, toolchain: &Text) -> bool
         ensures { result ≡ same_layer (layer_now self.now) (layer_at when toolchain.now) }
     {
         match (self.when, when) {

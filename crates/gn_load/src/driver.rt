@@ -28,8 +28,8 @@ use gn_perform::{Kept, KeyRest, Performed, asked_until, perform, store, take_res
 use std::alloc::{AllocError, Global};
 use std::collections::VecDeque;
 
-// No build asks for more paths.
-const MAX_PATHS: usize = 2_097_152;
+/// No build asks for more paths.
+pub(crate) const MAX_PATHS: usize = 2_097_152;
 
 /// What ends loading before all is loaded.
 #[derive(Drop)]
@@ -103,8 +103,8 @@ fn take(
     }
 }
 
-// Want of memory ends loading.
-fn lifted(next: Result<Option<Claim>, AllocError>) -> Result<Option<Claim>, Stop>
+/// Want of memory ends loading.
+pub(crate) fn lifted(next: Result<Option<Claim>, AllocError>) -> Result<Option<Claim>, Stop>
     ensures { IsLifted next result }
 {
     match next {
@@ -113,8 +113,8 @@ fn lifted(next: Result<Option<Claim>, AllocError>) -> Result<Option<Claim>, Stop
     }
 }
 
-// The answer of the first claim is filed, and the one behind it goes on.
-fn settle(
+/// The answer of the first claim is filed, and the one behind it goes on.
+pub(crate) fn settle(
     alloc: Global,
     driver: &mut Driver,
     claim: Claim,

@@ -1,10 +1,16 @@
 //! Loading a build by one seat.
 #![tactic(auto)]
 
+mod ahead;
 mod current;
 mod driver;
+mod executed;
+mod found;
 mod plain;
+mod ready;
+mod round;
 
+pub use ahead::load_ahead;
 pub use gn_answers::PerformStop;
 pub use gn_perform::{Performed, perform};
 pub use plain::{LoadEnd, Plain, load_plain};

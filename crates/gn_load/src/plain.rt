@@ -53,8 +53,8 @@ pub struct Plain {
     pub units: u64,
 }
 
-// Before anything is claimed.
-fn start(alloc: Global, base: Base, known: Known) -> Result<Driver, AllocError>
+/// Before anything is claimed.
+pub(crate) fn start(alloc: Global, base: Base, known: Known) -> Result<Driver, AllocError>
     ensures { IfOk result (IsStarted base known.entries) }
 {
     let book = Book::new(alloc, 1)?;
@@ -80,8 +80,8 @@ fn file_count(key: &Key) -> u64
     }
 }
 
-// The units that are reached get numbers, unless more are reached than in a build may be.
-fn number_units(driver: &mut Driver) -> Result<(), Stop>
+/// The units that are reached get numbers, unless more are reached than in a build may be.
+pub(crate) fn number_units(driver: &mut Driver) -> Result<(), Stop>
     ensures { (known : List (List ℕ)) (before now : SourceState) → Goes known before now driver.old [] → NumbersUnits known before now driver.old driver.new result }
 {
     driver.book.number_reached()?;
@@ -93,8 +93,8 @@ fn number_units(driver: &mut Driver) -> Result<(), Stop>
     }
 }
 
-// The seat, which has no claim, claims a unit that is ready. Build files are counted.
-fn claim_unit(
+/// The seat, which has no claim, claims a unit that is ready. Build files are counted.
+pub(crate) fn claim_unit(
     alloc: Global,
     driver: &mut Driver,
     number: KeyId,
@@ -113,8 +113,12 @@ fn claim_unit(
     Ok(claim)
 }
 
-// The seat, which has no claim, takes up what comes next. Nothing comes where all is loaded.
-fn take_up(alloc: Global, driver: &mut Driver, units: &mut u64) -> Result<Option<Claim>, Stop>
+/// The seat, which has no claim, takes up what comes next. Nothing comes where all is loaded.
+pub(crate) fn take_up(
+    alloc: Global,
+    driver: &mut Driver,
+    units: &mut u64,
+) -> Result<Option<Claim>, Stop>
     requires goes { (known : List (List ℕ)) × (before : SourceState) × (now : SourceState) × Goes known before now driver.old [] }
     requires counted { units.old ≡ files_begun driver.old.book }
     ensures { (known : List (List ℕ)) (before now : SourceState) → Goes known before now driver.old [] → TakesUp known before now driver.old driver.new units.new result }
@@ -149,8 +153,8 @@ fn drive<S: Source>(
     Ok(())
 }
 
-// How loading has ended that was stopped.
-fn stopped(alloc: Global, stop: Stop) -> LoadEnd
+/// How loading has ended that was stopped.
+pub(crate) fn stopped(alloc: Global, stop: Stop) -> LoadEnd
     ensures { IsStopped stop result }
 {
     match stop {
@@ -178,8 +182,8 @@ fn end_by(driver: Driver, judged: Judged) -> LoadEnd
     }
 }
 
-// The end of loading where all is loaded.
-fn ended(alloc: Global, driver: Driver) -> Result<LoadEnd, AllocError>
+/// The end of loading where all is loaded.
+pub(crate) fn ended(alloc: Global, driver: Driver) -> Result<LoadEnd, AllocError>
     requires rest { Rests driver.base.start driver.book }
     requires few { ReachesFew driver.book }
     ensures { IfOk result (IsEndAt driver.book) }
@@ -228,8 +232,8 @@ fn load_setup<S: Source>(
     load(alloc, base, known, source, units)
 }
 
-// The end of loading, and want of memory where there is none.
-fn end_or_memory(loaded: Result<LoadEnd, AllocError>) -> LoadEnd
+/// The end of loading, and want of memory where there is none.
+pub(crate) fn end_or_memory(loaded: Result<LoadEnd, AllocError>) -> LoadEnd
     ensures { result ≡ end_or_memory loaded }
 {
     match loaded {

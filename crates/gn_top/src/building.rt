@@ -24,7 +24,7 @@ use gn_bases::{Given, Known, Setup};
 use gn_built::Built;
 use gn_executions::HostNames;
 use gn_faults::Fault;
-use gn_load::{LoadEnd, Plain, load_plain};
+use gn_load::{LoadEnd, Plain, load_ahead};
 use gn_outside::Source;
 use gn_paths::{Path, Text, Texts};
 use gn_toolchains::Surroundings;
@@ -186,7 +186,7 @@ fn load_build<R: Threads + Sync, S: Source>(
     ensures faults { CountsFault (S.state source.old).faults (S.state source.new).faults result }
     ensures failure { IfCannotRead result (λ path. FailsAt path (S.state source.old) (S.state source.new)) }
 {
-    let plain = load_plain(alloc, &start.setup, source);
+    let plain = load_ahead(rt, alloc, &start.setup, source);
     behind_loading(rt, alloc, start, plain)
 }
 
