@@ -1,8 +1,10 @@
 // Build files that were read ahead are executed by several threads.
 
-ghost use Rattle.std.specs.Prelude.{IfOk, IfSome, OnOk};
+ghost use Rattle.std.specs.Prelude.{◌≡◌, ◌∷◌, ◌++◌, [], IfOk, IfSome, OnOk};
 ghost use Rattle.gn_outside.specs.Lists.{Each};
-ghost use Rattle.gn_core.specs.Keys.{Filed as Answers};
+ghost use Rattle.gn_closure.specs.Reach.{Load};
+ghost use Rattle.gn_core.specs.Keys.{Unit_of, Filed as Answers};
+ghost use Rattle.gn_book.specs.Keys.{key_of};
 ghost use Rattle.gn_book.specs.Logs.{state_of};
 ghost use Rattle.gn_prepared.specs.Prepared.{ArePrepared};
 ghost use Rattle.gn_load.specs.Current.{base_now, IsCurrent};
@@ -16,18 +18,32 @@ use crate::ready::Ready;
 use gn_answers::Filed;
 use gn_book::KeyId;
 use gn_items::Key;
+use gn_paths::{Path, Text};
 use gn_prepared::{Wanted, contents_are_included, prepare};
 use std::alloc::{AllocError, Global};
 use std::collections::VecDeque;
 use std::thread::Threads;
+
+// The directory and the toolchain of a build file.
+fn file_of(key: Key) -> Option<(Path, Text)>
+    ensures { IfSome result (λ file. key_of key ≡ Unit_of (Load file.0 file.1)) }
+{
+    match key {
+        Key::Load(directory, toolchain) => Some((directory, toolchain)),
+        Key::Setup(_) => None,
+        Key::Read(_) => None,
+        Key::Import(..) => None,
+        Key::Resolve(_) => None,
+    }
+}
 
 // What a build file leaves that was executed ahead.
 fn ready_of(number: KeyId, wanted: Wanted, answer: Filed) -> Option<Ready>
     ensures { IfSome result (IsReadyOf wanted answer) }
 {
     let Wanted { key, path, content } = wanted;
-    match key {
-        Key::Load(directory, toolchain) => Some(Ready {
+    match file_of(key) {
+        Some((directory, toolchain)) => Some(Ready {
             number,
             directory,
             toolchain,
@@ -35,10 +51,12 @@ fn ready_of(number: KeyId, wanted: Wanted, answer: Filed) -> Option<Ready>
             content,
             answer,
         }),
-        Key::Setup(_) => None,
-        Key::Read(_) => None,
-        Key::Import(..) => None,
-        Key::Resolve(_) => None,
+        None => {
+            drop(path);
+            drop(content);
+            drop(answer);
+            None
+        }
     }
 }
 
@@ -63,7 +81,23 @@ fn add_ready(
 {
     match answer {
         Some(answer) => put_ready(all, ready_of(number, wanted, answer)),
-        None => Ok(()),
+        None => {
+            drop(wanted);
+            Ok(())
+        }
+    }
+}
+
+// The last that is wanted, with its number.
+fn take_wanted(found: &mut Found) -> Option<(KeyId, Wanted)>
+    ensures { IfSome result (λ last. found.old.wanted.items ≡ found.new.wanted.items ++ last.1 ∷ []) }
+{
+    match found.numbers.pop() {
+        Some(number) => match found.wanted.pop() {
+            Some(wanted) => Some((number, wanted)),
+            None => None,
+        },
+        None => None,
     }
 }
 
@@ -74,9 +108,15 @@ fn take_last(
 ) -> Option<(KeyId, (Wanted, Option<Filed>))>
     ensures { TakesLast found.old.wanted.items found.new.wanted.items answers.old.items answers.new.items result }
 {
-    match (found.numbers.pop(), found.wanted.pop(), answers.pop()) {
-        (Some(number), Some(wanted), Some(answer)) => Some((number, (wanted, answer))),
-        _ => None,
+    match answers.pop() {
+        Some(answer) => match take_wanted(found) {
+            Some((number, wanted)) => Some((number, (wanted, answer))),
+            None => {
+                drop(answer);
+                None
+            }
+        },
+        None => None,
     }
 }
 
