@@ -6,3 +6,4 @@ pub mod Ends
 pub mod Plain
 pub mod Rounds
 pub mod Found
+pub mod Executed
