@@ -15,3 +15,4 @@ mod RebasedDriver
 mod AheadEnds
 mod RoundLemmas
 mod FoundLemmas
+mod ExecutedLemmas
