@@ -72,7 +72,7 @@ module _ (later : IsIncludedLater) (filed_too : IncludesFiled) (b : CurrentBase)
   pub one_ready : (old new : List Wanted) (was is : List (Option Answered)) (w : Wanted) (answer : Option Answered) (before after : List Ready) → old ≡ new ++ w ∷ [] → was ≡ is ++ answer ∷ [] → AddsReady before after w answer
       → Each (IsWanted b filed) old × (ArePrepared (base_now b) filed old was × Each (WillBeRight b.start filed) before)
       → Each (IsWanted b filed) new × (ArePrepared (base_now b) filed new is × Each (WillBeRight b.start filed) after)
-  one_ready old new was is w answer before after items answers adds (wanted, prepared, right) =
+  one_ready old new was is w answer before after items answers adds (wanted, (prepared, right)) =
       let each = each_last (IsWanted b filed) new w (subst (Each (IsWanted b filed)) items wanted) in
       let zip = zip_last (IsPrepared (base_now b) filed) new is w answer (subst (λ (xs : List Wanted). AllZip (IsPrepared (base_now b) filed) xs (is ++ answer ∷ [])) items (subst (AllZip (IsPrepared (base_now b) filed) old) answers prepared)) in
       (each.0, zip.0, added_right w answer before after each.1 zip.1 adds right)
