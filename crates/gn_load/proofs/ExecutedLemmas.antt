@@ -75,7 +75,7 @@ module _ (later : IsIncludedLater) (filed_too : IncludesFiled) (b : CurrentBase)
   one_ready old new was is w answer before after items answers adds (wanted, (prepared, right)) =
       let each = each_last (IsWanted b filed) new w (subst (Each (IsWanted b filed)) items wanted) in
       let zip = zip_last (IsPrepared (base_now b) filed) new is w answer (subst (λ (xs : List Wanted). AllZip (IsPrepared (base_now b) filed) xs (is ++ answer ∷ [])) items (subst (AllZip (IsPrepared (base_now b) filed) old) answers prepared)) in
-      (each.0, zip.0, added_right w answer before after each.1 zip.1 adds right)
+      (each.0, (zip.0, added_right w answer before after each.1 zip.1 adds right))
 
 -- one that was put in front, if there is one, is added
 pub adds_ready : (old new : List Ready) (w : Wanted) (a : Answered) (answer : Option Answered) (ready : Option Ready) → answer ≡ Some a → IfSome ready (IsReadyOf w a) → PutsReady old new ready → AddsReady old new w answer
