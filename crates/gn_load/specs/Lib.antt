@@ -5,5 +5,6 @@ pub mod Rebased
 pub mod Ends
 pub mod Plain
 pub mod Rounds
+pub mod Executed
 pub mod Found
 pub mod Executed

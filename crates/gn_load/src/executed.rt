@@ -70,15 +70,14 @@ fn put_ready(all: &mut VecDeque<Ready>, ready: Option<Ready>) -> Result<(), Allo
     }
 }
 
-// What a build file leaves that was executed ahead, in front, if it leaves something.
+// What the last that was wanted leaves, in front, if it leaves something.
 fn add_ready(
     all: &mut VecDeque<Ready>,
-    number: KeyId,
-    wanted: Wanted,
-    answer: Option<Filed>,
+    last: (KeyId, (Wanted, Option<Filed>)),
 ) -> Result<(), AllocError>
-    ensures { OnOk result (AddsReady all.old.items all.new.items wanted answer) }
+    ensures { OnOk result (AddsReady all.old.items all.new.items last.1.0 last.1.1) }
 {
+    let (number, (wanted, answer)) = last;
     match answer {
         Some(answer) => put_ready(all, ready_of(number, wanted, answer)),
         None => {
@@ -133,8 +132,8 @@ fn all_ready(
     let mut found = found;
     let mut answers = answers;
     let mut all = VecDeque::new(alloc);
-    'files: while let Some((number, (wanted, answer))) = take_last(&mut found, &mut answers) {
-        add_ready(&mut all, number, wanted, answer)?;
+    'files: while let Some(last) = take_last(&mut found, &mut answers) {
+        add_ready(&mut all, last)?;
     }
     Ok(all)
 }

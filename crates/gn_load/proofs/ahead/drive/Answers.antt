@@ -19,21 +19,21 @@ units-init g c = λ known before goes.
     (taken_ahead known before now c.args.driver.now c.take_up.new.driver c.take_up.new.units c.args.ahead.now.total c.in_ok-next.next goes c.requires.waiting taken, taken.start)
 
 pub load_next-requires-clause-goes : goal.load_next-requires-clause-goes
-load_next-requires-clause-goes g c =
+load_next-requires-clause-goes g c = λ l lives.
     let stands = rw c.in-Some.is at (c.units.invariant c.requires.goes.0 c.requires.goes.1 c.requires.goes.2) in
     (c.requires.goes.0, c.requires.goes.1, stands.0.goes)
 
 pub load_next-requires-clause-waiting : goal.load_next-requires-clause-waiting
-load_next-requires-clause-waiting g c = (rw c.in-Some.is at (c.units.invariant c.requires.goes.0 c.requires.goes.1 c.requires.goes.2)).0.waiting
+load_next-requires-clause-waiting g c = λ l lives. (rw c.in-Some.is at (c.units.invariant c.requires.goes.0 c.requires.goes.1 c.requires.goes.2)).0.waiting
 
 pub load_next-requires-clause-unit : goal.load_next-requires-clause-unit
-load_next-requires-clause-unit g c = (rw c.in-Some.is at (c.units.invariant c.requires.goes.0 c.requires.goes.1 c.requires.goes.2)).0.comes
+load_next-requires-clause-unit g c = λ l lives. (rw c.in-Some.is at (c.units.invariant c.requires.goes.0 c.requires.goes.1 c.requires.goes.2)).0.comes
 
 pub load_next-requires-clause-numbered : goal.load_next-requires-clause-numbered
-load_next-requires-clause-numbered g c = (rw c.in-Some.is at (c.units.invariant c.requires.goes.0 c.requires.goes.1 c.requires.goes.2)).0.numbered
+load_next-requires-clause-numbered g c = λ l lives. (rw c.in-Some.is at (c.units.invariant c.requires.goes.0 c.requires.goes.1 c.requires.goes.2)).0.numbered
 
 pub load_next-requires-clause-counted : goal.load_next-requires-clause-counted
-load_next-requires-clause-counted g c = (rw c.in-Some.is at (c.units.invariant c.requires.goes.0 c.requires.goes.1 c.requires.goes.2)).0.counted
+load_next-requires-clause-counted g c = λ l lives. (rw c.in-Some.is at (c.units.invariant c.requires.goes.0 c.requires.goes.1 c.requires.goes.2)).0.counted
 
 pub returns-in_err-load_next : goal.returns-in_err-load_next
 returns-in_err-load_next g c = λ known before goes.

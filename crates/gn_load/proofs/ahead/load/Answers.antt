@@ -15,16 +15,16 @@ returns-in_err-driver g c =
     (nothing_loaded laws.reads laws.begun laws.counted c.args.base (known_paths c.args.known.entries) c.requires.differ (g.S.Source.state c.args.source.now) c.args.units.now c.requires.units)
 
 pub drive-requires-clause-goes : goal.drive-requires-clause-goes
-drive-requires-clause-goes g c =
+drive-requires-clause-goes g c = λ l lives.
     let now = g.S.Source.state c.args.source.now in
     let known = known_paths c.args.known.entries in
     (known, now, starts_ahead known now c.in_ok-driver.driver [] (c.in_ok-driver.ensures.goes now c.requires.known))
 
 pub drive-requires-clause-waiting : goal.drive-requires-clause-waiting
-drive-requires-clause-waiting g c = c.in_ok-driver.ensures.waiting
+drive-requires-clause-waiting g c = λ l lives. c.in_ok-driver.ensures.waiting
 
 pub drive-requires-clause-counted : goal.drive-requires-clause-counted
-drive-requires-clause-counted g c = c.requires.units ∙ sym c.in_ok-driver.ensures.counted
+drive-requires-clause-counted g c = λ l lives. c.requires.units ∙ sym c.in_ok-driver.ensures.counted
 
 pub ended_ahead-requires-clause-rest : goal.ended_ahead-requires-clause-rest
 ended_ahead-requires-clause-rest g c =

@@ -22,7 +22,7 @@ returns-in_err-finish g c = λ known before goes.
     (c.in_err-finish.ensures (known ++ goes.all) goes.mid (waits_goes known before now c.args.driver.now c.args.claim c.args.ahead.now.total goes c.requires.waiting))
 
 pub look_ahead-requires-clause-goes : goal.look_ahead-requires-clause-goes
-look_ahead-requires-clause-goes g c =
+look_ahead-requires-clause-goes g c = λ l lives.
     let known = c.requires.goes.0 in
     let before = c.requires.goes.1 in
     let goes = c.requires.goes.2 in
@@ -31,14 +31,14 @@ look_ahead-requires-clause-goes g c =
     (known, before, finished_ahead known before now (g.S.Source.state c.finish.new.source) c.args.driver.now c.finish.new.driver c.args.claim c.args.ahead.now.total goes done.0)
 
 pub look_ahead-requires-clause-waiting : goal.look_ahead-requires-clause-waiting
-look_ahead-requires-clause-waiting g c =
+look_ahead-requires-clause-waiting g c = λ l lives.
     let known = c.requires.goes.0 in
     let before = c.requires.goes.1 in
     let goes = c.requires.goes.2 in
     (c.in_ok-finish.ensures (known ++ goes.all) goes.mid (waits_goes known before (g.S.Source.state c.args.source.now) c.args.driver.now c.args.claim c.args.ahead.now.total goes c.requires.waiting)).1
 
 pub look_ahead-requires-clause-counted : goal.look_ahead-requires-clause-counted
-look_ahead-requires-clause-counted g c =
+look_ahead-requires-clause-counted g c = λ l lives.
     let known = c.requires.goes.0 in
     let before = c.requires.goes.1 in
     let goes = c.requires.goes.2 in

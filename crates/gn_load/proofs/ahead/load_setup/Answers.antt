@@ -24,10 +24,10 @@ returns-in_err-base g c =
     (nothing_loaded laws.reads laws.begun laws.counted (given_base c.args.setup.now) known (sorted_differ known c.in_ok-known.ensures.ordered) (g.S.Source.state c.args.source.now) c.args.units.now c.requires.units)
 
 pub load-requires-clause-known : goal.load-requires-clause-known
-load-requires-clause-known g c = λ tree told. same_agrees c.in_ok-known.known.entries c.args.setup.now.known.entries tree c.in_ok-known.ensures.same (c.requires.known tree told)
+load-requires-clause-known g c = λ l lives tree told. same_agrees c.in_ok-known.known.entries c.args.setup.now.known.entries tree c.in_ok-known.ensures.same (c.requires.known tree told)
 
 pub load-requires-clause-differ : goal.load-requires-clause-differ
-load-requires-clause-differ g c =
+load-requires-clause-differ g c = λ l lives.
     subst (λ (ps : List (List ℕ)). AllDiffer ps) (sym (same_paths c.in_ok-known.known.entries c.args.setup.now.known.entries c.in_ok-known.ensures.same)) (sorted_differ (known_paths c.args.setup.now.known.entries) c.in_ok-known.ensures.ordered)
 
 pub returns : goal.returns

@@ -15,7 +15,7 @@ pub is_worth_while-requires : goal.is_worth_while-requires
 is_worth_while-requires g c = c.requires.goes.2.few
 
 pub round-requires-clause-goes : goal.round-requires-clause-goes
-round-requires-clause-goes g c =
+round-requires-clause-goes g c = λ l lives.
     let known = c.requires.goes.0 in
     let before = c.requires.goes.1 in
     let goes = c.requires.goes.2 in
@@ -23,22 +23,22 @@ round-requires-clause-goes g c =
     (known, before, numbered_ahead known before now now c.args.driver.now c.number_units.new.driver c.number_units.new.driver c.args.ahead.now.total c.args.units.now goes (c.in_ok-number_units.ensures (known ++ goes.all) goes.mid now goes.goes))
 
 pub round-requires-clause-waiting : goal.round-requires-clause-waiting
-round-requires-clause-waiting g c =
+round-requires-clause-waiting g c = λ l lives.
     let goes = c.requires.goes.2 in
     ap (λ w. w.items) (c.in_ok-number_units.ensures (c.requires.goes.0 ++ goes.all) goes.mid (g.S.Source.state c.args.source.now) goes.goes).waiting ∙ c.requires.waiting
 
 pub round-requires-clause-counted : goal.round-requires-clause-counted
-round-requires-clause-counted g c =
+round-requires-clause-counted g c = λ l lives.
     let goes = c.requires.goes.2 in
     c.requires.counted ∙ sym (c.in_ok-number_units.ensures (c.requires.goes.0 ++ goes.all) goes.mid (g.S.Source.state c.args.source.now) goes.goes).begun
 
 pub round-requires-clause-numbers : goal.round-requires-clause-numbers
-round-requires-clause-numbers g c =
+round-requires-clause-numbers g c = λ l lives.
     let goes = c.requires.goes.2 in
     (c.in_ok-number_units.ensures (c.requires.goes.0 ++ goes.all) goes.mid (g.S.Source.state c.args.source.now) goes.goes).numbered.numbers
 
 pub round-requires-clause-few : goal.round-requires-clause-few
-round-requires-clause-few g c = c.is_worth_while.ensures c.if-is_worth_while.true
+round-requires-clause-few g c = λ l lives. c.is_worth_while.ensures c.if-is_worth_while.true
 
 pub returns-then-is_worth_while : goal.returns-then-is_worth_while
 returns-then-is_worth_while g c = λ known before goes.

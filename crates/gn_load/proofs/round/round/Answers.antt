@@ -3,7 +3,7 @@ use Rattle.gn_book.specs.Graphs.{UnitsHaveNumbers}
 use Rattle.gn_book.specs.Logs.{Log}
 use Rattle.gn_builds.specs.Driving.{files_begun}
 use Rattle.gn_load.specs.Rebased.{IsRebased}
-use Rattle.gn_load.proofs.RebasedDriver.{rebased, rebased_goes}
+use Rattle.gn_load.proofs.RebasedDriver.{rebased}
 use Rattle.gn_load.proofs.RoundLemmas.{ahead_begun, loads_looked, looks_stop}
 use Rattle.gn_load.proofs.round.round.Goals as goal
 
@@ -11,7 +11,7 @@ pub count_reads-requires : goal.count_reads-requires
 count_reads-requires g c = c.requires.few
 
 pub find_ready-requires-clause-goes : goal.find_ready-requires-clause-goes
-find_ready-requires-clause-goes g c =
+find_ready-requires-clause-goes g c = λ l lives.
     let counts = c.count_reads.ensures in
     let now = g.S.Source.state c.args.source.now in (
       c.requires.goes.0,
@@ -21,7 +21,7 @@ find_ready-requires-clause-goes g c =
     )
 
 pub find_ready-requires-clause-numbers : goal.find_ready-requires-clause-numbers
-find_ready-requires-clause-numbers g c = subst (λ (l : Log). UnitsHaveNumbers l) (sym c.count_reads.ensures.book) c.requires.numbers
+find_ready-requires-clause-numbers g c = λ l lives. subst (λ (l : Log). UnitsHaveNumbers l) (sym c.count_reads.ensures.book) c.requires.numbers
 
 pub returns-in_err-ready : goal.returns-in_err-ready
 returns-in_err-ready g c = λ known before goes.
@@ -85,5 +85,6 @@ returns g c = λ known before goes.
     let mid = c.count_reads.new.driver in
     let has = c.in_ok-ready.ensures.ok known before
     (subst (λ (n : ℕ). IsRebased known before was mid [] n) (sym counts.total) (rebased known before was c.args.driver.now [] c.args.ahead.now.total goes mid counts.base counts.book (ap (λ m. m.entries) counts.known) counts.reads c.requires.few)) in
-    loads_looked known before then (g.S.Source.state c.load_all.new.source) c.args.driver.now c.find_ready.new.driver c.load_all.new.driver _ c.load_all.new.units (rebased_goes known before then c.find_ready.new.driver [] _ has.goes)
+    loads_looked known before then (g.S.Source.state c.load_all.new.source) c.args.driver.now c.find_ready.new.driver c.load_all.new.driver c.find_ready.new.total c.load_all.new.units
+    (record { all = has.goes.all; mid = then; has = has.goes.goes_on.has; goes = has.goes.goes; counted = has.goes.counted; few = has.goes.few })
     (has.base ∙ counts.base) (has.book ∙ counts.book) c.load_all.result (c.load_all.ensures (known ++ has.goes.all) then has.goes.goes)
