@@ -1,13 +1,11 @@
 -- What was executed ahead is right once its file is filed.
-use Rattle.std.proofs.Common.{◌≡◌, ◌⊎◌, inl, inr, ℕ, ◌<◌, List, [], ◌∷◌, ◌++◌, length, Option, Some, None, refl, sym, ◌∙◌, ap, subst, arith}
+use Rattle.std.proofs.Common.{◌≡◌, inl, inr, ◌<◌, List, [], ◌∷◌, ◌++◌, length, Option, Some, None, refl, sym, ◌∙◌, ap, subst, arith}
 use Rattle.std.proofs.lemmas.List.{length_push}
 use Rattle.std.specs.List.{AllZip}
 use Rattle.std.specs.Prelude.{Result, Ok, Err, IfSome, OnOk}
 use Rattle.gn_outside.specs.Lists.{Each}
-use Rattle.gn_closure.specs.Reach.{Load}
-use Rattle.gn_executions.specs.Base.{BaseState}
 use Rattle.gn_core.specs.Keys.{Key, Read, Import, Unit_of, Resolve, Filed, found}
-use Rattle.gn_core.specs.Layered.{IsPart, HasLayer}
+use Rattle.gn_core.specs.Layered.{HasLayer}
 use Rattle.gn_book.specs.Keys.{key_of}
 use Rattle.gn_builds.specs.Working.{evaluator, over, IsRightOver, IsSeen}
 use Rattle.gn_builds.specs.Driving.{IsOfLayer}

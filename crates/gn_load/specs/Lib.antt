@@ -7,4 +7,3 @@ pub mod Plain
 pub mod Rounds
 pub mod Executed
 pub mod Found
-pub mod Executed

@@ -70,14 +70,15 @@ fn put_ready(all: &mut VecDeque<Ready>, ready: Option<Ready>) -> Result<(), Allo
     }
 }
 
-// What the last that was wanted leaves, in front, if it leaves something.
+// What a build file leaves that was executed ahead, in front, if it leaves something.
 fn add_ready(
     all: &mut VecDeque<Ready>,
-    last: (KeyId, (Wanted, Option<Filed>)),
+    number: KeyId,
+    wanted: Wanted,
+    answer: Option<Filed>,
 ) -> Result<(), AllocError>
-    ensures { OnOk result (AddsReady all.old.items all.new.items last.1.0 last.1.1) }
+    ensures { OnOk result (AddsReady all.old.items all.new.items wanted answer) }
 {
-    let (number, (wanted, answer)) = last;
     match answer {
         Some(answer) => put_ready(all, ready_of(number, wanted, answer)),
         None => {
@@ -132,8 +133,8 @@ fn all_ready(
     let mut found = found;
     let mut answers = answers;
     let mut all = VecDeque::new(alloc);
-    'files: while let Some(last) = take_last(&mut found, &mut answers) {
-        add_ready(&mut all, last)?;
+    'files: while let Some((number, (wanted, answer))) = take_last(&mut found, &mut answers) {
+        add_ready(&mut all, number, wanted, answer)?;
     }
     Ok(all)
 }
