@@ -1,11 +1,11 @@
 -- What was executed ahead is right once its file is filed.
-use Rattle.std.proofs.Common.{◌≡◌, inl, inr, ◌<◌, List, [], ◌∷◌, ◌++◌, length, Option, Some, None, refl, sym, ◌∙◌, ap, subst, arith}
-use Rattle.std.proofs.lemmas.List.{length_push}
+use Rattle.std.proofs.Common.{◌≡◌, ◌⊎◌, inl, inr, ℕ, List, [], ◌∷◌, ◌++◌, Option, Some, None, IfSome, Result, Ok, Err, IfOk, OnOk, refl, sym, ◌∙◌, ap, subst}
 use Rattle.std.specs.List.{AllZip}
-use Rattle.std.specs.Prelude.{Result, Ok, Err, IfSome, OnOk}
 use Rattle.gn_outside.specs.Lists.{Each}
+use Rattle.gn_closure.specs.Reach.{Load}
+use Rattle.gn_executions.specs.Base.{BaseState}
 use Rattle.gn_core.specs.Keys.{Key, Read, Import, Unit_of, Resolve, Filed, found}
-use Rattle.gn_core.specs.Layered.{HasLayer}
+use Rattle.gn_core.specs.Layered.{IsPart, HasLayer}
 use Rattle.gn_book.specs.Keys.{key_of}
 use Rattle.gn_builds.specs.Working.{evaluator, over, IsRightOver, IsSeen}
 use Rattle.gn_builds.specs.Driving.{IsOfLayer}
@@ -18,7 +18,7 @@ use Rattle.gn_prepared.specs.Prepared.{IsPrepared, ArePrepared}
 use Rattle.gn_prepared.specs.declared.wanted.Wanted.{Wanted}
 use Rattle.gn_load.specs.Current.{layer_now, base_now, IsCurrent}
 use Rattle.gn_load.specs.Rounds.{IsWanted, WillBeRight}
-use Rattle.gn_load.specs.Executed.{IsReadyOf, PutsReady, AddsReady}
+use Rattle.gn_load.specs.Executed.{IsReadyOf, PutsReady, AddsReady, TakesLast}
 use Rattle.gn_load.specs.declared.current.CurrentBase.{CurrentBase}
 use Rattle.gn_load.specs.declared.ready.Ready.{Ready}
 use Rattle.gn_load.proofs.CurrentLemmas.{current_stays, base_for_key}
@@ -31,9 +31,6 @@ seen_of_layer b part (Unit_of u) is of = subst (HasLayer (evaluator b.start) par
 seen_of_layer b part (Resolve label) is of = absurd of
 
 -- Lists with one more at their end
-
-pub one_less : {X : Type 0} (old new : List X) (x : X) → old ≡ new ++ x ∷ [] → length new < length old
-one_less old new x is = let one = ap length is ∙ length_push new x in omega (arith, one)
 
 each_last : {X : Type 0} (P : X → Type 0) (xs : List X) (x : X) → Each P (xs ++ x ∷ []) → Each P xs × P x
 each_last P [] x each = (tt, each.0)
@@ -53,23 +50,17 @@ zip_last R (z ∷ xs) [] x y zip = absurd (none xs zip.1)
     none (w ∷ zs) h = h
 zip_last R (a ∷ xs) (b ∷ ys) x y zip = let rest = zip_last R xs ys x y zip.1 in ((zip.0, rest.0), rest.1)
 
--- one more stands in front where the answer is there
-pub adds_ready : {E : Type 0} (r : Result (Unit {0}) E) (old new : List Ready) (w : Wanted) (a : Answered) (ready : Option Ready) → IfSome ready (IsReadyOf w a) → OnOk r (PutsReady old new ready) → OnOk r (AddsReady old new w (Some a))
-adds_ready (Ok u) old new w a None is puts = inl puts
-adds_ready (Ok u) old new w a (Some x) is puts = inr (a, x, refl, puts, is)
-adds_ready (Err e) old new w a ready is puts = tt
-
 -- What was wanted, and its answer
 module _ (later : IsIncludedLater) (filed_too : IncludesFiled) (b : CurrentBase) (filed : Filed) (current : IsCurrent b filed) where
   prepared_is_right : (w : Wanted) (answer : Answered) (r : Ready) → IsWanted b filed w → IsPrepared (base_now b) filed w (Some answer) → IsReadyOf w answer r → WillBeRight b.start filed r
-  prepared_is_right w answer r wanted prepared is = λ more part has.
+  prepared_is_right w answer r wanted prepared is more part has =
       let one : Filed = with_content filed w.path (content_view w.content) in
       let on : IsCurrent b one = current_stays b filed one (filed_too filed w.path (content_view w.content) wanted.1) current in
       let right : IsRightOver b.start one (key_of w.key) (meaning_of answer) = prepared b.start (base_for_key b one (key_of w.key) on wanted.0) in
       let whole : IsRightOver b.start more (key_of w.key) (meaning_of answer) =
-      parts_give_answers b.start one (over more) (key_of w.key) (meaning_of answer)
-      (later filed w.path (content_view w.content) more part (subst (λ (k : Key). more k ≡ Some (found (content_view w.content))) is.file (has ∙ ap (λ (c : FileContent). Some (found (content_view c))) is.content)))
-      (seen_of_layer b one (key_of w.key) on wanted.0) right in
+          parts_give_answers b.start one (over more) (key_of w.key) (meaning_of answer)
+          (later filed w.path (content_view w.content) more part (subst (λ (k : Key). more k ≡ Some (found (content_view w.content))) is.file (has ∙ ap (λ (c : FileContent). Some (found (content_view c))) is.content)))
+          (seen_of_layer b one (key_of w.key) on wanted.0) right in
       subst (λ (k : Key). IsRightOver b.start more k (meaning_of r.answer)) is.key (subst (λ (a : Answered). IsRightOver b.start more (key_of w.key) (meaning_of a)) (sym is.is) whole)
 
   added_right : (w : Wanted) (answer : Option Answered) (old new : List Ready) → IsWanted b filed w → IsPrepared (base_now b) filed w answer → AddsReady old new w answer → Each (WillBeRight b.start filed) old → Each (WillBeRight b.start filed) new
@@ -85,3 +76,22 @@ module _ (later : IsIncludedLater) (filed_too : IncludesFiled) (b : CurrentBase)
       let each = each_last (IsWanted b filed) new w (subst (Each (IsWanted b filed)) items wanted) in
       let zip = zip_last (IsPrepared (base_now b) filed) new is w answer (subst (λ (xs : List Wanted). AllZip (IsPrepared (base_now b) filed) xs (is ++ answer ∷ [])) items (subst (AllZip (IsPrepared (base_now b) filed) old) answers prepared)) in
       (each.0, (zip.0, added_right w answer before after each.1 zip.1 adds right))
+
+-- one that was put in front, if there is one, is added
+pub adds_ready : (old new : List Ready) (w : Wanted) (a : Answered) (answer : Option Answered) (ready : Option Ready) → answer ≡ Some a → IfSome ready (IsReadyOf w a) → PutsReady old new ready → AddsReady old new w answer
+adds_ready old new w a answer None some is puts = inl puts
+adds_ready old new w a answer (Some r) some is puts = inr (a, r, some, puts, is)
+
+-- the last that is wanted beside its answer
+pub takes_last : (old new : List Wanted) (was is : List (Option Answered)) (w : Wanted) (r : Option (ℕ × (Wanted × Option Answered))) → old ≡ new ++ w ∷ [] → IfSome r (λ last. (last.1.0 ≡ w) × (was ≡ is ++ last.1.1 ∷ [])) → TakesLast old new was is r
+takes_last old new was is w None items beside = tt
+takes_last old new was is w (Some last) items beside = (subst (λ (y : Wanted). old ≡ new ++ y ∷ []) (sym beside.0) items, beside.1)
+
+-- What holds where there is no error gives something else there
+pub on_ok_so : {T E : Type 0} (P Q : Type 0) (r : Result T E) → (P → Q) → OnOk r P → OnOk r Q
+on_ok_so P Q (Ok x) so h = so h
+on_ok_so P Q (Err e) so h = tt
+
+pub if_ok_so : {T E : Type 0} (P Q : T → Type 0) (r : Result T E) → ((x : T) → P x → Q x) → IfOk r P → IfOk r Q
+if_ok_so P Q (Ok x) so h = so x h
+if_ok_so P Q (Err e) so h = tt

@@ -25,4 +25,4 @@ AddsReady old new w answer = (new ≡ old) ⊎ ((a : Filed) × (r : Ready) × (a
 -- the last that is wanted is taken out, with its answer
 abbrev pub TakesLast : List Wanted → List Wanted → List (Option Filed) → List (Option Filed) → Option (ℕ × (Wanted × Option Filed)) → Type 0
 TakesLast old new was is None = Unit {0}
-TakesLast old new was is (Some (n, (w, answer))) = (old ≡ new ++ w ∷ []) × (was ≡ is ++ answer ∷ [])
+TakesLast old new was is (Some last) = (old ≡ new ++ last.1.0 ∷ []) × (was ≡ is ++ last.1.1 ∷ [])

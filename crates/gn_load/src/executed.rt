@@ -1,6 +1,6 @@
 // Build files that were read ahead are executed by several threads.
 
-ghost use Rattle.std.specs.Prelude.{◌≡◌, ◌∷◌, ◌++◌, [], IfOk, IfSome, OnOk};
+ghost use Rattle.std.specs.Prelude.{◌≡◌, ◌++◌, ◌∷◌, [], IfOk, IfSome, OnOk};
 ghost use Rattle.gn_outside.specs.Lists.{Each};
 ghost use Rattle.gn_closure.specs.Reach.{Load};
 ghost use Rattle.gn_core.specs.Keys.{Unit_of, Filed as Answers};
@@ -24,9 +24,9 @@ use std::alloc::{AllocError, Global};
 use std::collections::VecDeque;
 use std::thread::Threads;
 
-// The directory and the toolchain of a build file.
-fn file_of(key: Key) -> Option<(Path, Text)>
-    ensures { IfSome result (λ file. key_of key ≡ Unit_of (Load file.0 file.1)) }
+// The directory and the toolchain of the key of a build file.
+fn names_of(key: Key) -> Option<(Path, Text)>
+    ensures { IfSome result (λ names. key_of key ≡ Unit_of (Load names.0 names.1)) }
 {
     match key {
         Key::Load(directory, toolchain) => Some((directory, toolchain)),
@@ -42,15 +42,18 @@ fn ready_of(number: KeyId, wanted: Wanted, answer: Filed) -> Option<Ready>
     ensures { IfSome result (IsReadyOf wanted answer) }
 {
     let Wanted { key, path, content } = wanted;
-    match file_of(key) {
-        Some((directory, toolchain)) => Some(Ready {
-            number,
-            directory,
-            toolchain,
-            file: Key::Read(path),
-            content,
-            answer,
-        }),
+    match names_of(key) {
+        Some(names) => {
+            let (directory, toolchain) = names;
+            Some(Ready {
+                number,
+                directory,
+                toolchain,
+                file: Key::Read(path),
+                content,
+                answer,
+            })
+        }
         None => {
             drop(path);
             drop(content);
@@ -70,15 +73,14 @@ fn put_ready(all: &mut VecDeque<Ready>, ready: Option<Ready>) -> Result<(), Allo
     }
 }
 
-// What a build file leaves that was executed ahead, in front, if it leaves something.
+// What the last that was wanted leaves, in front, if it leaves something.
 fn add_ready(
     all: &mut VecDeque<Ready>,
-    number: KeyId,
-    wanted: Wanted,
-    answer: Option<Filed>,
+    last: (KeyId, (Wanted, Option<Filed>)),
 ) -> Result<(), AllocError>
-    ensures { OnOk result (AddsReady all.old.items all.new.items wanted answer) }
+    ensures { OnOk result (AddsReady all.old.items all.new.items last.1.0 last.1.1) }
 {
+    let (number, (wanted, answer)) = last;
     match answer {
         Some(answer) => put_ready(all, ready_of(number, wanted, answer)),
         None => {
@@ -88,16 +90,20 @@ fn add_ready(
     }
 }
 
-// The last that is wanted, with its number.
-fn take_wanted(found: &mut Found) -> Option<(KeyId, Wanted)>
-    ensures { IfSome result (λ last. found.old.wanted.items ≡ found.new.wanted.items ++ last.1 ∷ []) }
+// What was wanted, with its number, beside the last of the answers.
+fn beside_answer(
+    number: KeyId,
+    wanted: Wanted,
+    answers: &mut Vec<Option<Filed>>,
+) -> Option<(KeyId, (Wanted, Option<Filed>))>
+    ensures { IfSome result (λ last. (last.1.0 ≡ wanted) × (answers.old.items ≡ answers.new.items ++ last.1.1 ∷ [])) }
 {
-    match found.numbers.pop() {
-        Some(number) => match found.wanted.pop() {
-            Some(wanted) => Some((number, wanted)),
-            None => None,
-        },
-        None => None,
+    match answers.pop() {
+        Some(answer) => Some((number, (wanted, answer))),
+        None => {
+            drop(wanted);
+            None
+        }
     }
 }
 
@@ -108,13 +114,10 @@ fn take_last(
 ) -> Option<(KeyId, (Wanted, Option<Filed>))>
     ensures { TakesLast found.old.wanted.items found.new.wanted.items answers.old.items answers.new.items result }
 {
-    match answers.pop() {
-        Some(answer) => match take_wanted(found) {
-            Some((number, wanted)) => Some((number, (wanted, answer))),
-            None => {
-                drop(answer);
-                None
-            }
+    match found.numbers.pop() {
+        Some(number) => match found.wanted.pop() {
+            Some(wanted) => beside_answer(number, wanted, answers),
+            None => None,
         },
         None => None,
     }
@@ -133,8 +136,8 @@ fn all_ready(
     let mut found = found;
     let mut answers = answers;
     let mut all = VecDeque::new(alloc);
-    'files: while let Some((number, (wanted, answer))) = take_last(&mut found, &mut answers) {
-        add_ready(&mut all, number, wanted, answer)?;
+    'files: while let Some(last) = take_last(&mut found, &mut answers) {
+        add_ready(&mut all, last)?;
     }
     Ok(all)
 }

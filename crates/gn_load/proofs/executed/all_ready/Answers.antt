@@ -1,7 +1,8 @@
-use Rattle.std.proofs.Common.{sym, subst}
+use Rattle.std.proofs.Common.{◌∷◌, [], ◌++◌, length, ap, sym, subst, arith}
+use Rattle.std.proofs.lemmas.List.{length-append}
 use Rattle.gn_outside.specs.Lists.{Each}
 use Rattle.gn_load.specs.Rounds.{WillBeRight}
-use Rattle.gn_load.proofs.ExecutedLemmas.{one_less, one_ready}
+use Rattle.gn_load.proofs.ExecutedLemmas.{one_ready}
 use Rattle.gn_load.proofs.executed.all_ready.Goals as goal
 
 pub files-init : goal.files-init
@@ -9,11 +10,16 @@ files-init c = λ b filed current wanted prepared. (wanted, (prepared, subst (Ea
 
 pub files-preserved : goal.files-preserved
 files-preserved c = λ b filed current wanted prepared.
-    one_ready c.contents_are_included.ensures.later c.contents_are_included.ensures.filed b filed current c.files.found.wanted.items c.take_last.new.found.wanted.items c.files.answers.items c.take_last.new.answers.items c.in-Some.wanted c.in-Some.answer
-    c.files.all.items c.add_ready.new.all.items c.in-Some.ensures.0 c.in-Some.ensures.1 c.in_ok-add_ready.ensures (c.files.invariant b filed current wanted prepared)
+    let laws = c.contents_are_included.ensures in
+    let taken = c.in-Some.ensures in
+    one_ready laws.later laws.filed b filed current c.files.found.wanted.items c.take_last.new.found.wanted.items c.files.answers.items c.take_last.new.answers.items c.in-Some.last.1.0 c.in-Some.last.1.1 c.files.all.items c.add_ready.new.all.items taken.0 taken.1
+    c.in_ok-add_ready.ensures (c.files.invariant b filed current wanted prepared)
 
 pub files-smaller : goal.files-smaller
-files-smaller c = one_less c.files.found.wanted.items c.take_last.new.found.wanted.items c.in-Some.wanted c.in-Some.ensures.0
+files-smaller c =
+    let items = ap length c.in-Some.ensures.0 in
+    let long = length-append c.take_last.new.found.wanted.items (c.in-Some.last.1.0 ∷ []) in
+    omega (arith, items, long)
 
 pub returns : goal.returns
 returns c = λ b filed current wanted prepared. (c.files.invariant b filed current wanted prepared).1.1

@@ -1,10 +1,5 @@
+use Rattle.gn_load.proofs.ExecutedLemmas.{takes_last}
 use Rattle.gn_load.proofs.executed.take_last.Goals as goal
 
-pub returns-in-Some-take_wanted : goal.returns-in-Some-take_wanted
-returns-in-Some-take_wanted c = (c.in-Some-take_wanted.ensures, c.in-Some.ensures.items)
-
-pub returns-in-None-take_wanted : goal.returns-in-None-take_wanted
-returns-in-None-take_wanted c = tt
-
-pub returns-in-None : goal.returns-in-None
-returns-in-None c = tt
+pub returns-in-Some-pop : goal.returns-in-Some-pop
+returns-in-Some-pop c = takes_last _ _ _ _ _ c.beside_answer.result c.in-Some-pop.ensures.items c.beside_answer.ensures
