@@ -58,9 +58,9 @@ module _ (later : IsIncludedLater) (filed_too : IncludesFiled) (b : CurrentBase)
       let on : IsCurrent b one = current_stays b filed one (filed_too filed w.path (content_view w.content) wanted.1) current in
       let right : IsRightOver b.start one (key_of w.key) (meaning_of answer) = prepared b.start (base_for_key b one (key_of w.key) on wanted.0) in
       let whole : IsRightOver b.start more (key_of w.key) (meaning_of answer) =
-          parts_give_answers b.start one (over more) (key_of w.key) (meaning_of answer)
-          (later filed w.path (content_view w.content) more part (subst (λ (k : Key). more k ≡ Some (found (content_view w.content))) is.file (has ∙ ap (λ (c : FileContent). Some (found (content_view c))) is.content)))
-          (seen_of_layer b one (key_of w.key) on wanted.0) right in
+      parts_give_answers b.start one (over more) (key_of w.key) (meaning_of answer)
+      (later filed w.path (content_view w.content) more part (subst (λ (k : Key). more k ≡ Some (found (content_view w.content))) is.file (has ∙ ap (λ (c : FileContent). Some (found (content_view c))) is.content)))
+      (seen_of_layer b one (key_of w.key) on wanted.0) right in
       subst (λ (k : Key). IsRightOver b.start more k (meaning_of r.answer)) is.key (subst (λ (a : Answered). IsRightOver b.start more (key_of w.key) (meaning_of a)) (sym is.is) whole)
 
   added_right : (w : Wanted) (answer : Option Answered) (old new : List Ready) → IsWanted b filed w → IsPrepared (base_now b) filed w answer → AddsReady old new w answer → Each (WillBeRight b.start filed) old → Each (WillBeRight b.start filed) new
