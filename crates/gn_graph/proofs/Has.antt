@@ -1,6 +1,7 @@
 -- Membership tests on lists of numbers.
 use Rattle.std.proofs.Common.{◌≡◌, ℕ, zero, suc, ◌+◌, ◌<◌, ◌≤◌, List, [], ◌∷◌, ◌++◌, length, take, drop, get_or}
-use Rattle.std.proofs.Common.{true, false, ◌||◌, refl, sym, ◌∙◌, ap, nat_eq, eq-eqb, arith}
+use Rattle.std.proofs.Common.{true, false, ◌||◌, Some, slice_get, refl, sym, ◌∙◌, ap, inl, inr, nat_eq, eq-eqb, eqb-true, arith}
+use Rattle.std.proofs.lemmas.Option.{slice_get_within, get_or_from_slice_get}
 use Rattle.std.proofs.lemmas.List.{take_more, take-append-drop}
 use Rattle.std.proofs.lemmas.List.Folds.{list_any-append}
 use Rattle.std.specs.List.{IsDistinct}
@@ -44,3 +45,14 @@ before_apart xs i d l (suc j) h =
     let n : suc j ≡ j + 1 = omega arith in
     rw n (m ∙ ap (λ b. b || nat_eq (get_or xs i 0) (get_or xs j 0)) (before_apart xs i d l j (omega (arith, h)))
     ∙ eq_flip (get_or xs j 0) (get_or xs i 0) (apart_from_distinct nat_eq xs j i 0 d (omega (arith, h)) l))
+
+-- a member stands somewhere
+pub has_index : (xs : List ℕ) (q : ℕ) → has xs q ≡ true → (i : ℕ) × (slice_get xs i ≡ Some q)
+has_index [] q m = absurd (cc m)
+has_index (x ∷ xs) q m = elim (either (nat_eq q x) (has xs q) m) [
+  | inl e ↦ (zero, ap Some (sym (eqb-true q x e)))
+  | inr e ↦ let k = has_index xs q e in (suc k.0, k.1)
+]
+
+pub index_has : (xs : List ℕ) (i q : ℕ) → slice_get xs i ≡ Some q → has xs q ≡ true
+index_has xs i q e = ap (has xs) (sym (get_or_from_slice_get xs i q 0 e)) ∙ has_at xs i (slice_get_within xs i q e)

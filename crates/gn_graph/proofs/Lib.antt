@@ -1,9 +1,10 @@
 mod Results
 mod Has
+mod Places
 mod Uses
 mod PlanSteps
 mod Table
-mod Known
+mod States
 mod Reached
 mod Answers
 mod Flat

@@ -1,12 +1,10 @@
 -- Facts by number, and rules over numbers that stand for rules over facts.
-use Rattle.std.proofs.Common.{◌≡◌, ◌↔◌, ℕ, zero, suc, List, [], ◌∷◌, ◌++◌, true}
+use Rattle.std.proofs.Common.{◌≡◌, ℕ, zero, suc, List, [], ◌∷◌, ◌++◌, true}
 use Rattle.std.proofs.Common.{◌||◌, Option, Some, slice_get, unwrap_or, refl, sym, ◌∙◌, ap, subst, inl, inr, nat_eq, eqb-true}
-use Rattle.std.proofs.lemmas.List.{append_assoc, append-nil}
 use Rattle.gn_closure.specs.Closure.{Horn, In}
 use Rattle.gn_closure.specs.Ground.{Step, Set_up}
-use Rattle.gn_graph.specs.Clauses.{has, Derivable, rule}
-use Rattle.gn_graph.specs.Plans.{AllIn, IsUsed}
-use Rattle.gn_graph.specs.Numbers.{Derived, by_rule, Extends, Grows, IsTable, AreAt, StandsFor, StandFor, AddsFor, fact_of, facts_of, horn_at, horns_at, Known, known, IsKnown}
+use Rattle.gn_graph.specs.Clauses.{has}
+use Rattle.gn_graph.specs.Numbers.{Extends, Grows, AreAt, StandsFor, StandFor, fact_of, facts_of, horn_at, horns_at}
 use Rattle.gn_graph.proofs.Has.{or_true, either, has_own}
 
 pub grows_more : (ss ts : List Step) → Grows ss (ss ++ ts)
@@ -47,32 +45,16 @@ stand_more ss [] (h ∷ hs) qs gs a b = absurd a
 stand_more ss (r ∷ rs) [] qs gs a b = absurd a
 stand_more ss (r ∷ rs) (h ∷ hs) qs gs a b = (a.0, stand_more ss rs hs qs gs a.1 b)
 
--- one rule more stands behind the others
-pub adds_one : (old new : List Step) → Grows old new → (rs now : List (Horn ℕ)) (r : Horn ℕ) (h : Horn Step) → now ≡ rs ++ r ∷ [] → StandsFor new r h → AddsFor old new rs now (h ∷ [])
-adds_one old new g rs now r h e s hs a
-    = subst (λ (z : List (Horn ℕ)). StandFor new z (hs ++ h ∷ [])) (sym e) (stand_more new rs hs (r ∷ []) (h ∷ []) (stand_grows old new g rs hs a) (s, tt))
-
--- and others behind them
-pub adds_on : (a b c : List Step) (rs qs ps : List (Horn ℕ)) (hs gs more : List (Horn Step)) → more ≡ hs ++ gs → AddsFor a b rs qs hs → AddsFor b c qs ps gs → AddsFor a c rs ps more
-adds_on a b c rs qs ps hs gs more e f g xs s
-    = subst (λ (z : List (Horn Step)). StandFor c ps z) (append_assoc xs hs gs ∙ ap (λ (z : List (Horn Step)). xs ++ z) (sym e)) (g (xs ++ hs) (f xs s))
-
-pub adds_grown : (a b c : List Step) → Grows a b → (rs qs : List (Horn ℕ)) (hs : List (Horn Step)) → AddsFor b c rs qs hs → AddsFor a c rs qs hs
-adds_grown a b c g rs qs hs f xs s = f xs (stand_grows a b g rs xs s)
-
-pub adds_none : (ss : List Step) (rs : List (Horn ℕ)) → AddsFor ss ss rs rs []
-adds_none ss rs hs s = subst (λ (z : List (Horn Step)). StandFor ss rs z) (sym (append-nil hs)) s
-
-fact_is : (ss : List Step) (n : ℕ) (t : Step) → slice_get ss n ≡ Some t → fact_of ss n ≡ t
+pub fact_is : (ss : List Step) (n : ℕ) (t : Step) → slice_get ss n ≡ Some t → fact_of ss n ≡ t
 fact_is ss n t e = ap (λ (z : Option Step). unwrap_or z (Set_up [])) e
 
-at_is : (ss : List Step) (ns : List ℕ) (ts : List Step) → AreAt ss ns ts → facts_of ss ns ≡ ts
+pub at_is : (ss : List Step) (ns : List ℕ) (ts : List Step) → AreAt ss ns ts → facts_of ss ns ≡ ts
 at_is ss [] [] a = refl
 at_is ss [] (t ∷ ts) a = absurd a
 at_is ss (n ∷ ns) [] a = absurd a
 at_is ss (n ∷ ns) (t ∷ ts) a = (λ i. fact_is ss n t a.0 i ∷ at_is ss ns ts a.1 i)
 
-horn_is : (ss : List Step) (r : Horn ℕ) (h : Horn Step) → StandsFor ss r h → horn_at ss r ≡ h
+pub horn_is : (ss : List Step) (r : Horn ℕ) (h : Horn Step) → StandsFor ss r h → horn_at ss r ≡ h
 horn_is ss r h a = (λ i. record { needs = at_is ss r.needs h.needs a.0 i; gives = fact_is ss r.gives h.gives a.1 i })
 
 pub horns_is : (ss : List Step) (rs : List (Horn ℕ)) (hs : List (Horn Step)) → StandFor ss rs hs → horns_at ss rs ≡ hs
@@ -82,11 +64,11 @@ horns_is ss (r ∷ rs) [] a = absurd a
 horns_is ss (r ∷ rs) (h ∷ hs) a = (λ i. horn_is ss r h a.0 i ∷ horns_is ss rs hs a.1 i)
 
 -- what is there stays itself
-own_at : (ss : List Step) (ns : List ℕ) → ((n : ℕ) → has ns n ≡ true → slice_get ss n ≡ Some (fact_of ss n)) → AreAt ss ns (facts_of ss ns)
+pub own_at : (ss : List Step) (ns : List ℕ) → ((n : ℕ) → has ns n ≡ true → slice_get ss n ≡ Some (fact_of ss n)) → AreAt ss ns (facts_of ss ns)
 own_at ss [] f = tt
 own_at ss (n ∷ ns) f = (f n (has_own n ns), own_at ss ns (λ m e. f m (ap (λ b. nat_eq m n || b) e ∙ or_true (nat_eq m n))))
 
-at_has : (ss : List Step) (ns : List ℕ) (ts : List Step) → AreAt ss ns ts → (n : ℕ) → has ns n ≡ true → slice_get ss n ≡ Some (fact_of ss n)
+pub at_has : (ss : List Step) (ns : List ℕ) (ts : List Step) → AreAt ss ns ts → (n : ℕ) → has ns n ≡ true → slice_get ss n ≡ Some (fact_of ss n)
 at_has ss [] ts a n e = absurd (cc e)
 at_has ss (m ∷ ns) [] a n e = absurd a
 at_has ss (m ∷ ns) (t ∷ ts) a n e = elim (either (nat_eq n m) (has ns n) e) [
@@ -94,81 +76,30 @@ at_has ss (m ∷ ns) (t ∷ ts) a n e = elim (either (nat_eq n m) (has ns n) e) 
   | inr b ↦ at_has ss ns ts a.1 n b
 ]
 
-stand_at : (ss : List Step) (rs : List (Horn ℕ)) → StandFor ss rs (horns_at ss rs) → (i : ℕ) (r : Horn ℕ) → slice_get rs i ≡ Some r → StandsFor ss r (horn_at ss r)
+pub stand_at : (ss : List Step) (rs : List (Horn ℕ)) → StandFor ss rs (horns_at ss rs) → (i : ℕ) (r : Horn ℕ) → slice_get rs i ≡ Some r → StandsFor ss r (horn_at ss r)
 stand_at ss [] a i r e = absurd (cc e)
 stand_at ss (x ∷ rs) a zero r e = let s : x ≡ r = cc e in subst (λ (z : Horn ℕ). StandsFor ss z (horn_at ss z)) s a.0
 stand_at ss (x ∷ rs) a (suc i) r e = stand_at ss rs a.1 i r e
 
 -- members
-in_facts : (ss : List Step) (ns : List ℕ) (s : Step) → In (facts_of ss ns) s → (n : ℕ) × (has ns n ≡ true) × (fact_of ss n ≡ s)
+pub in_facts : (ss : List Step) (ns : List ℕ) (s : Step) → In (facts_of ss ns) s → (n : ℕ) × (has ns n ≡ true) × (fact_of ss n ≡ s)
 in_facts ss [] s i = absurd i
 in_facts ss (n ∷ ns) s (inl e) = (n, has_own n ns, e)
 in_facts ss (n ∷ ns) s (inr i) = let q = in_facts ss ns s i in (q.0, ap (λ b. nat_eq q.0 n || b) q.1 ∙ or_true (nat_eq q.0 n), q.2)
 
-facts_in : (ss : List Step) (ns : List ℕ) (n : ℕ) → has ns n ≡ true → In (facts_of ss ns) (fact_of ss n)
+pub facts_in : (ss : List Step) (ns : List ℕ) (n : ℕ) → has ns n ≡ true → In (facts_of ss ns) (fact_of ss n)
 facts_in ss [] n e = absurd (cc e)
 facts_in ss (m ∷ ns) n e = elim (either (nat_eq n m) (has ns n) e) [
   | inl b ↦ inl (ap (fact_of ss) (sym (eqb-true n m b)))
   | inr b ↦ inr (facts_in ss ns n b)
 ]
 
-in_horns : (ss : List Step) (rs : List (Horn ℕ)) (h : Horn Step) → In (horns_at ss rs) h → (i : ℕ) × (r : Horn ℕ) × (slice_get rs i ≡ Some r) × (horn_at ss r ≡ h)
+pub in_horns : (ss : List Step) (rs : List (Horn ℕ)) (h : Horn Step) → In (horns_at ss rs) h → (i : ℕ) × (r : Horn ℕ) × (slice_get rs i ≡ Some r) × (horn_at ss r ≡ h)
 in_horns ss [] h i = absurd i
 in_horns ss (r ∷ rs) h (inl e) = (0, r, refl, e)
 in_horns ss (r ∷ rs) h (inr i) = let q = in_horns ss rs h i in (suc q.0, q.1, q.2, q.3)
 
-horns_in : (ss : List Step) (rs : List (Horn ℕ)) (i : ℕ) (r : Horn ℕ) → slice_get rs i ≡ Some r → In (horns_at ss rs) (horn_at ss r)
+pub horns_in : (ss : List Step) (rs : List (Horn ℕ)) (i : ℕ) (r : Horn ℕ) → slice_get rs i ≡ Some r → In (horns_at ss rs) (horn_at ss r)
 horns_in ss [] i r e = absurd (cc e)
 horns_in ss (x ∷ rs) zero r e = let s : x ≡ r = cc e in inl (ap (horn_at ss) s)
 horns_in ss (x ∷ rs) (suc i) r e = inr (horns_in ss rs i r e)
-
-module _ (ss : List Step) (rs : List (Horn ℕ)) (found : List ℕ) (u : ℕ → List ℕ) (k : IsKnown ss rs found u) where
-  pub found_at : (f : ℕ) → has found f ≡ true → slice_get ss f ≡ Some (fact_of ss f)
-  found_at f m = by f (k.closed.sound f m)
-    where
-      by : (f : ℕ) → Derivable rs f → slice_get ss f ≡ Some (fact_of ss f)
-      by f (rule i r g ri e all) = let w : slice_get ss r.gives ≡ Some (fact_of ss r.gives) = (stand_at ss rs k.stands i r ri).1 in subst (λ (z : ℕ). slice_get ss z ≡ Some (fact_of ss z)) e w
-
-  -- the rules and the facts found stay as the table grows
-  pub stays : (new : List Step) → Grows ss new → known new rs found ≡ known ss rs found
-  stays new g =
-      let a : horns_at new rs ≡ horns_at ss rs = horns_is new rs (horns_at ss rs) (stand_grows ss new g rs (horns_at ss rs) k.stands) in
-      let b : facts_of new found ≡ facts_of ss found = at_is new found (facts_of ss found) (at_grows ss new g found (facts_of ss found) (own_at ss found found_at)) in
-      (λ i. record { rules = a i; found = b i })
-
-  pub still : (new : List Step) (v : ℕ → List ℕ) → IsTable new → Grows ss new → IsUsed rs v → IsKnown new rs found v
-  still new v t g w = record {
-    table = t;
-    stands = subst (λ (z : List (Horn Step)). StandFor new rs z) (sym (horns_is new rs (horns_at ss rs) (stand_grows ss new g rs (horns_at ss rs) k.stands))) (stand_grows ss new g rs (horns_at ss
-        rs) k.stands);
-    closed = k.closed;
-    used = w;
-    once = k.once;
-  }
-
-  -- what was found follows
-  follows : (f : ℕ) → Derivable rs f → Derived (horns_at ss rs) (fact_of ss f)
-  follows f (rule i r g ri e all) = by_rule (horn_at ss r) (fact_of ss g) (ap (fact_of ss) e) (horns_in ss rs i r ri)
-      (λ p n. let q = in_facts ss r.needs p n in subst (Derived (horns_at ss rs)) q.2 (follows q.0 (all q.0 q.1)))
-
-  -- and all that follows was found
-  whole : (s : Step) → Derived (horns_at ss rs) s → In (facts_of ss found) s
-  whole s (by_rule h s' e i all) =
-      let q = in_horns ss rs h i in
-      let r : Horn ℕ = q.1 in
-      let ready : AllIn (has found) r.needs = λ p n.
-      let w : In (facts_of ss found) (fact_of ss p) = whole (fact_of ss p) (all (fact_of ss p) (subst (λ (z : Horn Step). In z.needs (fact_of ss p)) q.3 (facts_in ss r.needs p n))) in
-      let g = in_facts ss found (fact_of ss p) w in
-      let same : g.0 ≡ p = k.table g.0 p (fact_of ss p) (found_at g.0 g.1 ∙ ap Some g.2) (at_has ss r.needs (facts_of ss r.needs) (stand_at ss rs k.stands q.0 r q.2).0 p n) in
-      subst (λ (z : ℕ). has found z ≡ true) same g.1 in
-      let there : In (facts_of ss found) (fact_of ss r.gives) = facts_in ss found r.gives (k.closed.closed q.0 r q.2 ready) in
-      subst (In (facts_of ss found)) (ap (λ (z : Horn Step). z.gives) q.3 ∙ e) there
-
-  pub found_sound : (s : Step) → In (facts_of ss found) s → Derived (horns_at ss rs) s
-  found_sound s i = let q = in_facts ss found s i in subst (Derived (horns_at ss rs)) q.2 (follows q.0 (k.closed.sound q.0 q.1))
-
-  pub found_whole : (s : Step) → Derived (horns_at ss rs) s → In (facts_of ss found) s
-  found_whole s d = whole s d
-
-  pub all_found : (now : Known) → known ss rs found ≡ now → (s : Step) → In now.found s ↔ Derived now.rules s
-  all_found now e = subst (λ (z : Known). (s : Step) → In z.found s ↔ Derived z.rules s) e (λ s. (found_sound s, whole s))

@@ -9,6 +9,9 @@ use Rattle.gn_graph.specs.declared.clause.Clause.{Clause}
 abbrev pub has : List ℕ → ℕ → Bool
 has xs q = list_any (nat_eq q) xs
 
+abbrev pub horn : List ℕ → ℕ → Horn ℕ
+horn needs gives = record { needs = needs; gives = gives }
+
 abbrev pub horn_of : Clause → Horn ℕ
 horn_of c = record { needs = c.needs.items; gives = c.gives }
 
@@ -23,6 +26,7 @@ items_of (Some v) = v.items
 abbrev pub waits_at : Vec (Vec ℕ Global) Global → ℕ → List ℕ
 waits_at lists p = items_of (slice_get lists.items p)
 
--- what follows from rules
-pub data Derivable (rs : List (Horn ℕ)) : ℕ → Type 0 where
-  rule : (i : ℕ) (r : Horn ℕ) (f : ℕ) → slice_get rs i ≡ Some r → r.gives ≡ f → ((p : ℕ) → has r.needs p ≡ true → Derivable rs p) → Derivable rs f
+-- what follows from rules and from facts that hold
+pub data Follows (rs : List (Horn ℕ)) (base : List ℕ) : ℕ → Type 0 where
+  held : (f : ℕ) → has base f ≡ true → Follows rs base f
+  rule : (i : ℕ) (r : Horn ℕ) (f : ℕ) → slice_get rs i ≡ Some r → r.gives ≡ f → ((p : ℕ) → has r.needs p ≡ true → Follows rs base p) → Follows rs base f

@@ -1,11 +1,8 @@
 -- How rules and what follows from them are kept.
-use Rattle.gn_graph.specs.declared.closure.Closure.TheInside.{Inside}
+use Rattle.gn_graph.specs.declared.parts.Parts.{Parts}
 use Rattle.gn_graph.specs.Clauses.{horns, waits_at}
 use Rattle.gn_graph.specs.Facts.{steps_in}
-use Rattle.gn_graph.specs.Numbers.{Known, known, IsKnown}
+use Rattle.gn_graph.specs.States.{State, state}
 
-abbrev pub known_in : Inside → Known
-known_in c = known (steps_in c.facts.keys) (horns c.clauses.items) c.holds.keys
-
-abbrev pub IsKept : Inside → Type 0
-IsKept c = IsKnown (steps_in c.facts.keys) (horns c.clauses.items) c.holds.keys (waits_at c.uses)
+abbrev pub state_of : Parts → State
+state_of p = state (steps_in p.facts.keys) (horns p.clauses.items) p.held (waits_at p.uses)

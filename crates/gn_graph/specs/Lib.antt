@@ -1,8 +1,10 @@
+pub mod Places
 pub mod Clauses
 pub mod Plans
 pub mod Facts
 pub mod Needs
 pub mod Numbers
+pub mod States
 pub mod Kept
 pub mod Replies
 pub mod Graphs

@@ -1,10 +1,7 @@
 -- Facts by number: a table of facts, and rules over numbers that stand for rules over facts.
-use Rattle.std.specs.Prelude.{◌≡◌, ◌↔◌, ℕ, List, [], ◌∷◌, ◌++◌, Some, map, unwrap_or, slice_get, nat_eq}
-use Rattle.std.specs.List.{IsDistinct}
+use Rattle.std.specs.Prelude.{◌≡◌, ◌↔◌, ◌⊎◌, ℕ, List, [], ◌∷◌, ◌++◌, Some, map, unwrap_or, slice_get}
 use Rattle.gn_closure.specs.Closure.{Horn, In}
 use Rattle.gn_closure.specs.Ground.{Step, Set_up}
-use Rattle.gn_graph.specs.Clauses.{has}
-use Rattle.gn_graph.specs.Plans.{IsUsed, IsClosed}
 
 -- what follows from rules over facts
 pub data Derived (rs : List (Horn Step)) : Step → Type 0 where
@@ -39,10 +36,6 @@ StandFor ss [] (h ∷ hs) = ⊥
 StandFor ss (r ∷ rs) [] = ⊥
 StandFor ss (r ∷ rs) (h ∷ hs) = StandsFor ss r h × StandFor ss rs hs
 
--- rules over numbers that stand behind others stand for more rules over facts
-abbrev pub AddsFor : List Step → List Step → List (Horn ℕ) → List (Horn ℕ) → List (Horn Step) → Type 0
-AddsFor old new before after more = (hs : List (Horn Step)) → StandFor old before hs → StandFor new after (hs ++ more)
-
 -- the fact of a number
 abbrev pub fact_of : List Step → ℕ → Step
 fact_of ss n = unwrap_or (slice_get ss n) (Set_up [])
@@ -57,33 +50,23 @@ horn_at ss r = record { needs = facts_of ss r.needs; gives = fact_of ss r.gives 
 abbrev pub horns_at : List Step → List (Horn ℕ) → List (Horn Step)
 horns_at ss rs = map (horn_at ss) rs
 
--- what is kept of rules: the rules, and what follows from them, in the order in which it was found
+-- what is kept of rules: those that wait for a fact, and what follows, in the order in which it was found
 pub record Known : Type 0 where
-  pub rules : List (Horn Step)
+  pub waiting : List (Horn Step)
   pub found : List Step
-
-abbrev pub known : List Step → List (Horn ℕ) → List ℕ → Known
-known ss rs found = record { rules = horns_at ss rs; found = facts_of ss found }
-
--- what is kept of rules over numbers is closed under them
-pub record IsKnown (ss : List Step) (rs : List (Horn ℕ)) (found : List ℕ) (u : ℕ → List ℕ) : Type 0 where
-  pub table : IsTable ss
-  pub stands : StandFor ss rs (horns_at ss rs)
-  pub closed : IsClosed rs (has found)
-  pub used : IsUsed rs u
-  pub once : IsDistinct nat_eq found
 
 -- a list with more behind it
 abbrev pub IsMore : {A : Type 0} → List A → List A → Type 0
 IsMore {A} old new = (rest : List A) × (new ≡ old ++ rest)
 
--- just what follows was found, and each once
-pub record IsWhole (k : Known) : Type 0 where
-  pub whole : (s : Step) → In k.found s ↔ Derived k.rules s
+-- just what follows from the rules was found, and each once; just rules wait, and of each rule that doesn't wait what it gives was found
+pub record IsWhole (rules : List (Horn Step)) (k : Known) : Type 0 where
+  pub whole : (s : Step) → In k.found s ↔ Derived rules s
   pub once : IsTable k.found
+  pub each : (h : Horn Step) → In rules h → In k.waiting h ⊎ In k.found h.gives
+  pub part : (h : Horn Step) → In k.waiting h → In rules h
 
--- rules were added, and what follows from them
+-- rules were added to whatever rules there were, and what follows from them
 pub record HasAdded (old new : Known) (more : List (Horn Step)) : Type 0 where
-  pub rules : new.rules ≡ old.rules ++ more
   pub found : IsMore old.found new.found
-  pub whole : IsWhole new
+  pub whole : (rules : List (Horn Step)) → IsWhole rules old → IsWhole (rules ++ more) new

@@ -10,11 +10,10 @@ use Rattle.gn_graph.specs.Replies.{units_in, AreSingle, default_in, all_rules}
 abbrev pub answers_in : Inside → Answers
 answers_in g = record { replies = map reply_of g.answers.items; found = g.closure.found }
 
--- the rules are those of the answers
+-- what was found follows from the rules of the answers
 pub record IsOver (g : Inside) : Type 0 where
-  pub rules : g.closure.rules ≡ all_rules (map reply_of g.answers.items)
+  pub whole : IsWhole (all_rules (map reply_of g.answers.items)) g.closure
   pub default : g.default ≡ default_in (units_in (map reply_of g.answers.items) (Setup []))
   pub single : AreSingle (map reply_of g.answers.items)
   pub counts : AreCounts g.closure.found g.counts
   pub all : length g.closure.found ≤ g.counts.seen
-  pub whole : IsWhole g.closure

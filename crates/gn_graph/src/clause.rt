@@ -1,9 +1,11 @@
 // Rules over numbers, and which rules use a number.
 
-ghost use Rattle.std.specs.Prelude.{◌≡◌, ℕ, ◌+◌, ◌<◌, ◌++◌, OnOk, true, slice_get, Some, length};
-ghost use Rattle.gn_graph.specs.Clauses.{has, horn_of, horns, waits_at};
-ghost use Rattle.gn_graph.specs.Plans.{IsUsed};
+ghost use Rattle.std.specs.Prelude.{◌≡◌, ℕ, ◌∷◌, [], ◌<◌, ◌≤◌, ◌++◌, OnOk, true, false, length, take};
+ghost use Rattle.gn_graph.specs.Clauses.{has, horn, horns, waits_at};
+ghost use Rattle.gn_graph.specs.Numbers.{IsMore};
+ghost use Rattle.gn_graph.specs.States.{AreKept};
 
+use crate::held::Held;
 use std::alloc::{AllocError, Global};
 
 /// A rule over numbers of facts: where all that it needs holds, what it gives holds.
@@ -48,34 +50,77 @@ fn use_one(alloc: Global, uses: &mut Uses, p: usize, i: usize) -> Result<(), All
     note_use(uses, p, i)
 }
 
-// Notes that the rule of number i uses these facts.
-fn use_all(alloc: Global, uses: &mut Uses, needs: &[usize], i: usize) -> Result<(), AllocError>
-    ensures kept { (q j : ℕ) → has (waits_at uses.old q) j ≡ true → has (waits_at uses.new q) j ≡ true }
-    ensures added { OnOk result ((p : ℕ) → has needs.now p ≡ true → has (waits_at uses.new p) i ≡ true) }
+// The same, where the fact doesn't hold before the place n.
+fn use_waiting(
+    alloc: Global,
+    uses: &mut Uses,
+    p: usize,
+    held: &Held,
+    n: usize,
+    i: usize,
+) -> Result<(), AllocError>
+    requires { n ≤ length held.now }
+    ensures kept { AreKept (waits_at uses.old) (waits_at uses.new) }
+    ensures added { OnOk result (has (take n held.now) p ≡ false → has (waits_at uses.new p) i ≡ true) }
+{
+    if held.has_before(p, n) {
+        return Ok(());
+    }
+    use_one(alloc, uses, p, i)
+}
+
+// Notes that the rule of number i uses these facts, as far as they don't hold before the place n.
+fn use_all(
+    alloc: Global,
+    uses: &mut Uses,
+    needs: &[usize],
+    held: &Held,
+    n: usize,
+    i: usize,
+) -> Result<(), AllocError>
+    requires { n ≤ length held.now }
+    ensures kept { AreKept (waits_at uses.old) (waits_at uses.new) }
+    ensures added { OnOk result ((p : ℕ) → has needs.now p ≡ true → has (take n held.now) p ≡ false → has (waits_at uses.new p) i ≡ true) }
 {
     for p in needs {
-        use_one(alloc, uses, *p, i)?;
+        use_waiting(alloc, uses, *p, held, n, i)?;
     }
     Ok(())
 }
 
-// Notes which facts the extra rules use, which are to stand behind the others.
-pub(crate) fn use_extra(
+// A rule is put last.
+fn put_clause(
     alloc: Global,
-    uses: &mut Uses,
-    clauses: &[Clause],
-    extra: &[Clause],
+    clauses: &mut Vec<Clause>,
+    needs: &[usize],
+    gives: usize,
 ) -> Result<(), AllocError>
-    requires { IsUsed (horns clauses.now) (waits_at uses.old) }
-    ensures kept { (q j : ℕ) → has (waits_at uses.old q) j ≡ true → has (waits_at uses.new q) j ≡ true }
-    ensures used { OnOk result (IsUsed (horns clauses.now ++ horns extra.now) (waits_at uses.new)) }
+    ensures ok { OnOk result (horns clauses.new.items ≡ horns clauses.old.items ++ horn needs.now gives ∷ []) }
+    ensures more { IsMore (horns clauses.old.items) (horns clauses.new.items) }
 {
-    let mut i = clauses.len();
-    for clause in extra {
-        use_all(alloc, uses, &clause.needs, i)?;
-        i += 1;
-    }
+    let needs = Vec::from_slice(alloc, needs)?;
+    clauses.push(Clause { needs, gives })?;
     Ok(())
+}
+
+/// A rule is put last, and its uses are noted of the facts that don't hold before the place n.
+pub(crate) fn keep(
+    alloc: Global,
+    clauses: &mut Vec<Clause>,
+    uses: &mut Uses,
+    held: &Held,
+    n: usize,
+    needs: &[usize],
+    gives: usize,
+) -> Result<(), AllocError>
+    requires { n ≤ length held.now }
+    ensures kept { AreKept (waits_at uses.old) (waits_at uses.new) }
+    ensures added { OnOk result ((p : ℕ) → has needs.now p ≡ true → has (take n held.now) p ≡ false → has (waits_at uses.new p) (length clauses.old.items) ≡ true) }
+    ensures ok { OnOk result (horns clauses.new.items ≡ horns clauses.old.items ++ horn needs.now gives ∷ []) }
+    ensures more { IsMore (horns clauses.old.items) (horns clauses.new.items) }
+{
+    use_all(alloc, uses, needs, held, n, clauses.len())?;
+    put_clause(alloc, clauses, needs, gives)
 }
 
 // The rules that use a fact, and maybe others.

@@ -1,128 +1,107 @@
 // Rules, and all that follows from them; rules that can't be added change nothing.
 
-ghost use Rattle.std.specs.Prelude.{◌≡◌, ◌++◌, [], ℕ, ◌≤◌, ◌<◌, ◌^◌, OnOk, OnErr, IfOk, Some, length, slice_get, ◌↔◌, true, false, nat_eq};
-ghost use Rattle.std.specs.List.{IsDistinct};
-ghost use Rattle.std.specs.HashSet.{spare};
-ghost use Rattle.gn_closure.specs.Closure.{In};
-ghost use Rattle.gn_closure.specs.Ground.{Step};
-ghost use Rattle.gn_graph.specs.Clauses.{has, horn_of, horns, waits_at};
-ghost use Rattle.gn_graph.specs.Plans.{IsClosed, IsUsed, IsPlan};
-ghost use Rattle.gn_graph.specs.Facts.{unit_rules_in, step_of, steps_in};
-ghost use Rattle.gn_graph.specs.Numbers.{Extends, StandFor, IsTable, HasAdded, Derived};
+ghost use Rattle.std.specs.Prelude.{◌≡◌, [], ◌<◌, ◌^◌, OnOk, OnErr, length, slice_get, take};
 ghost use Rattle.std.specs.Option.{option_map};
+ghost use Rattle.gn_graph.specs.Facts.{unit_rules_in, step_of};
+ghost use Rattle.gn_graph.specs.Numbers.{HasAdded};
+ghost use Rattle.gn_graph.specs.States.{IsSound, Grown, TookIn, known_of};
+ghost use Rattle.gn_graph.specs.Kept.{state_of};
 
-use crate::clause::{Clause, Uses, use_extra};
-use crate::consequences::{consequences, fact_at};
+use crate::clause::Clause;
+use crate::consequences::consequences;
 use crate::fact::Fact;
-use crate::hints::Hints;
-use crate::numbering::all_numbered;
+use crate::held::Held;
+use crate::parts::{Parts, no_parts};
 use crate::rule::UnitRules;
-use indexmap::IndexSet;
+use crate::taking::take_units;
 use std::alloc::{AllocError, Global};
 use std::marker::Model;
 
-// Rules over numbers, and the facts that they add to those that hold.
-#[derive(Drop)]
-struct Planned {
-    clauses: Vec<Clause>,
-    new: IndexSet<usize>,
+// All that follows from the rules that wait is found.
+fn follow_waiting(parts: &mut Parts, start: usize) -> Result<(), AllocError>
+    requires sound { IsSound (state_of parts.old) start }
+    ensures grown { Grown (state_of parts.old) (state_of parts.new) }
+    ensures took { OnOk result (TookIn (length parts.new.held) (state_of parts.old) (state_of parts.new) []) }
+{
+    consequences(&parts.clauses, &mut parts.held, &parts.uses, start)
 }
 
-// Works out what rules add. It changes nothing but that facts get numbers and that uses are noted.
-fn make_plan(
+// Rules are taken in, and what follows from them is found. Numbers are listed on the way in a list that is lent.
+fn take_in(
     alloc: Global,
-    facts: &mut IndexSet<Fact>,
-    hints: &mut Hints,
-    clauses: &[Clause],
-    holds: &IndexSet<usize>,
-    uses: &mut Uses,
+    parts: &mut Parts,
+    needs: &mut Vec<usize>,
+    start: usize,
     rules: &[UnitRules<'_>],
-) -> Result<Planned, AllocError>
-    requires closed { IsClosed (horns clauses.now) (has holds.now.keys) }
-    requires used { IsUsed (horns clauses.now) (waits_at uses.old) }
-    ensures grows { Extends (steps_in facts.old.keys) (steps_in facts.new.keys) }
-    ensures kept { (q j : ℕ) → has (waits_at uses.old q) j ≡ true → has (waits_at uses.new q) j ≡ true }
-    ensures stand { IfOk result (λ p. StandFor (steps_in facts.new.keys) (horns p.clauses.items) (unit_rules_in rules.now)) }
-    ensures used { IfOk result (λ p. IsUsed (horns clauses.now ++ horns p.clauses.items) (waits_at uses.new)) }
-    ensures plan { IfOk result (λ p. IsPlan (horns clauses.now ++ horns p.clauses.items) (has holds.now.keys) p.new.keys) }
+) -> Result<(), AllocError>
+    requires sound { IsSound (state_of parts.old) start }
+    ensures grown { Grown (state_of parts.old) (state_of parts.new) }
+    ensures took { OnOk result (TookIn (length parts.new.held) (state_of parts.old) (state_of parts.new) (unit_rules_in rules.now)) }
 {
-    let extra = all_numbered(alloc, facts, hints, rules)?;
-    use_extra(alloc, uses, clauses, &extra)?;
-    let new = consequences(alloc, clauses, &extra, holds, uses)?;
-    Ok(Planned {
-        clauses: extra,
-        new,
-    })
+    take_units(alloc, parts, needs, start, rules)?;
+    follow_waiting(parts, start)
 }
 
-// The new facts hold; there is room for them.
-fn commit(holds: &mut IndexSet<usize>, new: &IndexSet<usize>)
-    requires room { length new.now.keys ≤ spare holds.old }
-    requires distinct { IsDistinct nat_eq new.now.keys }
-    requires fresh { (f : ℕ) → has new.now.keys f ≡ true → has holds.old.keys f ≡ false }
-    ensures { holds.new.keys ≡ holds.old.keys ++ new.now.keys }
+// What was taken in is taken back.
+fn take_back(clauses: &mut Vec<Clause>, held: &mut Held, kept: usize, start: usize)
+    ensures clauses { clauses.new.items ≡ take kept clauses.old.items }
+    ensures held { held.new ≡ take start held.old }
 {
-    let mut k = 0;
-    while k < new.len() {
-        let _ = holds.insert(fact_at(new, k));
-        k += 1;
+    clauses.truncate(kept);
+    held.cut(start);
+}
+
+// Rules are taken in, and what follows from them is found; or nothing is changed but the numbers of facts.
+fn take_or_leave(
+    alloc: Global,
+    parts: &mut Parts,
+    needs: &mut Vec<usize>,
+    rules: &[UnitRules<'_>],
+) -> Result<(), AllocError>
+    requires sound { IsSound (state_of parts.old) (length parts.old.held) }
+    ensures sound { IsSound (state_of parts.new) (length parts.new.held) }
+    ensures added { OnOk result (HasAdded (known_of (state_of parts.old)) (known_of (state_of parts.new)) (unit_rules_in rules.now)) }
+    ensures err { OnErr result (known_of (state_of parts.new) ≡ known_of (state_of parts.old)) }
+{
+    let start = parts.held.len();
+    let kept = parts.clauses.len();
+    match take_in(alloc, parts, needs, start, rules) {
+        Ok(()) => Ok(()),
+        Err(error) => {
+            take_back(&mut parts.clauses, &mut parts.held, kept, start);
+            Err(error)
+        }
     }
 }
 
-// What was planned is done, or nothing is.
-fn carry_out(
-    clauses: &mut Vec<Clause>,
-    holds: &mut IndexSet<usize>,
-    plan: &mut Planned,
-) -> Result<(), AllocError>
-    requires distinct { IsDistinct nat_eq plan.old.new.keys }
-    requires fresh { (f : ℕ) → has plan.old.new.keys f ≡ true → has holds.old.keys f ≡ false }
-    ensures clauses { OnOk result (clauses.new.items ≡ clauses.old.items ++ plan.old.clauses.items) }
-    ensures holds { OnOk result (holds.new.keys ≡ holds.old.keys ++ plan.old.new.keys) }
-    ensures err { OnErr result ((clauses.new.items ≡ clauses.old.items) × (holds.new.keys ≡ holds.old.keys)) }
-{
-    holds.reserve(plan.new.len())?;
-    clauses.append(&mut plan.clauses)?;
-    commit(holds, &plan.new);
-    Ok(())
-}
-
-/// Rules, and all that follows from them.
+/// Rules, and all that follows from them. Of the rules those are kept that wait for a fact.
 #[derive(Drop)]
 pub(crate) struct Closure {
     alloc: Global,
-    // The facts that rules name: a fact's number is its place.
-    facts: IndexSet<Fact>,
-    hints: Hints,
-    clauses: Vec<Clause>,
-    // The facts that hold, in the order in which they were found.
-    holds: IndexSet<usize>,
-    uses: Uses,
+    parts: Parts,
 }
 
 impl Model for Closure {
+    ghost use Rattle.std.specs.Prelude.{length};
     ghost use Rattle.gn_graph.specs.Numbers.{Known};
-    ghost use Rattle.gn_graph.specs.Kept.{known_in, IsKept};
+    ghost use Rattle.gn_graph.specs.States.{IsSound, known_of};
+    ghost use Rattle.gn_graph.specs.Kept.{state_of};
 
     ghost Value = { Known };
 
-    ghost view = { known_in };
+    ghost view = { λ c. known_of (state_of c.parts) };
 
-    ghost invariant = { IsKept };
+    ghost invariant = { λ c. IsSound (state_of c.parts) (length c.parts.held) };
 }
 
 impl Closure {
     /// No rules. It takes no memory.
     pub(crate) fn new(alloc: Global) -> Closure
-        ensures { result ≡ record { rules = []; found = [] } }
+        ensures { result ≡ record { waiting = []; found = [] } }
     {
         Closure {
             alloc,
-            facts: IndexSet::new(alloc),
-            hints: Hints::new(),
-            clauses: Vec::new(alloc),
-            holds: IndexSet::new(alloc),
-            uses: Vec::new(alloc),
+            parts: no_parts(alloc),
         }
     }
 
@@ -131,19 +110,10 @@ impl Closure {
         ensures added { OnOk result (HasAdded self.old self.new (unit_rules_in rules.now)) }
         ensures err { OnErr result (self.new ≡ self.old) }
     {
-        let mut plan = make_plan(
-            self.alloc,
-            &mut self.facts,
-            &mut self.hints,
-            &self.clauses,
-            &self.holds,
-            &mut self.uses,
-            rules,
-        )?;
-        let done = carry_out(&mut self.clauses, &mut self.holds, &mut plan);
-        drop(plan);
-        done?;
-        Ok(())
+        let mut needs = Vec::new(self.alloc);
+        let done = take_or_leave(self.alloc, &mut self.parts, &mut needs, rules);
+        drop(needs);
+        done
     }
 
     /// How many facts follow. It takes no memory.
@@ -151,18 +121,16 @@ impl Closure {
         ensures len { result ≡ length self.now.found }
         ensures small { result < 2 ^ 63 }
     {
-        self.holds.len()
+        self.parts.held.len()
     }
 
     /// The fact of a number among those that follow, in the order in which they were found.
     pub(crate) fn found(&self, n: usize) -> Option<&Fact>
         ensures fact { option_map (λ fact. step_of fact.now) result ≡ slice_get self.now.found n }
-        ensures whole { (s : Step) → In self.now.found s ↔ Derived self.now.rules s }
-        ensures once { IsTable self.now.found }
     {
-        match self.holds.get_index(n) {
+        match self.parts.held.get(n) {
             None => None,
-            Some(fact) => self.facts.get_index(*fact),
+            Some(fact) => self.parts.facts.get_index(fact),
         }
     }
 }

@@ -1,26 +1,20 @@
-// The facts that follow from new rules, worked out before anything is changed.
+// The facts that follow from rules and from facts that hold.
 
-ghost use Rattle.std.specs.Prelude.{◌≡◌, ℕ, ◌+◌, ◌≤◌, ◌<◌, ◌++◌, IfOk, OnOk, IsTrue, ◌↔◌, Option, Some, true, false, length, slice_get};
-ghost use Rattle.std.specs.List.{IsDistinct};
-ghost use Rattle.std.specs.Option.{option_map};
+ghost use Rattle.std.specs.Prelude.{◌≡◌, ℕ, ◌+◌, ◌≤◌, ◌<◌, OnOk, OnErr, IsTrue, ◌↔◌, Option, Some, true, false, length, take, slice_get};
 ghost use Rattle.gn_graph.specs.Clauses.{has, horn_of, horns, waits_at};
-ghost use Rattle.gn_graph.specs.Plans.{joined, AllIn, IsUsed, IsClosed, Fired, FiredAll, Plan, IsPlan};
+ghost use Rattle.gn_graph.specs.Plans.{AllIn, IsUsed, HaveFired, Fired, FiredAll, Plan, IsPlan};
+ghost use Rattle.gn_graph.specs.Numbers.{IsMore};
 
 use crate::clause::{Clause, Uses, users};
-use indexmap::IndexSet;
-use std::alloc::{AllocError, Global};
+use crate::held::Held;
+use std::alloc::AllocError;
 
-fn knows(holds: &IndexSet<usize>, new: &IndexSet<usize>, p: usize) -> bool
-    ensures { result ≡ joined (has holds.now.keys) new.now.keys p }
-{
-    holds.contains(&p) || new.contains(&p)
-}
-
-fn is_ready(needs: &[usize], holds: &IndexSet<usize>, new: &IndexSet<usize>) -> bool
-    ensures { IsTrue result ↔ AllIn (joined (has holds.now.keys) new.now.keys) needs.now }
+/// Whether all of the facts hold.
+pub(crate) fn all_hold(needs: &[usize], held: &Held) -> bool
+    ensures { IsTrue result ↔ AllIn held.now needs.now }
 {
     for p in needs {
-        if !knows(holds, new, *p) {
+        if !held.has(*p) {
             return false;
         }
     }
@@ -28,120 +22,67 @@ fn is_ready(needs: &[usize], holds: &IndexSet<usize>, new: &IndexSet<usize>) -> 
 }
 
 // Whether all that a rule needs holds, and what it gives doesn't yet.
-fn can_fire(clause: &Clause, holds: &IndexSet<usize>, new: &IndexSet<usize>) -> bool
-    ensures yes { IsTrue result → AllIn (joined (has holds.now.keys) new.now.keys) (horn_of clause.now).needs × (joined (has holds.now.keys) new.now.keys clause.now.gives ≡ false) }
-    ensures no { result ≡ false → AllIn (joined (has holds.now.keys) new.now.keys) (horn_of clause.now).needs → joined (has holds.now.keys) new.now.keys clause.now.gives ≡ true }
+fn can_fire(clause: &Clause, held: &Held) -> bool
+    ensures yes { IsTrue result → AllIn held.now (horn_of clause.now).needs × (has held.now clause.now.gives ≡ false) }
+    ensures no { result ≡ false → AllIn held.now (horn_of clause.now).needs → has held.now clause.now.gives ≡ true }
 {
-    if knows(holds, new, clause.gives) {
+    if held.has(clause.gives) {
         return false;
     }
-    is_ready(&clause.needs, holds, new)
+    all_hold(&clause.needs, held)
 }
 
-// What the rule gives is put behind the new facts, if it may fire.
-fn fire(
-    clause: &Clause,
-    holds: &IndexSet<usize>,
-    new: &mut IndexSet<usize>,
-) -> Result<(), AllocError>
-    ensures { OnOk result (Fired (Some (horn_of clause.now)) (has holds.now.keys) new.old.keys new.new.keys) }
+// What the rule gives is put behind the facts that hold, if it may fire.
+fn fire(clause: &Clause, held: &mut Held) -> Result<(), AllocError>
+    ensures ok { OnOk result (Fired (Some (horn_of clause.now)) held.old held.new) }
+    ensures err { OnErr result (held.new ≡ held.old) }
 {
-    if can_fire(clause, holds, new) {
-        new.insert(clause.gives)?;
-    }
-    Ok(())
-}
-
-// The rule of a number: the extra ones stand behind the others.
-fn rule_at<'a>(clauses: &'a [Clause], extra: &'a [Clause], i: usize) -> Option<&'a Clause>
-    ensures { option_map (λ c. horn_of c.now) result ≡ slice_get (horns clauses.now ++ horns extra.now) i }
-{
-    let n = clauses.len();
-    if i < n {
-        clauses.get(i)
+    if can_fire(clause, held) {
+        held.put(clause.gives)
     } else {
-        extra.get(i - n)
+        Ok(())
     }
 }
 
-fn fire_at(
-    clauses: &[Clause],
-    extra: &[Clause],
-    i: usize,
-    holds: &IndexSet<usize>,
-    new: &mut IndexSet<usize>,
-) -> Result<(), AllocError>
-    ensures { OnOk result (Fired (slice_get (horns clauses.now ++ horns extra.now) i) (has holds.now.keys) new.old.keys new.new.keys) }
+fn fire_at(clauses: &[Clause], i: usize, held: &mut Held) -> Result<(), AllocError>
+    ensures ok { OnOk result (Fired (slice_get (horns clauses.now) i) held.old held.new) }
+    ensures err { OnErr result (held.new ≡ held.old) }
 {
-    match rule_at(clauses, extra, i) {
+    match clauses.get(i) {
         None => Ok(()),
-        Some(clause) => fire(clause, holds, new),
+        Some(clause) => fire(clause, held),
     }
-}
-
-// The extra rules are looked at.
-fn fire_extra(
-    clauses: &[Clause],
-    extra: &[Clause],
-    holds: &IndexSet<usize>,
-    new: &mut IndexSet<usize>,
-) -> Result<(), AllocError>
-    ensures { OnOk result (FiredAll (horns clauses.now ++ horns extra.now) (has holds.now.keys) (λ i. length clauses.now ≤ i) new.old.keys new.new.keys) }
-{
-    let mut k = 0;
-    while k < extra.len() {
-        fire(&extra[k], holds, new)?;
-        k += 1;
-    }
-    Ok(())
 }
 
 // The rules that use a fact are looked at.
-fn fire_users(
-    clauses: &[Clause],
-    extra: &[Clause],
-    list: &[usize],
-    holds: &IndexSet<usize>,
-    new: &mut IndexSet<usize>,
-) -> Result<(), AllocError>
-    ensures { OnOk result (FiredAll (horns clauses.now ++ horns extra.now) (has holds.now.keys) (λ i. has list.now i ≡ true) new.old.keys new.new.keys) }
+fn fire_users(clauses: &[Clause], list: &[usize], held: &mut Held) -> Result<(), AllocError>
+    ensures more { IsMore held.old held.new }
+    ensures ok { OnOk result (FiredAll (horns clauses.now) (λ i. has list.now i ≡ true) held.old held.new) }
 {
     for i in list {
-        fire_at(clauses, extra, *i, holds, new)?;
+        fire_at(clauses, *i, held)?;
     }
     Ok(())
 }
 
-// The fact at a place.
-pub(crate) fn fact_at(new: &IndexSet<usize>, k: usize) -> usize
-    requires { k < length new.now.keys }
-    ensures { slice_get new.now.keys k ≡ Some result }
-{
-    match new.get_index(k) {
-        Some(fact) => *fact,
-        None => unreachable!(),
-    }
-}
-
-// The facts that the extra rules add to those that hold. Each rule is looked at once, and once more for each of its needs.
+/// All that follows is put behind the facts that hold, where those before a place were looked at. Each rule is looked at once for each of
+/// its needs.
 pub(crate) fn consequences(
-    alloc: Global,
     clauses: &[Clause],
-    extra: &[Clause],
-    holds: &IndexSet<usize>,
+    held: &mut Held,
     uses: &Uses,
-) -> Result<IndexSet<usize>, AllocError>
-    requires closed { IsClosed (horns clauses.now) (has holds.now.keys) }
-    requires used { IsUsed (horns clauses.now ++ horns extra.now) (waits_at uses.now) }
-    ensures { IfOk result (λ new. IsPlan (horns clauses.now ++ horns extra.now) (has holds.now.keys) new.keys) }
+    start: usize,
+) -> Result<(), AllocError>
+    requires within { start ≤ length held.old }
+    requires closed { HaveFired (horns clauses.now) (take start held.old) held.old }
+    requires used { IsUsed (horns clauses.now) (take start held.old) (waits_at uses.now) }
+    ensures more { IsMore held.old held.new }
+    ensures ok { OnOk result (IsPlan (horns clauses.now) held.old held.new) }
 {
-    let mut new = IndexSet::new(alloc);
-    fire_extra(clauses, extra, holds, &mut new)?;
-    let mut k = 0;
-    while k < new.len() {
-        let list = users(uses, fact_at(&new, k));
-        fire_users(clauses, extra, list, holds, &mut new)?;
+    let mut k = start;
+    while k < held.len() {
+        fire_users(clauses, users(uses, held.at(k)), held)?;
         k += 1;
     }
-    Ok(new)
+    Ok(())
 }

@@ -8,7 +8,7 @@ ghost use Rattle.gn_closure.specs.Computed.{holds_in, is_too_large, load_limit, 
 ghost use Rattle.gn_closure.specs.Least.{IsTooLarge};
 ghost use Rattle.gn_graph.specs.Facts.{step_of, unit_of, unit_rules_in};
 ghost use Rattle.gn_graph.specs.Needs.{home, done_in};
-ghost use Rattle.gn_graph.specs.Numbers.{IsMore, IsTable, HasAdded};
+ghost use Rattle.gn_graph.specs.Numbers.{IsMore, IsTable, IsWhole, HasAdded};
 ghost use Rattle.gn_graph.specs.Replies.{reply, units_in, rules_by, reply_rules, more_rules, named, after};
 ghost use Rattle.gn_graph.specs.Graphs.{reply_of};
 ghost use Rattle.gn_graph.specs.Counts.{AreCounts};
@@ -294,8 +294,8 @@ const FIRST: Rule<'static> = Rule {
     gives: Mention::ReachedFirst,
 };
 
-fn started(alloc: Global) -> Result<Closure, AllocError>
-    ensures added { IfOk result (λ closure. HasAdded (record { rules = []; found = [] }) closure start_rules) }
+fn first_added(alloc: Global) -> Result<Closure, AllocError>
+    ensures added { IfOk result (λ closure. HasAdded (record { waiting = []; found = [] }) closure start_rules) }
 {
     let mut closure = Closure::new(alloc);
     match closure.add(&[UnitRules::Plain(FIRST)]) {
@@ -305,6 +305,12 @@ fn started(alloc: Global) -> Result<Closure, AllocError>
             Err(error)
         }
     }
+}
+
+fn started(alloc: Global) -> Result<Closure, AllocError>
+    ensures whole { IfOk result (IsWhole start_rules) }
+{
+    first_added(alloc)
 }
 
 /// The graph over no answers: the default toolchain's build configuration is reached.

@@ -1,13 +1,13 @@
-use Rattle.std.proofs.Common.{◌↔◌, map, subst}
+use Rattle.std.proofs.Common.{◌↔◌, map, refl, subst}
 use Rattle.gn_closure.specs.Closure.{In}
 use Rattle.gn_closure.specs.Reach.{Fact, Holds}
 use Rattle.gn_closure.specs.Ground.{Holding}
 use Rattle.gn_graph.specs.Needs.{home}
 use Rattle.gn_graph.specs.Graphs.{Answers, reply_of}
-use Rattle.gn_graph.specs.Replies.{units_in}
+use Rattle.gn_graph.specs.Replies.{units_in, all_rules}
 use Rattle.gn_graph.proofs.Reached.{graph_whole}
 use Rattle.gn_graph.proofs.graph.Graph.len.Goals as goal
 
 pub returns-clause-whole : goal.returns-clause-whole
 returns-clause-whole c = subst (λ (z : Answers). (f : Fact) → In z.found (Holding f) ↔ Holds home (units_in z.replies) f) c.self.view_is
-    (graph_whole c.self.inside.closure.found c.self.inside.closure.rules (map reply_of c.self.inside.answers.items) c.self.invariant.single c.self.invariant.rules c.self.invariant.whole.whole)
+    (graph_whole c.self.inside.closure.found (all_rules (map reply_of c.self.inside.answers.items)) (map reply_of c.self.inside.answers.items) c.self.invariant.single refl c.self.invariant.whole.whole)
