@@ -15,6 +15,7 @@ ghost use Rattle.gn_graph.specs.Needs.{home};
 ghost use Rattle.gn_graph.specs.Numbers.{IsMore};
 
 use crate::answer::Answer;
+use crate::closed::Closed;
 use crate::event::{Block, Cause, Event, KeyId};
 use crate::next::{Next, next_by};
 use crate::reached::{add_answer, number_facts};
@@ -215,6 +216,30 @@ impl<A: Answer> Book<A> {
         ensures { option_map (λ answer. A.meaning answer.now) result ≡ (state_of self.now).filed (key_at self.now key) }
     {
         self.roster.answer(key)
+    }
+
+    /// The same book, to which nothing is added any longer. What is reached is let go.
+    pub fn close(self) -> Closed<A>
+        ensures { result ≡ self }
+    {
+        let Book {
+            alloc: _,
+            seats,
+            left,
+            roster,
+            log,
+            stop,
+            graph,
+            seen: _,
+        } = self;
+        drop(graph);
+        Closed {
+            seats,
+            left,
+            roster,
+            log,
+            stop,
+        }
     }
 
     /// The answer of a key. None comes exactly where none is filed, also where the key has no number. It takes no memory.

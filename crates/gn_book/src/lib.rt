@@ -4,6 +4,7 @@
 mod answer;
 mod book;
 mod chain;
+mod closed;
 mod event;
 mod held;
 mod laws;
@@ -16,6 +17,7 @@ mod task;
 
 pub use answer::{Answer, Mentions};
 pub use book::{Blocked, Book, Claim};
+pub use closed::Closed;
 pub use event::{Block, Cause, Event, KeyId};
 pub use laws::{claims_stay, logs_are_runs, next_is_by_the_rules, tasks_are_in_order};
 pub use next::Next;

@@ -7,9 +7,10 @@ ghost use Rattle.gn_builds.specs.Rest.{effects_at};
 ghost use Rattle.gn_answers.specs.Answers.{meaning_of};
 ghost use Rattle.gn_judging.specs.Whole.{AreWithin, effects_left};
 
+use crate::filed::find_at;
 use crate::files::{WrittenFiles, imported_in_order, loaded_in_order, push_written};
-use gn_answers::{Answer, Executed, Filed, find_at};
-use gn_book::{Book, KeyId};
+use gn_answers::{Answer, Executed, Filed};
+use gn_book::{Book, Closed, KeyId};
 use gn_items::{Declaration, DefaultToolchain, Item, Outcome};
 use gn_judging::Parts;
 use gn_labels::Label;
@@ -19,7 +20,7 @@ use std::alloc::{AllocError, Global};
 /// A build that was loaded: what its executions have left, and the targets that it generates.
 #[derive(Drop)]
 pub struct Built {
-    pub(crate) book: Book<Answer>,
+    pub(crate) book: Closed<Answer>,
     // The text of the default toolchain.
     pub(crate) default: Text,
     // The numbers of the executions, in their order.
@@ -55,7 +56,7 @@ fn left_by(answer: &Filed) -> Option<&Outcome>
 }
 
 /// The same of the answer of the execution of a number.
-pub(crate) fn left_at<'a>(book: &'a Book<Answer>, number: KeyId) -> Option<&'a Outcome>
+pub(crate) fn left_at<'a>(book: &'a Closed<Answer>, number: KeyId) -> Option<&'a Outcome>
     requires { number < length book.now.keys }
     ensures { effects_left (option_map (λ outcome. outcome.now) result) ≡ effects_at book.now number }
 {
@@ -76,7 +77,11 @@ fn append_left(text: &mut Vec<u8>, left: Option<&Outcome>) -> Result<(), AllocEr
 }
 
 // Puts the lines at the end that the executions of these numbers have printed.
-fn append_all(text: &mut Vec<u8>, book: &Book<Answer>, numbers: &[KeyId]) -> Result<(), AllocError>
+fn append_all(
+    text: &mut Vec<u8>,
+    book: &Closed<Answer>,
+    numbers: &[KeyId],
+) -> Result<(), AllocError>
     requires { AreWithin book.now numbers.now }
     ensures { OnOk result (text.new.items ≡ text.old.items ++ flat_map lines (map (effects_at book.now) numbers.now)) }
 {
@@ -114,7 +119,7 @@ fn push_declared<'a>(
 
 // Puts what the executions of these numbers have declared behind others.
 fn push_all_declared<'a>(
-    book: &'a Book<Answer>,
+    book: &'a Closed<Answer>,
     numbers: &[KeyId],
     declared: &mut Vec<&'a Declaration>,
 ) -> Result<(), AllocError>
@@ -152,7 +157,7 @@ fn push_defined<'a>(
 
 // Puts what the executions of these numbers have defined behind others.
 fn push_all_defined<'a>(
-    book: &'a Book<Answer>,
+    book: &'a Closed<Answer>,
     numbers: &[KeyId],
     defined: &mut Vec<&'a Item>,
 ) -> Result<(), AllocError>
@@ -176,7 +181,7 @@ fn named_by(left: Option<&Outcome>) -> Option<&DefaultToolchain>
 }
 
 // The default toolchain as the first of the executions of these numbers has named it.
-fn named_first<'a>(book: &'a Book<Answer>, numbers: &[KeyId]) -> Option<&'a DefaultToolchain>
+fn named_first<'a>(book: &'a Closed<Answer>, numbers: &[KeyId]) -> Option<&'a DefaultToolchain>
     requires { AreWithin book.now numbers.now }
     ensures { option_map (λ t. t.now) result ≡ named_first (map (effects_at book.now) numbers.now) }
 {
@@ -191,7 +196,7 @@ impl Built {
     ghost use Rattle.gn_built.specs.Files.{paths_lent, files_of};
     ghost use Rattle.gn_judging.specs.Judging.{AreParts, build_by};
 
-    /// The build that was loaded and has these parts.
+    /// The build that was loaded and has these parts. What the book knows of what is reached is let go.
     pub fn new(book: Book<Answer>, parts: Parts) -> Built
         requires { AreParts book parts }
         ensures build { build_of result ≡ build_by book parts }
@@ -203,7 +208,7 @@ impl Built {
             labels,
         } = parts;
         Built {
-            book,
+            book: book.close(),
             default,
             executions: numbers,
             generated: labels,

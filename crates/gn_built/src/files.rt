@@ -16,8 +16,9 @@ ghost use Rattle.gn_judging.specs.Whole.{AreWithin, effects_left};
 ghost use Rattle.gn_built.specs.Files.{paths_lent, path_list, files_of};
 
 use crate::built::left_at;
-use gn_answers::{Answer, FileContent, Filed, find, read_key};
-use gn_book::{Book, KeyId};
+use crate::filed::find;
+use gn_answers::{Answer, FileContent, Filed, read_key};
+use gn_book::{Closed, KeyId};
 use gn_items::{Key, Outcome, Question, When, Written};
 use gn_judging::asked_of;
 use gn_paths::{Path, Text};
@@ -33,7 +34,7 @@ pub struct WrittenFiles<'a> {
 }
 
 // The key of a number.
-fn key_of_number(book: &Book<Answer>, number: KeyId) -> &Key
+fn key_of_number(book: &Closed<Answer>, number: KeyId) -> &Key
     requires { number < length book.now.keys }
     ensures { key_of result.now ≡ key_at book.now number }
 {
@@ -64,7 +65,7 @@ fn says_file(filed: &Filed) -> bool
 }
 
 // Whether there is a file at a path that was read.
-fn is_there(alloc: Global, book: &Book<Answer>, path: &Path) -> Result<bool, AllocError>
+fn is_there(alloc: Global, book: &Closed<Answer>, path: &Path) -> Result<bool, AllocError>
     ensures { IfOk result (λ there. there ≡ is_there (content_in ((state_of book.now).filed (Read path.now)))) }
 {
     let key = read_key(alloc, path)?;
@@ -77,7 +78,7 @@ fn is_there(alloc: Global, book: &Book<Answer>, path: &Path) -> Result<bool, All
 // The file at a path, if there is one.
 fn file_at<'a>(
     alloc: Global,
-    book: &Book<Answer>,
+    book: &Closed<Answer>,
     path: &'a Path,
 ) -> Result<Option<&'a Path>, AllocError>
     ensures { IfOk result (λ file. path_list file ≡ first_there (state_of book.now).filed (content_of path.now ∷ [])) }
@@ -92,7 +93,7 @@ fn file_at<'a>(
 // The file for which a question asks, if it asks for one and there is one.
 fn file_asked<'a>(
     alloc: Global,
-    book: &Book<Answer>,
+    book: &Closed<Answer>,
     question: &'a Question,
 ) -> Result<Option<&'a Path>, AllocError>
     ensures { IfOk result (λ file. path_list file ≡ first_there (state_of book.now).filed (question_of question.now ∷ [])) }
@@ -106,7 +107,7 @@ fn file_asked<'a>(
 // The first file for which these questions ask and that is there.
 fn first_there<'a>(
     alloc: Global,
-    book: &Book<Answer>,
+    book: &Closed<Answer>,
     asked: &'a [Question],
 ) -> Result<Option<&'a Path>, AllocError>
     ensures { IfOk result (λ file. path_list file ≡ first_there (state_of book.now).filed (map question_of asked.now)) }
@@ -123,7 +124,7 @@ fn first_there<'a>(
 // The first file for which an answer asks and that is there.
 fn first_asked<'a>(
     alloc: Global,
-    book: &Book<Answer>,
+    book: &Closed<Answer>,
     filed: &'a Filed,
 ) -> Result<Option<&'a Path>, AllocError>
     ensures { IfOk result (λ file. path_list file ≡ first_there (state_of book.now).filed (asked_in (Some (meaning_of filed.now)))) }
@@ -139,7 +140,7 @@ fn first_asked<'a>(
 // The first file for which the execution of a key asks and that is there.
 fn first_of<'a>(
     alloc: Global,
-    book: &'a Book<Answer>,
+    book: &'a Closed<Answer>,
     key: &Key,
 ) -> Result<Option<&'a Path>, AllocError>
     ensures { IfOk result (λ file. path_list file ≡ first_there (state_of book.now).filed (asked_in ((state_of book.now).filed (key_of key.now)))) }
@@ -153,7 +154,7 @@ fn first_of<'a>(
 // The file that is loaded as a build file by the execution of a key.
 fn file_loaded<'a>(
     alloc: Global,
-    book: &'a Book<Answer>,
+    book: &'a Closed<Answer>,
     key: &Key,
 ) -> Result<Option<&'a Path>, AllocError>
     ensures { IfOk result (λ file. path_list file ≡ loaded_by_key (state_of book.now).filed (key_of key.now)) }
@@ -183,7 +184,7 @@ fn push_path<'a>(path: Option<&'a Path>, paths: &mut Vec<&'a Path>) -> Result<()
 // Puts the files behind others that are loaded as build files by the executions of these numbers.
 fn push_loaded<'a>(
     alloc: Global,
-    book: &'a Book<Answer>,
+    book: &'a Closed<Answer>,
     numbers: &[KeyId],
     paths: &mut Vec<&'a Path>,
 ) -> Result<(), AllocError>
@@ -212,7 +213,7 @@ fn file_imported(key: &Key) -> Option<&Path>
 
 // Puts the files behind others that the executions of these numbers import.
 fn push_imported<'a>(
-    book: &'a Book<Answer>,
+    book: &'a Closed<Answer>,
     numbers: &[KeyId],
     paths: &mut Vec<&'a Path>,
 ) -> Result<(), AllocError>
@@ -237,7 +238,7 @@ fn put_in_order(paths: &mut Vec<&Path>)
 #[tactic(auto, unfolding(gn_projects::specs::Loaded::files_loaded))]
 pub(crate) fn loaded_in_order<'a>(
     alloc: Global,
-    book: &'a Book<Answer>,
+    book: &'a Closed<Answer>,
     numbers: &[KeyId],
 ) -> Result<Vec<&'a Path>, AllocError>
     requires { AreWithin book.now numbers.now }
@@ -253,7 +254,7 @@ pub(crate) fn loaded_in_order<'a>(
 #[tactic(auto, unfolding(gn_projects::specs::Loaded::files_imported))]
 pub(crate) fn imported_in_order<'a>(
     alloc: Global,
-    book: &'a Book<Answer>,
+    book: &'a Closed<Answer>,
     numbers: &[KeyId],
 ) -> Result<Vec<&'a Path>, AllocError>
     requires { AreWithin book.now numbers.now }
@@ -318,7 +319,7 @@ fn push_left<'a>(
 
 // Puts what the execution of a number has written behind others.
 fn push_written_by<'a>(
-    book: &'a Book<Answer>,
+    book: &'a Closed<Answer>,
     number: KeyId,
     default: &Text,
     written: &mut Vec<WrittenFiles<'a>>,
@@ -333,7 +334,7 @@ fn push_written_by<'a>(
 /// Puts what the executions of these numbers have written behind others, in their order.
 #[tactic(auto, unfolding(gn_projects::specs::Loaded::files_written))]
 pub(crate) fn push_written<'a>(
-    book: &'a Book<Answer>,
+    book: &'a Closed<Answer>,
     numbers: &[KeyId],
     default: &Text,
     written: &mut Vec<WrittenFiles<'a>>,

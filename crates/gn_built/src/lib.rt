@@ -2,6 +2,7 @@
 #![tactic(auto)]
 
 mod built;
+mod filed;
 mod files;
 
 pub use built::Built;

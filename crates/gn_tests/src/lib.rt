@@ -16,6 +16,8 @@ mod nesting;
 #[cfg(test)]
 mod puts;
 #[cfg(test)]
+mod rounds;
+#[cfg(test)]
 mod runs;
 #[cfg(test)]
 mod sizes;
