@@ -1,6 +1,6 @@
 // The executions of a build, in their order.
 
-ghost use Rattle.std.specs.Prelude.{◌≡◌, ◌∷◌, [], IfOk, OnOk, Some, length, option_map};
+ghost use Rattle.std.specs.Prelude.{◌≡◌, ◌∷◌, [], IfOk, OnOk, Some, length, map, option_map};
 ghost use Rattle.gn_closure.specs.Reach.{Setup, Load};
 ghost use Rattle.gn_core.specs.Keys.{Import, Unit_of};
 ghost use Rattle.gn_labels.specs.Labels.{toolchain_key};
@@ -9,148 +9,140 @@ ghost use Rattle.gn_builds.specs.Rest.{AreInOrder};
 ghost use Rattle.gn_judging.specs.Whole.{text_key};
 ghost use Rattle.gn_judging.specs.Executions.{ranked, texts_of, texts_in, IsPut, AreNumbered};
 
+use crate::ordered::put_in_order;
 use gn_answers::Answer;
 use gn_book::{Book, KeyId};
 use gn_items::{Key, When};
 use gn_paths::{Path, Text};
 use std::alloc::{AllocError, Global};
-use std::collections::BTreeMap;
 
 // What is executed under a toolchain, in the order of executions.
-#[derive(Drop, PartialEq, Eq, PartialOrd, Ord)]
-pub(crate) enum Execution {
+#[derive(Clone, Copy, PartialEq, Eq, PartialOrd, Ord)]
+pub(crate) enum Execution<'a> {
     // The build configuration.
     Setup,
     // An import of the build configuration: the path of its file.
-    Early(Path),
+    Early(&'a Path),
     // Another import.
-    Usual(Path),
+    Usual(&'a Path),
     // The build file of a directory.
-    Load(Path),
+    Load(&'a Path),
 }
 
-// An execution as a key of an ordered map. Keys that are made with one default toolchain are in the order of executions.
-#[derive(Drop, PartialEq, Eq, PartialOrd, Ord)]
-pub(crate) struct ExecutionKey {
+// An execution as it is sorted. Keys that are made with one default toolchain are in the order of executions.
+#[derive(Clone, Copy, PartialEq, Eq, PartialOrd, Ord)]
+pub(crate) struct ExecutionKey<'a> {
     // The toolchain, and None where that is the default one.
-    pub(crate) toolchain: Option<Text>,
-    pub(crate) execution: Execution,
+    pub(crate) toolchain: Option<&'a Text>,
+    pub(crate) execution: Execution<'a>,
 }
 
 // The toolchain, unless it is the default one.
-fn other_than(alloc: Global, toolchain: &Text, default: &Text) -> Result<Option<Text>, AllocError>
-    ensures { IfOk result (λ other. text_key other ≡ toolchain_key default.now toolchain.now) }
+pub(crate) fn other_than<'a>(toolchain: &'a Text, default: &Text) -> Option<&'a Text>
+    ensures { text_key result ≡ toolchain_key default.now toolchain.now }
 {
     if *toolchain == *default {
-        return Ok(None);
+        None
+    } else {
+        Some(toolchain)
     }
-    let toolchain = toolchain.copy(alloc)?;
-    Ok(Some(toolchain))
 }
 
 // The key of an execution under a toolchain.
-fn keyed(
-    alloc: Global,
-    toolchain: &Text,
+fn keyed<'a>(
+    toolchain: &'a Text,
     default: &Text,
-    execution: Execution,
-) -> Result<Option<ExecutionKey>, AllocError>
-    ensures { IfOk result (λ found. option_map texts_of found ≡ Some (toolchain_key default.now toolchain.now ∷ ranked execution)) }
+    execution: Execution<'a>,
+) -> Option<ExecutionKey<'a>>
+    ensures { option_map texts_of result ≡ Some (toolchain_key default.now toolchain.now ∷ ranked execution.entry) }
 {
-    let toolchain = other_than(alloc, toolchain, default)?;
-    Ok(Some(ExecutionKey {
+    let toolchain = other_than(toolchain, default);
+    Some(ExecutionKey {
         toolchain,
         execution,
-    }))
-}
-
-// The key of a build configuration. Its key of loading names the default toolchain by the empty text.
-fn setup_execution(alloc: Global, toolchain: &Text) -> Result<Option<ExecutionKey>, AllocError>
-    ensures { IfOk result (λ found. option_map texts_of found ≡ texts_in [] (Unit_of (Setup toolchain.now))) }
-{
-    keyed(alloc, toolchain, &Text::new(alloc), Execution::Setup)
+    })
 }
 
 // The key of an import.
-fn import_execution(
-    alloc: Global,
+fn import_execution<'a>(
     when: When,
-    toolchain: &Text,
-    path: &Path,
+    toolchain: &'a Text,
+    path: &'a Path,
+    none: &Text,
     default: &Text,
-) -> Result<Option<ExecutionKey>, AllocError>
-    ensures { IfOk result (λ found. option_map texts_of found ≡ texts_in default.now (Import (layer_at when toolchain.now) path.now)) }
+) -> Option<ExecutionKey<'a>>
+    requires { none.now ≡ [] }
+    ensures { option_map texts_of result ≡ texts_in default.now (Import (layer_at when toolchain.now) path.now) }
 {
-    let path = path.copy(alloc)?;
     match when {
-        When::Early => keyed(alloc, toolchain, &Text::new(alloc), Execution::Early(path)),
-        When::Usual => keyed(alloc, toolchain, default, Execution::Usual(path)),
+        When::Early => keyed(toolchain, none, Execution::Early(path)),
+        When::Usual => keyed(toolchain, default, Execution::Usual(path)),
     }
 }
 
-// The key of a build file.
-fn load_execution(
-    alloc: Global,
-    directory: &Path,
-    toolchain: &Text,
-    default: &Text,
-) -> Result<Option<ExecutionKey>, AllocError>
-    ensures { IfOk result (λ found. option_map texts_of found ≡ texts_in default.now (Unit_of (Load directory.now toolchain.now))) }
-{
-    let directory = directory.copy(alloc)?;
-    keyed(alloc, toolchain, default, Execution::Load(directory))
-}
-
-// The execution that a key names, if it names one.
-fn execution_of(
-    alloc: Global,
-    key: &Key,
-    default: &Text,
-) -> Result<Option<ExecutionKey>, AllocError>
-    ensures { IfOk result (λ found. option_map texts_of found ≡ texts_in default.now (key_of key.now)) }
+// The execution that a key names, if it names one. Keys of loading name the default toolchain of a build configuration, and of what it
+// imports, by the empty text.
+fn execution_of<'a>(key: &'a Key, none: &Text, default: &Text) -> Option<ExecutionKey<'a>>
+    requires { none.now ≡ [] }
+    ensures { option_map texts_of result ≡ texts_in default.now (key_of key.now) }
 {
     match key {
-        Key::Read(_) => Ok(None),
+        Key::Read(_) => None,
         Key::Import(when, toolchain, path) => {
-            import_execution(alloc, *when, toolchain, path, default)
+            import_execution(*when, toolchain, path, none, default)
         }
-        Key::Setup(toolchain) => setup_execution(alloc, toolchain),
-        Key::Load(directory, toolchain) => load_execution(alloc, directory, toolchain, default),
-        Key::Resolve(_) => Ok(None),
+        Key::Setup(toolchain) => keyed(toolchain, none, Execution::Setup),
+        Key::Load(directory, toolchain) => keyed(toolchain, default, Execution::Load(directory)),
+        Key::Resolve(_) => None,
     }
 }
 
-// Puts the number of a key in, if it names an execution.
-fn put(
-    alloc: Global,
-    numbers: &mut BTreeMap<ExecutionKey, KeyId>,
-    key: &Key,
+// Puts the number of a key behind others, if it names an execution.
+fn put<'a>(
+    entries: &mut Vec<(ExecutionKey<'a>, KeyId)>,
+    key: &'a Key,
     number: KeyId,
+    none: &Text,
     default: &Text,
 ) -> Result<(), AllocError>
-    ensures { OnOk result (IsPut ⟦<ExecutionKey as Ord>⟧.cmp (texts_in default.now (key_of key.now)) number numbers.old.entries numbers.new.entries) }
+    requires { none.now ≡ [] }
+    ensures { OnOk result (IsPut (texts_in default.now (key_of key.now)) number entries.old.items entries.new.items) }
 {
-    match execution_of(alloc, key, default)? {
+    match execution_of(key, none, default) {
         None => Ok(()),
         Some(execution) => {
-            numbers.insert(execution, number)?;
+            entries.push((execution, number))?;
             Ok(())
         }
     }
 }
 
 // The numbers of all executions.
-fn numbered(
+fn numbered<'a>(
     alloc: Global,
-    book: &Book<Answer>,
+    book: &'a Book<Answer>,
     default: &Text,
-) -> Result<BTreeMap<ExecutionKey, KeyId>, AllocError>
-    ensures { IfOk result (λ numbers. AreNumbered default.now book.now (length book.now.keys) numbers.entries) }
+) -> Result<Vec<(ExecutionKey<'a>, KeyId)>, AllocError>
+    ensures { IfOk result (λ entries. AreNumbered default.now book.now (length book.now.keys) entries.items) }
 {
-    book.keys_differ();
-    let mut numbers = BTreeMap::new(alloc);
+    let none = Text::new(alloc);
+    let mut entries = Vec::new(alloc);
     for number in 0..book.len() {
-        put(alloc, &mut numbers, book.key(number), number, default)?;
+        put(&mut entries, book.key(number), number, &none, default)?;
+    }
+    Ok(entries)
+}
+
+// The numbers of entries.
+fn numbers_of(
+    alloc: Global,
+    entries: &[(ExecutionKey<'_>, KeyId)],
+) -> Result<Vec<KeyId>, AllocError>
+    ensures { IfOk result (λ numbers. numbers.items ≡ map (λ e. e.1) entries.now) }
+{
+    let mut numbers = Vec::with_capacity(alloc, entries.len())?;
+    for (_, number) in entries {
+        numbers.push(*number)?;
     }
     Ok(numbers)
 }
@@ -164,10 +156,8 @@ pub(crate) fn executions_in_order(
 ) -> Result<Vec<KeyId>, AllocError>
     ensures { IfOk result (λ numbers. AreInOrder default.now book.now numbers.items) }
 {
-    let numbers = numbered(alloc, book, default)?;
-    let mut ordered = Vec::new(alloc);
-    for (_, number) in &numbers {
-        ordered.push(*number)?;
-    }
-    Ok(ordered)
+    book.keys_differ();
+    let mut entries = numbered(alloc, book, default)?;
+    put_in_order(&mut entries)?;
+    numbers_of(alloc, &entries)
 }

@@ -1,8 +1,6 @@
 // The labels of the targets that a build generates, in label order.
 
-ghost use Rattle.std.specs.Prelude.{◌≡◌, ◌<◌, IfOk, OnOk, Some, length, slice_get};
-ghost use Rattle.std.specs.BTreeMap.{insert_entry};
-ghost use Rattle.gn_labels.specs.Keys.{key_of};
+ghost use Rattle.std.specs.Prelude.{◌≡◌, ◌<◌, IfOk, OnOk, Some, length, map, slice_get};
 ghost use Rattle.gn_labels.specs.Labels.{order_key};
 ghost use Rattle.gn_closure.specs.Reach.{Is_generated, Holds};
 ghost use Rattle.gn_graph.specs.Facts.{step_of};
@@ -10,42 +8,53 @@ ghost use Rattle.gn_graph.specs.Needs.{home};
 ghost use Rattle.gn_graph.specs.Replies.{units_in};
 ghost use Rattle.gn_builds.specs.Rest.{AreGenerated};
 ghost use Rattle.gn_judging.specs.Whole.{IsTable};
-ghost use Rattle.gn_judging.specs.Generated.{label_texts, with_label};
+ghost use Rattle.gn_judging.specs.Generated.{label_texts, label_lent, toolchain_lent, IsPut, IsMore};
 
+use crate::executions::other_than;
+use crate::ordered::put_in_order;
 use gn_answers::Answer;
 use gn_book::Book;
 use gn_graph::{Fact, Graph};
-use gn_labels::{Label, LabelKey};
-use gn_paths::Text;
+use gn_labels::Label;
+use gn_paths::{Path, Text};
 use std::alloc::{AllocError, Global};
-use std::collections::BTreeMap;
 
-// Puts a label in.
-fn put_label(
-    alloc: Global,
-    labels: &mut BTreeMap<LabelKey, Label>,
-    label: &Label,
+// A label as it is sorted, of which nothing is copied. Those that are made with one default toolchain are in label order.
+#[derive(Clone, Copy, PartialEq, Eq, PartialOrd, Ord)]
+pub(crate) struct LentLabel<'a> {
+    pub(crate) dir: &'a Path,
+    pub(crate) name: &'a Text,
+    // The toolchain, and None where that is the default one.
+    pub(crate) toolchain: Option<&'a Text>,
+}
+
+// Puts a label behind others.
+fn put_label<'a>(
+    labels: &mut Vec<LentLabel<'a>>,
+    label: &'a Label,
     default: &Text,
 ) -> Result<(), AllocError>
-    ensures { OnOk result (labels.new.entries ≡ insert_entry ⟦<LabelKey as Ord>⟧.cmp labels.old.entries (key_of default.now label.now) label.now) }
+    ensures { OnOk result (IsPut default.now label.now labels.old.items labels.new.items) }
 {
-    let key = LabelKey::new(label.copy(alloc)?, default);
-    let label = label.copy(alloc)?;
-    labels.insert(key, label)?;
+    let toolchain = other_than(&label.toolchain, default);
+    labels.push(LentLabel {
+        dir: &label.dir,
+        name: &label.name,
+        toolchain,
+    })?;
     Ok(())
 }
 
-// Puts the label of a fact in, if it says that one is generated.
-fn put(
-    alloc: Global,
-    labels: &mut BTreeMap<LabelKey, Label>,
-    fact: &Fact,
+// Puts the label of a fact behind others, if it says that one is generated.
+fn put<'a>(
+    labels: &mut Vec<LentLabel<'a>>,
+    fact: &'a Fact,
     default: &Text,
 ) -> Result<(), AllocError>
-    ensures { OnOk result (labels.new.entries ≡ with_label ⟦<LabelKey as Ord>⟧.cmp default.now (step_of fact.now) labels.old.entries) }
+    ensures { OnOk result (IsMore default.now (step_of fact.now) labels.old.items labels.new.items) }
 {
     match fact {
-        Fact::Generated(label) => put_label(alloc, labels, label, default),
+        Fact::Generated(label) => put_label(labels, label, default),
         _ => Ok(()),
     }
 }
@@ -62,16 +71,55 @@ fn fact_at(graph: &Graph, n: usize) -> &Fact
 }
 
 // The labels that the facts of a graph say to be generated.
-fn labels_of(
+fn labels_of<'a>(
     alloc: Global,
-    graph: &Graph,
+    graph: &'a Graph,
     default: &Text,
-) -> Result<BTreeMap<LabelKey, Label>, AllocError>
-    ensures { IfOk result (λ labels. IsTable label_texts (order_key default.now) (λ label. Holds home (units_in graph.now.replies) (Is_generated label)) labels.entries) }
+) -> Result<Vec<LentLabel<'a>>, AllocError>
+    ensures { IfOk result (λ labels. IsTable (label_lent default.now) label_texts (order_key default.now) (λ label. Holds home (units_in graph.now.replies) (Is_generated label)) labels.items) }
 {
-    let mut labels = BTreeMap::new(alloc);
+    let mut labels = Vec::new(alloc);
     for n in 0..graph.len() {
-        put(alloc, &mut labels, fact_at(graph, n), default)?;
+        put(&mut labels, fact_at(graph, n), default)?;
+    }
+    Ok(labels)
+}
+
+// The toolchain of a label.
+fn toolchain_of<'a>(lent: Option<&'a Text>, default: &'a Text) -> &'a Text
+    ensures { result.now ≡ toolchain_lent default.now lent.entry }
+{
+    match lent {
+        None => default,
+        Some(toolchain) => toolchain,
+    }
+}
+
+// A label that was lent.
+fn copied(alloc: Global, lent: LentLabel<'_>, default: &Text) -> Result<Label, AllocError>
+    ensures { IfOk result (λ label. label ≡ label_lent default.now lent.entry) }
+{
+    let dir = lent.dir.copy(alloc)?;
+    let name = lent.name.copy(alloc)?;
+    let toolchain = toolchain_of(lent.toolchain, default).copy(alloc)?;
+    Ok(Label {
+        dir,
+        name,
+        toolchain,
+    })
+}
+
+// Labels that were lent.
+fn all_copied(
+    alloc: Global,
+    lent: &[LentLabel<'_>],
+    default: &Text,
+) -> Result<Vec<Label>, AllocError>
+    ensures { IfOk result (λ labels. labels.items ≡ map (label_lent default.now) lent.now) }
+{
+    let mut labels = Vec::with_capacity(alloc, lent.len())?;
+    for label in lent {
+        labels.push(copied(alloc, *label, default)?)?;
     }
     Ok(labels)
 }
@@ -84,10 +132,7 @@ pub(crate) fn generated_labels(
 ) -> Result<Vec<Label>, AllocError>
     ensures { IfOk result (λ labels. AreGenerated default.now book.now labels.items) }
 {
-    let labels = labels_of(alloc, book.graph(), default)?;
-    let mut ordered = Vec::new(alloc);
-    for (_, label) in &labels {
-        ordered.push(label.copy(alloc)?)?;
-    }
-    Ok(ordered)
+    let mut labels = labels_of(alloc, book.graph(), default)?;
+    put_in_order(&mut labels)?;
+    all_copied(alloc, &labels, default)
 }

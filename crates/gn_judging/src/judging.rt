@@ -1,12 +1,11 @@
 // What all comes to that was loaded.
 
-ghost use Rattle.std.specs.Prelude.{◌≡◌, ℕ, List, IfOk, Some, option_map};
+ghost use Rattle.std.specs.Prelude.{◌≡◌, ℕ, ◌<◌, List, IfOk, Some, length, option_map, slice_get};
 ghost use Rattle.gn_runs.specs.Runs.{spoiled};
 ghost use Rattle.gn_paths.specs.declared.place.Place.{Place as PlaceState};
 ghost use Rattle.gn_executions.specs.Base.{BaseState};
 ghost use Rattle.gn_book.specs.Keys.{key_of, layer_at};
-ghost use Rattle.gn_book.specs.Logs.{state_of};
-ghost use Rattle.gn_book.specs.NextLaws.{HasNumber};
+ghost use Rattle.gn_book.specs.Logs.{key_at, state_of};
 ghost use Rattle.gn_core.specs.Keys.{done_in};
 ghost use Rattle.gn_projects.specs.Errors.{too_large, toolchain_shown, default_told};
 ghost use Rattle.gn_builds.specs.Rest.{Rests, ReachesFew, HasLargeImport, default_filed};
@@ -18,7 +17,7 @@ use crate::causes::cause;
 use crate::executions::executions_in_order;
 use crate::generated::generated_labels;
 use crate::limits::has_large_import;
-use gn_answers::{Answer, Executed, default_text, find, unit_of};
+use gn_answers::{Answer, Executed, default_text, find, find_at, unit_of};
 use gn_book::{Book, KeyId};
 use gn_builds::{files_were_read, links_lead_to_the_fault};
 use gn_definitions::ImportValue;
@@ -69,6 +68,20 @@ fn find_unit<'a>(book: &'a Book<Answer>, unit: &Key) -> Option<&'a Executed<Opti
     ensures { option_map (λ executed. run_of unit_left executed.now) result ≡ unit_run ((state_of book.now).filed (key_of unit.now)) }
 {
     match find(book, unit) {
+        None => None,
+        Some(filed) => unit_of(filed),
+    }
+}
+
+// The same of the unit of a number.
+fn unit_at<'a>(
+    book: &'a Book<Answer>,
+    number: KeyId,
+) -> Option<&'a Executed<Option<ImportValue>>>
+    requires { number < length book.now.keys }
+    ensures { option_map (λ executed. run_of unit_left executed.now) result ≡ unit_run ((state_of book.now).filed (key_at book.now number)) }
+{
+    match find_at(book, number) {
         None => None,
         Some(filed) => unit_of(filed),
     }
@@ -154,52 +167,53 @@ fn fault_by(
     }
 }
 
-// The fault of a unit of a layer, by its answer.
+// The fault of the unit of a number, which is of a layer, by its answer.
 fn fault_of_unit(
     alloc: Global,
     book: &Book<Answer>,
     default: &Text,
     when: When,
     toolchain: &Text,
-    unit: &Key,
+    unit: KeyId,
 ) -> Result<Option<Fault>, AllocError>
     requires rest { (start : BaseState) × Rests start book.now }
     requires default { default.now ≡ default_filed book.now }
     requires few { HasLargeImport book.now → ⊥ }
-    requires unit { IsUnitOf (layer_at when toolchain.now) (key_of unit.now) }
-    requires number { HasNumber book.now (key_of unit.now) }
-    ensures { IfOk result (IsFaultOf book.now (key_of unit.now)) }
+    requires unit { IsUnitOf (layer_at when toolchain.now) (key_at book.now unit) }
+    requires number { slice_get book.now.keys unit ≡ Some (key_at book.now unit) }
+    ensures { IfOk result (IsFaultOf book.now (key_at book.now unit)) }
 {
     order_does_not_matter();
     links_lead_to_the_fault();
     files_were_read();
-    match find_unit(book, unit) {
+    match unit_at(book, unit) {
         None => unreachable!(),
         Some(executed) => fault_by(alloc, book, default, when, toolchain, executed),
     }
 }
 
-// The fault of the unit of a key, if the key is one and it has one.
+// The fault of the unit of a key, which has this number, if the key is one and it has one.
 fn fault_of_key(
     alloc: Global,
     book: &Book<Answer>,
     default: &Text,
     key: &Key,
+    number: KeyId,
 ) -> Result<Option<Fault>, AllocError>
     requires rest { (start : BaseState) × Rests start book.now }
     requires default { default.now ≡ default_filed book.now }
     requires few { HasLargeImport book.now → ⊥ }
-    requires number { HasNumber book.now (key_of key.now) }
+    requires number { slice_get book.now.keys number ≡ Some (key_of key.now) }
     ensures { IfOk result (IsFaultOf book.now (key_of key.now)) }
 {
     match key {
         Key::Read(_) => Ok(None),
         Key::Import(..) => Ok(None),
         Key::Setup(toolchain) => {
-            fault_of_unit(alloc, book, default, When::Early, toolchain, key)
+            fault_of_unit(alloc, book, default, When::Early, toolchain, number)
         }
         Key::Load(_, toolchain) => {
-            fault_of_unit(alloc, book, default, When::Usual, toolchain, key)
+            fault_of_unit(alloc, book, default, When::Usual, toolchain, number)
         }
         Key::Resolve(_) => Ok(None),
     }
@@ -242,7 +256,7 @@ fn first_fault(
     fault_order_is_strict();
     let mut first = None;
     for number in 0..book.len() {
-        let fault = fault_of_key(alloc, book, default, book.key(number))?;
+        let fault = fault_of_key(alloc, book, default, book.key(number), number)?;
         first = first_of(first, fault);
     }
     Ok(first)

@@ -6,6 +6,7 @@ mod executions;
 mod generated;
 mod judging;
 mod limits;
+mod ordered;
 
 pub use judging::{Judged, Parts, judge, too_large};
 pub use limits::asked_of;

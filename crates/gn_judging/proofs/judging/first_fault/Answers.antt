@@ -5,9 +5,6 @@ use Rattle.gn_judging.proofs.judging.first_fault.Goals as goal
 pub loop-number-init : goal.loop-number-init
 loop-number-init c = no_keys c.args.book.now _ refl
 
-pub fault_of_key-requires-clause-number : goal.fault_of_key-requires-clause-number
-fault_of_key-requires-clause-number c = (c.loop-number.number, c.key.ensures)
-
 pub loop-number-preserved : goal.loop-number-preserved
 loop-number-preserved c =
     one_more c.fault_order_is_strict.ensures c.args.book.now c.loop-number.number _ c.loop-number.first c.in_ok-fault.fault c.first_of-first.result c.key.ensures c.loop-number.invariant c.in_ok-fault.ensures c.first_of-first.ensures
