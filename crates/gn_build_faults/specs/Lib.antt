@@ -8,4 +8,5 @@ pub mod Reaching
 pub mod Made
 pub mod Labels
 pub mod Examined
+pub mod Settling
 pub mod Captures

@@ -7,20 +7,22 @@ ghost use Rattle.gn_records.specs.Around.{around};
 ghost use Rattle.gn_toolchains.specs.Frames.{known_of};
 ghost use Rattle.gn_build_faults.specs.Tools.{tool_fault as tool_meant};
 ghost use Rattle.gn_build_faults.specs.Faults.{graph_fault, is_unresolved, with_tool, own_fault};
+ghost use Rattle.gn_build_faults.specs.Settling.{AreMarked};
 ghost use Rattle.gn_build_faults.specs.Examined.{examined_state, examined_at, examined_of};
 
 use crate::first::first_of;
 use crate::outputs::made_around;
 use crate::paths::path_fault;
+use crate::settling::{Settled, alone_settled};
 use crate::shared::graphs_are_shared;
 use crate::tools::tool_fault;
 use gn_chains::Firsts;
 use gn_faults::{Code, Fault};
 use gn_graph_faults::least_fault;
 use gn_graph_meant::{the_labels_of_items_are_enough, there_is_one_least_fault};
-use gn_labelled::{ItemGraph, NoRecords};
+use gn_labelled::{ItemIndex, TargetGraph};
 use gn_labels::Label;
-use gn_paths::Texts;
+use gn_paths::{Text, Texts};
 use gn_records::Context;
 use gn_toolchains::Frames;
 use rayon::prelude::*;
@@ -45,12 +47,12 @@ pub(crate) struct Examined<'a> {
 // The first fault that the rules of the graph find in these targets.
 fn graph_fault(
     alloc: Global,
-    graph: &ItemGraph<'_, NoRecords>,
+    graph: &TargetGraph<'_, '_>,
     settled: &Firsts,
     targets: &[Label],
 ) -> Result<Option<Fault>, AllocError>
-    requires { AreSettled (shape_of graph.now.items) settled.now }
-    ensures { IfOk result (λ fault. fault ≡ graph_fault graph.now.default.now graph.now.items targets.now) }
+    requires { AreSettled (shape_of graph.now.items.now) settled.now }
+    ensures { IfOk result (λ fault. fault ≡ graph_fault graph.now.default.now graph.now.items.now targets.now) }
 {
     the_labels_of_items_are_enough();
     there_is_one_least_fault();
@@ -83,14 +85,14 @@ fn with_tool(fault: Option<Fault>, tool: Option<Fault>) -> Option<Fault>
 // The first fault of a target by the graph and the tools of its toolchain.
 fn linked_fault(
     alloc: Global,
-    graph: &ItemGraph<'_, NoRecords>,
+    graph: &TargetGraph<'_, '_>,
     settled: &Firsts,
     context: &Context<'_>,
     target: &Label,
 ) -> Result<Option<Fault>, AllocError>
-    requires { AreSettled (shape_of graph.now.items) settled.now }
-    ensures { IfOk result (λ fault. fault ≡ with_tool (graph_fault graph.now.default.now graph.now.items (target.now ∷ []))
-        (tool_meant graph.now.default.now graph.now.items (around context.now).tools target.now)) }
+    requires { AreSettled (shape_of graph.now.items.now) settled.now }
+    ensures { IfOk result (λ fault. fault ≡ with_tool (graph_fault graph.now.default.now graph.now.items.now (target.now ∷ []))
+        (tool_meant graph.now.default.now graph.now.items.now (around context.now).tools target.now)) }
 {
     let fault = graph_fault(alloc, graph, settled, slice::from_ref(target))?;
     let tool = tool_fault(alloc, graph, context.tools.as_slice(), target)?;
@@ -100,13 +102,13 @@ fn linked_fault(
 // The first fault of a target besides those of its outputs.
 fn own_fault(
     alloc: Global,
-    graph: &ItemGraph<'_, NoRecords>,
+    graph: &TargetGraph<'_, '_>,
     settled: &Firsts,
     context: &Context<'_>,
     target: &Label,
 ) -> Result<Option<Fault>, AllocError>
-    requires { AreSettled (shape_of graph.now.items) settled.now }
-    ensures { IfOk result (λ fault. fault ≡ own_fault graph.now.default.now graph.now.items (around context.now) target.now) }
+    requires { AreSettled (shape_of graph.now.items.now) settled.now }
+    ensures { IfOk result (λ fault. fault ≡ own_fault graph.now.default.now graph.now.items.now (around context.now) target.now) }
 {
     match path_fault(alloc, graph, context, target)? {
         Some(fault) => Ok(Some(fault)),
@@ -117,16 +119,16 @@ fn own_fault(
 // What a target has by itself around which this is known.
 fn examine_around<'a>(
     alloc: Global,
-    graph: &ItemGraph<'_, NoRecords>,
+    graph: &TargetGraph<'_, '_>,
     settled: &Firsts,
     context: &Context<'_>,
     target: &'a Label,
 ) -> Result<Examined<'a>, AllocError>
-    requires { AreSettled (shape_of graph.now.items) settled.now }
-    ensures { IfOk result (λ found. examined_state found ≡ examined_at graph.now.default.now graph.now.items (Some (around context.now)) target.now) }
+    requires { AreSettled (shape_of graph.now.items.now) settled.now }
+    ensures { IfOk result (λ found. examined_state found ≡ examined_at graph.now.default.now graph.now.items.now (Some (around context.now)) target.now) }
 {
     let fault = own_fault(alloc, graph, settled, context, target)?;
-    let outputs = made_around(alloc, context, graph.items.item(target))?;
+    let outputs = made_around(alloc, context, graph.item(target))?;
     Ok(Examined {
         target,
         fault,
@@ -148,13 +150,13 @@ fn examined_alone<'a>(alloc: Global, target: &'a Label) -> Examined<'a>
 // What a target has by itself, where something is known around it.
 fn examine_at<'a>(
     alloc: Global,
-    graph: &ItemGraph<'_, NoRecords>,
+    graph: &TargetGraph<'_, '_>,
     settled: &Firsts,
     context: Option<Context<'_>>,
     target: &'a Label,
 ) -> Result<Examined<'a>, AllocError>
-    requires { AreSettled (shape_of graph.now.items) settled.now }
-    ensures { IfOk result (λ found. examined_state found ≡ examined_at graph.now.default.now graph.now.items (option_map around context.entry) target.now) }
+    requires { AreSettled (shape_of graph.now.items.now) settled.now }
+    ensures { IfOk result (λ found. examined_state found ≡ examined_at graph.now.default.now graph.now.items.now (option_map around context.entry) target.now) }
 {
     match context {
         None => Ok(examined_alone(alloc, target)),
@@ -162,33 +164,53 @@ fn examine_at<'a>(
     }
 }
 
-// What a target has by itself, by the frames of toolchains.
-fn examine<'a>(
+// What a target has by itself, by the frames of toolchains, in the graph beside it.
+fn examine_beside<'a>(
     alloc: Global,
-    graph: &ItemGraph<'_, NoRecords>,
+    graph: &TargetGraph<'_, '_>,
     settled: &Firsts,
     frames: &Frames<'_>,
     target: &'a Label,
 ) -> Result<Examined<'a>, AllocError>
-    requires { AreSettled (shape_of graph.now.items) settled.now }
-    ensures { IfOk result (λ found. examined_state found ≡ examined_of graph.now.default.now graph.now.items (known_of frames.now) target.now) }
+    requires { AreSettled (shape_of graph.now.items.now) settled.now }
+    ensures { IfOk result (λ found. examined_state found ≡ examined_of graph.now.default.now graph.now.items.now (known_of frames.now) target.now) }
 {
     let context = frames.context(&target.toolchain);
     examine_at(alloc, graph, settled, context, target)
 }
 
-/// What these targets have by themselves, in their order, by the frames of toolchains. Several threads look for it, each for that of
-/// some targets.
+// What a target has by itself, by the items and by which of them reach no cycle.
+fn examine<'a>(
+    alloc: Global,
+    default: &Text,
+    items: &ItemIndex<'_>,
+    settled: &Settled,
+    frames: &Frames<'_>,
+    target: &'a Label,
+) -> Result<Examined<'a>, AllocError>
+    requires { AreMarked items.now settled.now.marks.items }
+    ensures { IfOk result (λ found. examined_state found ≡ examined_of default.now items.now (known_of frames.now) target.now) }
+{
+    let free = alone_settled(alloc, items, settled, target)?;
+    let graph = TargetGraph::beside(default, items, target);
+    let found = examine_beside(alloc, &graph, &free, frames, target);
+    drop(free);
+    found
+}
+
+/// What these targets have by themselves, in their order, by the frames of toolchains and by which items reach no cycle. Several
+/// threads look for it, each for that of some targets.
 pub(crate) fn examine_all<'a, R: Threads + Sync>(
     rt: &R,
     alloc: Global,
-    graph: &ItemGraph<'_, NoRecords>,
-    settled: &Firsts,
+    default: &Text,
+    items: &ItemIndex<'_>,
+    settled: &Settled,
     frames: &Frames<'_>,
     targets: &'a [Label],
 ) -> Result<Vec<Examined<'a>>, AllocError>
-    requires { AreSettled (shape_of graph.now.items) settled.now }
-    ensures { IfOk result (λ examined. map examined_state examined.items ≡ map (examined_of graph.now.default.now graph.now.items (known_of frames.now)) targets.now) }
+    requires { AreMarked items.now settled.now.marks.items }
+    ensures { IfOk result (λ examined. map examined_state examined.items ≡ map (examined_of default.now items.now (known_of frames.now)) targets.now) }
 {
     graphs_are_shared();
     let examined: Result<Vec<Examined<'a>>, AllocError> = targets
@@ -196,9 +218,9 @@ pub(crate) fn examine_all<'a, R: Threads + Sync>(
         .with_min_len(LEAST_TARGETS)
         .map(
             |target: &Label| -> Result<Examined<'_>, AllocError>
-                requires { AreSettled (shape_of graph.now.items) settled.now }
-                ensures { IfOk result (λ found. examined_state found ≡ examined_of graph.entry.now.default.now graph.entry.now.items (known_of frames.entry.now) target.now) }
-            { examine(alloc, graph, settled, frames, target) },
+                requires { AreMarked items.now settled.now.marks.items }
+                ensures { IfOk result (λ found. examined_state found ≡ examined_of default.entry.now items.entry.now (known_of frames.entry.now) target.now) }
+            { examine(alloc, default, items, settled, frames, target) },
         )
         .collect(rt, alloc)?;
     examined

@@ -1,23 +1,19 @@
 // The fault that is told of the targets of a build.
 
 ghost use Rattle.std.specs.Prelude.{◌≡◌, [], Some, IfOk, OnOk, map, option_map};
-ghost use Rattle.gn_cycles.specs.Settled.{AreSettled};
-ghost use Rattle.gn_labelled.specs.Graphs.{shape_of};
-ghost use Rattle.gn_labelled.specs.Index.{lent};
 ghost use Rattle.gn_records.specs.Around.{around};
 ghost use Rattle.gn_toolchains.specs.Frames.{surroundings as given, known_of};
 ghost use Rattle.gn_build_faults.specs.Outputs.{with_each, output_fault as output_meant};
 ghost use Rattle.gn_build_faults.specs.Faults.{first_of, fault_among, target_fault};
+ghost use Rattle.gn_build_faults.specs.Settling.{AreMarked};
 ghost use Rattle.gn_build_faults.specs.Examined.{examined_state, fault_with_outputs, with_examined, fault_of_examined};
 
 use crate::examined::{Examined, examine_all};
 use crate::first::first_of;
 use crate::outputs::output_fault;
-use gn_chains::Firsts;
-use gn_cycles::settled;
+use crate::settling::{Settled, settled};
 use gn_faults::Fault;
-use gn_items::Item;
-use gn_labelled::{ItemGraph, ItemIndex, NoRecords, dependencies_first};
+use gn_labelled::ItemIndex;
 use gn_labels::Label;
 use gn_paths::Text;
 use gn_records::Context;
@@ -39,17 +35,19 @@ fn copied(alloc: Global, fault: Option<&Fault>) -> Result<Option<Fault>, AllocEr
 // The first fault of a target with what it has by itself, where something is known around it. Its outputs are seen.
 fn fault_around(
     alloc: Global,
-    graph: &ItemGraph<'_, NoRecords>,
+    default: &Text,
+    items: &ItemIndex<'_>,
     context: &Context<'_>,
     seen: &mut IndexSet<Text>,
     found: &Examined<'_>,
 ) -> Result<Option<Fault>, AllocError>
-    ensures fault { IfOk result (λ fault. fault ≡ fault_with_outputs graph.now.default.now graph.now.items (Some (around context.now)) seen.old.keys (examined_state found.now)) }
+    ensures fault { IfOk result (λ fault. fault ≡ fault_with_outputs default.now items.now (Some (around context.now)) seen.old.keys (examined_state found.now)) }
     ensures seen { OnOk result (seen.new.keys ≡ with_each seen.old.keys found.now.outputs) }
 {
     let twice = output_fault(
         alloc,
-        graph,
+        default,
+        items,
         context.build,
         seen,
         found.outputs.as_slice(),
@@ -62,48 +60,51 @@ fn fault_around(
 // The same, where something is known around it.
 fn fault_at(
     alloc: Global,
-    graph: &ItemGraph<'_, NoRecords>,
+    default: &Text,
+    items: &ItemIndex<'_>,
     context: Option<Context<'_>>,
     seen: &mut IndexSet<Text>,
     found: &Examined<'_>,
 ) -> Result<Option<Fault>, AllocError>
-    ensures fault { IfOk result (λ fault. fault ≡ fault_with_outputs graph.now.default.now graph.now.items (option_map around context.entry) seen.old.keys (examined_state found.now)) }
+    ensures fault { IfOk result (λ fault. fault ≡ fault_with_outputs default.now items.now (option_map around context.entry) seen.old.keys (examined_state found.now)) }
     ensures seen { OnOk result (seen.new.keys ≡ with_examined (option_map around context.entry) seen.old.keys (examined_state found.now)) }
 {
     match context {
         None => Ok(None),
-        Some(context) => fault_around(alloc, graph, &context, seen, found),
+        Some(context) => fault_around(alloc, default, items, &context, seen, found),
     }
 }
 
 // The same by the frames of toolchains.
 fn framed_fault(
     alloc: Global,
-    graph: &ItemGraph<'_, NoRecords>,
+    default: &Text,
+    items: &ItemIndex<'_>,
     frames: &Frames<'_>,
     seen: &mut IndexSet<Text>,
     found: &Examined<'_>,
 ) -> Result<Option<Fault>, AllocError>
-    ensures fault { IfOk result (λ fault. fault ≡ fault_with_outputs graph.now.default.now graph.now.items (known_of frames.now found.now.target.now.toolchain) seen.old.keys (examined_state found.now)) }
+    ensures fault { IfOk result (λ fault. fault ≡ fault_with_outputs default.now items.now (known_of frames.now found.now.target.now.toolchain) seen.old.keys (examined_state found.now)) }
     ensures seen { OnOk result (seen.new.keys ≡ with_examined (known_of frames.now found.now.target.now.toolchain) seen.old.keys (examined_state found.now)) }
 {
     let context = frames.context(&found.target.toolchain);
-    fault_at(alloc, graph, context, seen, found)
+    fault_at(alloc, default, items, context, seen, found)
 }
 
 // The first fault of the first of these targets that has one, with what each has by itself, by the frames of toolchains, where these
 // outputs were seen.
 fn fault_behind(
     alloc: Global,
-    graph: &ItemGraph<'_, NoRecords>,
+    default: &Text,
+    items: &ItemIndex<'_>,
     frames: &Frames<'_>,
     seen: &mut IndexSet<Text>,
     examined: &[Examined<'_>],
 ) -> Result<Option<Fault>, AllocError>
-    ensures { IfOk result (λ fault. fault ≡ fault_of_examined graph.now.default.now graph.now.items (known_of frames.now) seen.old.keys (map examined_state examined.now)) }
+    ensures { IfOk result (λ fault. fault ≡ fault_of_examined default.now items.now (known_of frames.now) seen.old.keys (map examined_state examined.now)) }
 {
     for found in examined {
-        if let Some(fault) = framed_fault(alloc, graph, frames, seen, found)? {
+        if let Some(fault) = framed_fault(alloc, default, items, frames, seen, found)? {
             return Ok(Some(fault));
         }
     }
@@ -113,70 +114,52 @@ fn fault_behind(
 // The same, where no outputs were seen.
 fn fault_of_examined(
     alloc: Global,
-    graph: &ItemGraph<'_, NoRecords>,
+    default: &Text,
+    items: &ItemIndex<'_>,
     frames: &Frames<'_>,
     examined: &[Examined<'_>],
 ) -> Result<Option<Fault>, AllocError>
-    ensures { IfOk result (λ fault. fault ≡ fault_of_examined graph.now.default.now graph.now.items (known_of frames.now) [] (map examined_state examined.now)) }
+    ensures { IfOk result (λ fault. fault ≡ fault_of_examined default.now items.now (known_of frames.now) [] (map examined_state examined.now)) }
 {
     let mut seen = IndexSet::new(alloc);
-    let fault = fault_behind(alloc, graph, frames, &mut seen, examined);
+    let fault = fault_behind(alloc, default, items, frames, &mut seen, examined);
     drop(seen);
     fault
 }
 
-// The first fault of the first of these targets that has one, by the frames of toolchains.
+// The first fault of the first of these targets that has one, by the frames of toolchains and by which items reach no cycle.
 fn fault_among<R: Threads + Sync>(
     rt: &R,
     alloc: Global,
-    graph: &ItemGraph<'_, NoRecords>,
-    settled: &Firsts,
+    default: &Text,
+    items: &ItemIndex<'_>,
+    settled: &Settled,
     frames: &Frames<'_>,
     targets: &[Label],
 ) -> Result<Option<Fault>, AllocError>
-    requires { AreSettled (shape_of graph.now.items) settled.now }
-    ensures { IfOk result (λ fault. fault ≡ fault_among graph.now.default.now graph.now.items (known_of frames.now) [] targets.now) }
+    requires { AreMarked items.now settled.now.marks.items }
+    ensures { IfOk result (λ fault. fault ≡ fault_among default.now items.now (known_of frames.now) [] targets.now) }
 {
-    let examined = examine_all(rt, alloc, graph, settled, frames, targets)?;
-    let fault = fault_of_examined(alloc, graph, frames, examined.as_slice());
+    let examined = examine_all(rt, alloc, default, items, settled, frames, targets)?;
+    let fault = fault_of_examined(alloc, default, items, frames, examined.as_slice());
     drop(examined);
     fault
 }
 
-// The first fault of the first of these targets that has one, by the graph of items.
-fn fault_of<R: Threads + Sync>(
-    rt: &R,
-    alloc: Global,
-    graph: &ItemGraph<'_, NoRecords>,
-    frames: &Frames<'_>,
-    targets: &[Label],
-) -> Result<Option<Fault>, AllocError>
-    ensures { IfOk result (λ fault. fault ≡ fault_among graph.now.default.now graph.now.items (known_of frames.now) [] targets.now) }
-{
-    let order = dependencies_first(alloc, targets, graph)?;
-    let settled = settled(alloc, order.as_slice(), graph)?;
-    fault_among(rt, alloc, graph, &settled, frames, targets)
-}
-
 // The same by the items.
-fn fault_framed<'a, R: Threads + Sync>(
+fn fault_framed<R: Threads + Sync>(
     rt: &R,
     alloc: Global,
-    default: &'a Text,
-    items: &[&'a Item],
+    default: &Text,
+    items: &ItemIndex<'_>,
     frames: &Frames<'_>,
     targets: &[Label],
 ) -> Result<Option<Fault>, AllocError>
-    ensures { IfOk result (λ fault. fault ≡ fault_among default.now (lent items.now) (known_of frames.now) [] targets.now) }
+    ensures { IfOk result (λ fault. fault ≡ fault_among default.now items.now (known_of frames.now) [] targets.now) }
 {
-    let index = ItemIndex::of(alloc, items)?;
-    let graph = ItemGraph {
-        default,
-        items: index,
-        records: NoRecords,
-    };
-    let fault = fault_of(rt, alloc, &graph, frames, targets);
-    drop(graph);
+    let settled = settled(alloc, items, targets)?;
+    let fault = fault_among(rt, alloc, default, items, &settled, frames, targets);
+    drop(settled);
     fault
 }
 
@@ -188,12 +171,12 @@ pub(crate) fn target_fault<'a, R: Threads + Sync>(
     rt: &R,
     alloc: Global,
     surroundings: Surroundings<'a>,
-    items: &[&'a Item],
+    items: &ItemIndex<'_>,
     targets: &[Label],
 ) -> Result<Option<Fault>, AllocError>
-    ensures { IfOk result (λ fault. fault ≡ target_fault (given surroundings.entry) (lent items.now) targets.now) }
+    ensures { IfOk result (λ fault. fault ≡ target_fault (given surroundings.entry) items.now targets.now) }
 {
-    let frames = Frames::of(alloc, surroundings, items, targets)?;
+    let frames = Frames::of(alloc, surroundings, items.items(), targets)?;
     let fault = fault_framed(rt, alloc, surroundings.default, items, &frames, targets);
     drop(frames);
     fault

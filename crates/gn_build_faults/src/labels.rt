@@ -1,7 +1,6 @@
 // The fault that is told of the labels of a build: of targets, and of the toolchains that they use.
 
 ghost use Rattle.std.specs.Prelude.{◌≡◌, ◌++◌, ◌∷◌, [], IfOk, OnOk};
-ghost use Rattle.gn_labelled.specs.Index.{lent};
 ghost use Rattle.gn_toolchains.specs.Frames.{surroundings as given};
 ghost use Rattle.gn_build_faults.specs.Faults.{target_fault};
 ghost use Rattle.gn_build_faults.specs.Labels.{those_before, beside_toolchain, fault_of_labels};
@@ -9,7 +8,7 @@ ghost use Rattle.gn_build_faults.specs.Labels.{those_before, beside_toolchain, f
 use crate::fault::target_fault;
 use crate::first::first_of;
 use gn_faults::Fault;
-use gn_items::Item;
+use gn_labelled::ItemIndex;
 use gn_labels::Label;
 use gn_paths::Text;
 use gn_toolchain_faults::{ToolchainFault, toolchain_fault};
@@ -67,11 +66,11 @@ fn fault_before<'a, R: Threads + Sync>(
     rt: &R,
     alloc: Global,
     surroundings: Surroundings<'a>,
-    items: &[&'a Item],
+    items: &'a ItemIndex<'_>,
     targets: &[Label],
     label: &Label,
 ) -> Result<Option<Fault>, AllocError>
-    ensures { IfOk result (λ fault. fault ≡ target_fault (given surroundings.entry) (lent items.now)
+    ensures { IfOk result (λ fault. fault ≡ target_fault (given surroundings.entry) items.now
         (those_before (given surroundings.entry).default label.now targets.now)) }
 {
     let before = those_before(alloc, surroundings.default, label, targets)?;
@@ -85,11 +84,11 @@ fn up_to<'a, R: Threads + Sync>(
     rt: &R,
     alloc: Global,
     surroundings: Surroundings<'a>,
-    items: &[&'a Item],
+    items: &'a ItemIndex<'_>,
     targets: &[Label],
     told: ToolchainFault,
 ) -> Result<Option<Fault>, AllocError>
-    ensures { IfOk result (λ fault. fault ≡ beside_toolchain (given surroundings.entry) (lent items.now) targets.now (Some told)) }
+    ensures { IfOk result (λ fault. fault ≡ beside_toolchain (given surroundings.entry) items.now targets.now (Some told)) }
 {
     let ToolchainFault { label, fault } = told;
     let first = fault_before(rt, alloc, surroundings, items, targets, &label);
@@ -108,11 +107,11 @@ fn beside_toolchain<'a, R: Threads + Sync>(
     rt: &R,
     alloc: Global,
     surroundings: Surroundings<'a>,
-    items: &[&'a Item],
+    items: &'a ItemIndex<'_>,
     targets: &[Label],
     told: Option<ToolchainFault>,
 ) -> Result<Option<Fault>, AllocError>
-    ensures { IfOk result (λ fault. fault ≡ beside_toolchain (given surroundings.entry) (lent items.now) targets.now told) }
+    ensures { IfOk result (λ fault. fault ≡ beside_toolchain (given surroundings.entry) items.now targets.now told) }
 {
     match told {
         None => target_fault(rt, alloc, surroundings, items, targets),
@@ -129,10 +128,10 @@ pub fn fault_of_labels<'a, R: Threads + Sync>(
     rt: &R,
     alloc: Global,
     surroundings: Surroundings<'a>,
-    items: &[&'a Item],
+    items: &'a ItemIndex<'_>,
     targets: &[Label],
 ) -> Result<Option<Fault>, AllocError>
-    ensures { IfOk result (λ fault. fault ≡ fault_of_labels (given surroundings.entry) (lent items.now) targets.now) }
+    ensures { IfOk result (λ fault. fault ≡ fault_of_labels (given surroundings.entry) items.now targets.now) }
 {
     let told = toolchain_fault(alloc, surroundings, items, targets)?;
     beside_toolchain(rt, alloc, surroundings, items, targets, told)

@@ -10,6 +10,7 @@ mod made;
 mod outputs;
 mod paths;
 mod reaching;
+mod settling;
 mod shared;
 mod told;
 mod tools;

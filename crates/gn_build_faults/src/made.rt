@@ -1,7 +1,6 @@
 // What the targets of a build make.
 
 ghost use Rattle.std.specs.Prelude.{◌≡◌, [], IfOk, OnOk, option_map};
-ghost use Rattle.gn_labelled.specs.Index.{lent};
 ghost use Rattle.gn_records.specs.Around.{around};
 ghost use Rattle.gn_toolchains.specs.Frames.{surroundings as given, known_of};
 ghost use Rattle.gn_build_faults.specs.Outputs.{with_each};
@@ -9,7 +8,6 @@ ghost use Rattle.gn_build_faults.specs.Faults.{with_outputs};
 ghost use Rattle.gn_build_faults.specs.Made.{outputs_among, made_by};
 
 use crate::outputs::{made_around, see};
-use gn_items::Item;
 use gn_labelled::ItemIndex;
 use gn_labels::Label;
 use gn_paths::Text;
@@ -96,33 +94,18 @@ fn made_among(
     Ok(made)
 }
 
-// The same, by the items.
-fn made_framed<'a>(
-    alloc: Global,
-    items: &[&'a Item],
-    frames: &Frames<'a>,
-    targets: &[Label],
-) -> Result<IndexSet<Text>, AllocError>
-    ensures { IfOk result (λ made. made.keys ≡ outputs_among (lent items.now) (known_of frames.now) [] targets.now) }
-{
-    let index = ItemIndex::of(alloc, items)?;
-    let made = made_among(alloc, &index, frames, targets);
-    drop(index);
-    made
-}
-
 /// What these targets make, each output once, as the build directory sees it, by what never changes in the build and the items that it
 /// defines. An output of a tool's text that is no path isn't there.
 pub fn made_by<'a>(
     alloc: Global,
     surroundings: Surroundings<'a>,
-    items: &[&'a Item],
+    items: &ItemIndex<'_>,
     targets: &[Label],
 ) -> Result<IndexSet<Text>, AllocError>
-    ensures { IfOk result (λ made. made.keys ≡ made_by (given surroundings.entry) (lent items.now) targets.now) }
+    ensures { IfOk result (λ made. made.keys ≡ made_by (given surroundings.entry) items.now targets.now) }
 {
-    let frames = Frames::of(alloc, surroundings, items, targets)?;
-    let made = made_framed(alloc, items, &frames, targets);
+    let frames = Frames::of(alloc, surroundings, items.items(), targets)?;
+    let made = made_among(alloc, items, &frames, targets);
     drop(frames);
     made
 }

@@ -11,7 +11,7 @@ ghost use Rattle.gn_build_faults.specs.Outputs.{made_around, with_each, made_twi
 use crate::told::fault_with;
 use gn_faults::{Code, Fault};
 use gn_items::Item;
-use gn_labelled::{ItemGraph, NoRecords};
+use gn_labelled::ItemIndex;
 use gn_labels::Label;
 use gn_paths::{Path, Text, Texts, path_meant};
 use gn_records::{Context, made};
@@ -42,10 +42,9 @@ pub(crate) fn see(
     ensures seen { OnOk result (seen.new.keys ≡ with_text seen.old.keys output.now) }
     ensures before { IfOk result (λ b. b ≡ has_text seen.old.keys output.now) }
 {
-    let before = seen.contains(output);
     let text = output.copy(alloc)?;
-    seen.insert(text)?;
-    Ok(before)
+    let is_new = seen.insert(text)?;
+    Ok(!is_new)
 }
 
 // Puts a copy of a text behind others.
@@ -151,28 +150,30 @@ fn alone(alloc: Global, text: Text) -> Result<Texts, AllocError>
 // The fault of an output that is made twice.
 fn told(
     alloc: Global,
-    graph: &ItemGraph<'_, NoRecords>,
+    default: &Text,
+    items: &ItemIndex<'_>,
     label: &Label,
     output: Text,
 ) -> Result<Fault, AllocError>
-    ensures { IfOk result (λ fault. fault ≡ meant graph.now.default.now graph.now.items label.now SameOutput (output ∷ [])) }
+    ensures { IfOk result (λ fault. fault ≡ meant default.now items.now label.now SameOutput (output ∷ [])) }
 {
     let detail = alone(alloc, output)?;
-    fault_with(alloc, graph, label, Code::SameOutput, detail)
+    fault_with(alloc, default, items, label, Code::SameOutput, detail)
 }
 
 // The fault of an output that is made twice, if there is one.
 fn twice_told(
     alloc: Global,
-    graph: &ItemGraph<'_, NoRecords>,
+    default: &Text,
+    items: &ItemIndex<'_>,
     label: &Label,
     output: Option<Text>,
 ) -> Result<Option<Fault>, AllocError>
-    ensures { IfOk result (λ fault. fault ≡ twice_told graph.now.default.now graph.now.items label.now output) }
+    ensures { IfOk result (λ fault. fault ≡ twice_told default.now items.now label.now output) }
 {
     match output {
         None => Ok(None),
-        Some(output) => Ok(Some(told(alloc, graph, label, output)?)),
+        Some(output) => Ok(Some(told(alloc, default, items, label, output)?)),
     }
 }
 
@@ -180,15 +181,16 @@ fn twice_told(
 #[tactic(auto, unfolding(crate::specs::Outputs::output_fault))]
 pub(crate) fn output_fault(
     alloc: Global,
-    graph: &ItemGraph<'_, NoRecords>,
+    default: &Text,
+    items: &ItemIndex<'_>,
     build: &Path,
     seen: &mut IndexSet<Text>,
     outputs: &[Text],
     label: &Label,
 ) -> Result<Option<Fault>, AllocError>
-    ensures fault { IfOk result (λ fault. fault ≡ output_fault graph.now.default.now graph.now.items build.now seen.old.keys outputs.now label.now) }
+    ensures fault { IfOk result (λ fault. fault ≡ output_fault default.now items.now build.now seen.old.keys outputs.now label.now) }
     ensures seen { OnOk result (seen.new.keys ≡ with_each seen.old.keys outputs.now) }
 {
     let output = least_twice(alloc, build, seen, outputs)?;
-    twice_told(alloc, graph, label, output)
+    twice_told(alloc, default, items, label, output)
 }

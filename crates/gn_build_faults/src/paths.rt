@@ -7,7 +7,7 @@ ghost use Rattle.gn_build_faults.specs.Paths.{wrong_at, path_told, path_fault};
 use crate::told::fault_with;
 use gn_faults::{Code, Fault};
 use gn_items::Item;
-use gn_labelled::{ItemGraph, NoRecords};
+use gn_labelled::TargetGraph;
 use gn_labels::Label;
 use gn_paths::Texts;
 use gn_records::Context;
@@ -31,15 +31,22 @@ fn wrong_at(
 // The fault of this code, if there is one.
 fn told(
     alloc: Global,
-    graph: &ItemGraph<'_, NoRecords>,
+    graph: &TargetGraph<'_, '_>,
     label: &Label,
     code: Option<Code>,
 ) -> Result<Option<Fault>, AllocError>
-    ensures { IfOk result (λ fault. fault ≡ path_told graph.now.default.now graph.now.items label.now code) }
+    ensures { IfOk result (λ fault. fault ≡ path_told graph.now.default.now graph.now.items.now label.now code) }
 {
     match code {
         None => Ok(None),
-        Some(code) => Ok(Some(fault_with(alloc, graph, label, code, Texts::new(alloc))?)),
+        Some(code) => Ok(Some(fault_with(
+            alloc,
+            graph.default,
+            graph.items,
+            label,
+            code,
+            Texts::new(alloc),
+        )?)),
     }
 }
 
@@ -47,12 +54,12 @@ fn told(
 #[tactic(auto, unfolding(crate::specs::Paths::path_fault))]
 pub(crate) fn path_fault(
     alloc: Global,
-    graph: &ItemGraph<'_, NoRecords>,
+    graph: &TargetGraph<'_, '_>,
     context: &Context<'_>,
     label: &Label,
 ) -> Result<Option<Fault>, AllocError>
-    ensures { IfOk result (λ fault. fault ≡ path_fault graph.now.default.now graph.now.items (around context.now) label.now) }
+    ensures { IfOk result (λ fault. fault ≡ path_fault graph.now.default.now graph.now.items.now (around context.now) label.now) }
 {
-    let code = wrong_at(alloc, context, graph.items.item(label))?;
+    let code = wrong_at(alloc, context, graph.item(label))?;
     told(alloc, graph, label, code)
 }

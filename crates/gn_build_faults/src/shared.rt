@@ -16,8 +16,8 @@ fn is_shared<T: Sync>(_value: Option<&T>)
 
 /// Threads may take and share a closure that captures what the faults of targets are looked for in, and share labels. It does nothing.
 pub(crate) fn graphs_are_shared()
-    ensures send { (name : Sym) (alloc graph items settled frames lent : NamedLft) → IsSend (TupleAt name (captures alloc graph items settled frames lent)) }
-    ensures sync { (name : Sym) (alloc graph items settled frames lent : NamedLft) → IsSync (TupleAt name (captures alloc graph items settled frames lent)) }
+    ensures send { (name : Sym) (alloc default items lent settled frames framed : NamedLft) → IsSend (TupleAt name (captures alloc default items lent settled frames framed)) }
+    ensures sync { (name : Sym) (alloc default items lent settled frames framed : NamedLft) → IsSync (TupleAt name (captures alloc default items lent settled frames framed)) }
     ensures label { IsSync LabelRow.the_row }
 {
     is_shared::<Fields>(None)

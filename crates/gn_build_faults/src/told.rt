@@ -2,22 +2,23 @@
 
 ghost use Rattle.std.specs.Prelude.{◌≡◌, IfOk, option_map};
 ghost use Rattle.gn_graph_faults.specs.Faults.{toolchain_told};
+ghost use Rattle.gn_labelled.specs.Graphs.{place_at};
 ghost use Rattle.gn_build_faults.specs.Told.{fault_with};
 
 use gn_faults::{Code, Fault, Stage};
-use gn_graph_faults::Places;
-use gn_labelled::{ItemGraph, NoRecords};
+use gn_items::Item;
+use gn_labelled::ItemIndex;
 use gn_labels::Label;
 use gn_paths::{Place, Text, Texts};
 use std::alloc::{AllocError, Global};
 
-// A copy of a place, if there is one.
-fn copied(alloc: Global, place: Option<&Place>) -> Result<Option<Place>, AllocError>
-    ensures { IfOk result (λ copy. copy ≡ option_map (λ place. place.now) place.entry) }
+// A copy of the place where the call stands that defines an item, if there is one.
+fn place_of(alloc: Global, item: Option<&Item>) -> Result<Option<Place>, AllocError>
+    ensures { IfOk result (λ copy. copy ≡ place_at (option_map (λ i. i.now) item.entry)) }
 {
-    match place {
+    match item {
         None => Ok(None),
-        Some(place) => Ok(Some(place.copy(alloc)?)),
+        Some(item) => Ok(Some(item.place.copy(alloc)?)),
     }
 }
 
@@ -35,15 +36,16 @@ fn toolchain_of(alloc: Global, label: &Label, default: &Text) -> Result<Text, Al
 /// The fault of the item of a label that tells these texts.
 pub(crate) fn fault_with(
     alloc: Global,
-    graph: &ItemGraph<'_, NoRecords>,
+    default: &Text,
+    items: &ItemIndex<'_>,
     label: &Label,
     code: Code,
     detail: Texts,
 ) -> Result<Fault, AllocError>
-    ensures { IfOk result (λ fault. fault ≡ fault_with graph.now.default.now graph.now.items label.now code detail) }
+    ensures { IfOk result (λ fault. fault ≡ fault_with default.now items.now label.now code detail) }
 {
-    let place = copied(alloc, graph.place(label))?;
-    let toolchain = toolchain_of(alloc, label, graph.default)?;
+    let place = place_of(alloc, items.item(label))?;
+    let toolchain = toolchain_of(alloc, label, default)?;
     Ok(Fault {
         stage: Stage::Graph,
         place,

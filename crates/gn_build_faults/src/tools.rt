@@ -9,7 +9,7 @@ ghost use Rattle.gn_build_faults.specs.Tools.{lacking, lacking_told, tool_fault}
 use crate::told::fault_with;
 use gn_faults::{Code, Fault};
 use gn_items::{Item, Tool};
-use gn_labelled::{ItemGraph, NoRecords};
+use gn_labelled::TargetGraph;
 use gn_labels::Label;
 use gn_needed_tools::missing_tools;
 use gn_paths::{Text, Texts};
@@ -40,24 +40,31 @@ fn details(alloc: Global, label: &Label, name: &Text, default: &Text) -> Result<
 // The fault of a tool of this name.
 fn told(
     alloc: Global,
-    graph: &ItemGraph<'_, NoRecords>,
+    graph: &TargetGraph<'_, '_>,
     label: &Label,
     name: &Text,
 ) -> Result<Fault, AllocError>
-    ensures { IfOk result (λ fault. fault ≡ meant graph.now.default.now graph.now.items label.now Unresolved (printed graph.now.default.now label.now ∷ name.now ∷ [])) }
+    ensures { IfOk result (λ fault. fault ≡ meant graph.now.default.now graph.now.items.now label.now Unresolved (printed graph.now.default.now label.now ∷ name.now ∷ [])) }
 {
     let detail = details(alloc, label, name, graph.default)?;
-    fault_with(alloc, graph, label, Code::Unresolved, detail)
+    fault_with(
+        alloc,
+        graph.default,
+        graph.items,
+        label,
+        Code::Unresolved,
+        detail,
+    )
 }
 
 // The fault of the first of these names.
 fn lacking_told(
     alloc: Global,
-    graph: &ItemGraph<'_, NoRecords>,
+    graph: &TargetGraph<'_, '_>,
     label: &Label,
     names: &[Text],
 ) -> Result<Option<Fault>, AllocError>
-    ensures { IfOk result (λ fault. fault ≡ lacking_told graph.now.default.now graph.now.items label.now names.now) }
+    ensures { IfOk result (λ fault. fault ≡ lacking_told graph.now.default.now graph.now.items.now label.now names.now) }
 {
     match names {
         [name, ..] => Ok(Some(told(alloc, graph, label, name)?)),
@@ -69,12 +76,12 @@ fn lacking_told(
 #[tactic(auto, unfolding(crate::specs::Tools::tool_fault))]
 pub(crate) fn tool_fault(
     alloc: Global,
-    graph: &ItemGraph<'_, NoRecords>,
+    graph: &TargetGraph<'_, '_>,
     tools: &[Tool],
     label: &Label,
 ) -> Result<Option<Fault>, AllocError>
-    ensures { IfOk result (λ fault. fault ≡ tool_fault graph.now.default.now graph.now.items tools.now label.now) }
+    ensures { IfOk result (λ fault. fault ≡ tool_fault graph.now.default.now graph.now.items.now tools.now label.now) }
 {
-    let names = lacking(alloc, tools, graph.items.item(label))?;
+    let names = lacking(alloc, tools, graph.item(label))?;
     lacking_told(alloc, graph, label, names.as_slice())
 }

@@ -29,8 +29,8 @@ pub struct ItemGraph<'a, R> {
     pub records: R,
 }
 
-// The kind of an item, if there is one.
-fn kind_at(item: Option<&Item>) -> Option<ItemKind>
+/// The kind of an item, if there is one.
+pub(crate) fn kind_at(item: Option<&Item>) -> Option<ItemKind>
     ensures { result ≡ kind_at (option_map (λ i. i.now) item.entry) }
 {
     match item {
@@ -39,8 +39,8 @@ fn kind_at(item: Option<&Item>) -> Option<ItemKind>
     }
 }
 
-// The labels that an item has at a variable; none where there is no item.
-fn labels_at(item: Option<&Item>, variable: Variable) -> &[Label]
+/// The labels that an item has at a variable; none where there is no item.
+pub(crate) fn labels_at(item: Option<&Item>, variable: Variable) -> &[Label]
     ensures { result.now ≡ labels_at (option_map (λ i. i.now) item.entry) variable }
 {
     match item {
@@ -59,8 +59,8 @@ fn patterns_held(field: Option<&Field>) -> Option<&[Pattern]>
     }
 }
 
-// The patterns of an item's `visibility`, where it is set.
-fn visibility_at(item: Option<&Item>) -> Option<&[Pattern]>
+/// The patterns of an item's `visibility`, where it is set.
+pub(crate) fn visibility_at(item: Option<&Item>) -> Option<&[Pattern]>
     ensures { option_map (λ patterns. patterns.now) result ≡ visibility_at (option_map (λ i. i.now) item.entry) }
 {
     match item {
@@ -69,8 +69,8 @@ fn visibility_at(item: Option<&Item>) -> Option<&[Pattern]>
     }
 }
 
-// Whether an item is for tests alone.
-fn is_testonly_at(item: Option<&Item>) -> bool
+/// Whether an item is for tests alone.
+pub(crate) fn is_testonly_at(item: Option<&Item>) -> bool
     ensures { result ≡ is_testonly_at (option_map (λ i. i.now) item.entry) }
 {
     match item {
@@ -82,8 +82,8 @@ fn is_testonly_at(item: Option<&Item>) -> bool
     }
 }
 
-// The patterns of an item's `assert_no_deps`.
-fn forbidden_at(item: Option<&Item>) -> &[Pattern]
+/// The patterns of an item's `assert_no_deps`.
+pub(crate) fn forbidden_at(item: Option<&Item>) -> &[Pattern]
     ensures { result.now ≡ forbidden_at (option_map (λ i. i.now) item.entry) }
 {
     match item {
@@ -92,8 +92,8 @@ fn forbidden_at(item: Option<&Item>) -> &[Pattern]
     }
 }
 
-// Where the call stands that defines an item, if there is one.
-fn place_at(item: Option<&Item>) -> Option<&Place>
+/// Where the call stands that defines an item, if there is one.
+pub(crate) fn place_at(item: Option<&Item>) -> Option<&Place>
     ensures { option_map (λ place. place.now) result ≡ place_at (option_map (λ i. i.now) item.entry) }
 {
     match item {

@@ -1,10 +1,10 @@
 // Items by their labels.
 
-ghost use Rattle.std.specs.Prelude.{◌≡◌, ◌++◌, ◌∷◌, [], ℕ, List, IfOk, OnOk, OnErr, option_map};
+ghost use Rattle.std.specs.Prelude.{◌≡◌, ◌++◌, ◌∷◌, [], ℕ, List, IfOk, OnOk, OnErr, option_map, length};
 ghost use Rattle.indexmap.specs.IndexMap.{IsUnchanged};
 ghost use Rattle.gn_items.specs.declared.item.Item.{Item as Defined};
 ghost use Rattle.gn_items.specs.Effects.{item_at};
-ghost use Rattle.gn_labelled.specs.Index.{lent, repeated, IsIndex};
+ghost use Rattle.gn_labelled.specs.Index.{lent, repeated, IsIndex, place_of, item_in};
 
 use gn_items::Item;
 use gn_labels::Label;
@@ -19,8 +19,8 @@ use std::marker::Model;
 pub struct ItemIndex<'a> {
     // All items, in order.
     items: Vec<&'a Item>,
-    // Of each label that an item has, the first item that has it.
-    firsts: IndexMap<&'a Label, &'a Item>,
+    // Of each label that an item has, the place among all of the first item that has it.
+    firsts: IndexMap<&'a Label, usize>,
     // The other items, in order.
     repeated: Vec<&'a Item>,
 }
@@ -41,22 +41,38 @@ impl<'a> Model for ItemIndex<'a> {
     ghost invariant = { λ s. IsIndex (lent s.items.items) s.firsts (lent s.repeated.items) };
 }
 
-// Puts an item with the first ones, or with the others where its label is there. After want of memory nothing is changed.
-fn place<'a>(
-    firsts: &mut IndexMap<&'a Label, &'a Item>,
+// Puts an item, which stands at this place, with the first ones, or with the others where its label is there. After want of memory
+// nothing is changed.
+fn put<'a>(
+    firsts: &mut IndexMap<&'a Label, usize>,
     repeated: &mut Vec<&'a Item>,
     item: &'a Item,
+    place: usize,
 ) -> Result<(), AllocError>
-    ensures ok { OnOk result ((items : List Defined) → IsIndex items firsts.old (lent repeated.old.items) → IsIndex (items ++ item.now ∷ []) firsts.new (lent repeated.new.items)) }
+    ensures ok { OnOk result ((items : List Defined) → place ≡ length items → IsIndex items firsts.old (lent repeated.old.items)
+        → IsIndex (items ++ item.now ∷ []) firsts.new (lent repeated.new.items)) }
     ensures err { OnErr result (IsUnchanged firsts.old firsts.new × (repeated.new.items ≡ repeated.old.items)) }
 {
     let label = &item.label;
     if firsts.contains_key(&label) {
         repeated.push(item)?;
     } else {
-        firsts.insert(label, item)?;
+        firsts.insert(label, place)?;
     }
     Ok(())
+}
+
+// The item at a place, if there is one.
+fn item_in<'a>(items: &[&'a Item], place: Option<usize>) -> Option<&'a Item>
+    ensures { option_map (λ item. item.now) result ≡ item_in (lent items.now) place }
+{
+    let Some(place) = place else {
+        return None;
+    };
+    match items.get(place) {
+        None => None,
+        Some(item) => Some(*item),
+    }
 }
 
 impl<'a> ItemIndex<'a> {
@@ -99,7 +115,8 @@ impl<'a> ItemIndex<'a> {
         ensures err { OnErr result (self.new ≡ self.old) }
     {
         self.items.reserve(1)?;
-        place(&mut self.firsts, &mut self.repeated, item)?;
+        let place = self.items.len();
+        put(&mut self.firsts, &mut self.repeated, item, place)?;
         self.items.push_reserved(item);
         Ok(())
     }
@@ -115,14 +132,28 @@ impl<'a> ItemIndex<'a> {
         Ok(())
     }
 
+    /// The place, from 0, of the first item that has the label; None where no item has it. It takes no memory.
+    pub fn place(&self, label: &Label) -> Option<usize>
+        ensures { result ≡ place_of label.now self.now }
+    {
+        match self.firsts.get(&label) {
+            None => None,
+            Some(place) => Some(*place),
+        }
+    }
+
+    /// The item at a place that was found, if there is one. It takes no memory, and looks nothing up.
+    pub fn at(&self, place: Option<usize>) -> Option<&'a Item>
+        ensures { option_map (λ item. item.now) result ≡ item_in self.now place }
+    {
+        item_in(self.items.as_slice(), place)
+    }
+
     /// The first item that has the label; None where no item has it. It takes no memory.
     pub fn item(&self, label: &Label) -> Option<&'a Item>
         ensures { option_map (λ item. item.now) result ≡ item_at label.now self.now }
     {
-        match self.firsts.get(&label) {
-            None => None,
-            Some(item) => Some(*item),
-        }
+        self.at(self.place(label))
     }
 
     /// All items, in order. It takes no memory.

@@ -1,122 +1,127 @@
-// An order of targets in which dependencies stand before those that depend on them, but where they lie on a cycle. What is made of
+// An order of items in which dependencies stand before those that depend on them, but where they lie on a cycle. What is made of
 // it holds in whatever order: this one makes it quick, and so its contracts say nothing of it.
 
-use gn_chains::{Firsts, Graph};
+use crate::index::ItemIndex;
+use gn_define::Fields;
+use gn_items::Item;
 use gn_labels::Label;
 use gn_rows::Variable;
 use std::alloc::{AllocError, Global};
 
-// A dependency of a label, by its place among them.
-fn dependency<'a, G: Graph>(graph: &'a G, label: &Label, place: usize) -> Option<&'a Label> {
-    let public = graph.labels(label, Variable::PublicDeps);
-    let private = graph.labels(label, Variable::Deps);
-    let data = graph.labels(label, Variable::DataDeps);
+// A dependency of an item, by its place among them.
+fn dependency(fields: &Fields, place: usize) -> Option<&Label> {
+    let public = fields.labels(Variable::PublicDeps);
     if place < public.len() {
         return public.get(place);
     }
     let behind = place - public.len();
+    let private = fields.labels(Variable::Deps);
     if behind < private.len() {
         private.get(behind)
     } else {
-        data.get(behind - private.len())
+        fields
+            .labels(Variable::DataDeps)
+            .get(behind - private.len())
     }
 }
 
-// How many dependencies a label has.
-fn dependency_count<G: Graph>(graph: &G, label: &Label) -> usize {
-    let public = graph.labels(label, Variable::PublicDeps).len();
-    let private = graph.labels(label, Variable::Deps).len();
-    let data = graph.labels(label, Variable::DataDeps).len();
-    public.saturating_add(private).saturating_add(data)
+// The same where there may be no item.
+fn dependency_at(item: Option<&Item>, place: usize) -> Option<&Label> {
+    match item {
+        None => None,
+        Some(item) => dependency(&item.fields, place),
+    }
 }
 
-// A walk in depth: the labels from which it goes on with the place of the dependency that comes next, those that it has met, and
-// those whose dependencies it has all met.
+// A walk in depth, by the places of items: those from which it goes on with the place of the dependency that comes next, which items
+// it has met, and those whose dependencies it has all met.
 #[derive(Drop)]
-struct Walk<'a> {
-    open: Vec<(&'a Label, usize)>,
-    met: Firsts,
-    order: Vec<Label>,
+struct Walk {
+    open: Vec<(usize, usize)>,
+    met: Vec<bool>,
+    order: Vec<usize>,
 }
 
-// Goes to a label, unless it was met.
-fn enter<'a>(walk: &mut Walk<'a>, label: &'a Label) -> Result<(), AllocError> {
-    if !walk.met.has(label) {
-        walk.met.add(label)?;
-        walk.open.push((label, 0))?;
-    }
-    Ok(())
-}
-
-// Puts a copy of a label behind others.
-fn push_copy(alloc: Global, labels: &mut Vec<Label>, label: &Label) -> Result<(), AllocError> {
-    labels.reserve(1)?;
-    let label = label.copy(alloc)?;
-    labels.push_reserved(label);
-    Ok(())
-}
-
-// Goes on to the next dependency of the innermost label, or leaves it.
-fn step<'a, G: Graph>(alloc: Global, walk: &mut Walk<'a>, graph: &'a G) -> Result<(), AllocError> {
-    let Some((label, place)) = walk.open.pop() else {
-        return Ok(());
-    };
-    match dependency(graph, label, place) {
-        None => push_copy(alloc, &mut walk.order, label),
-        Some(next) => {
-            walk.open.push((label, place.saturating_add(1)))?;
-            enter(walk, next)
+// Meets the item at a place. Whether there is one that was not met before.
+fn meet(met: &mut [bool], place: usize) -> bool {
+    match met.get_mut(place) {
+        None => false,
+        Some(is_met) => {
+            let is_new = !*is_met;
+            *is_met = true;
+            is_new
         }
     }
 }
 
-// How many steps a walk from all of these labels takes at most, where they are all that have dependencies: one to each dependency,
-// one from it where it has none itself, and one from each of the labels.
-fn step_count<G: Graph>(graph: &G, labels: &[Label]) -> usize {
-    let mut count = 0usize;
-    for label in labels {
-        let dependencies = dependency_count(graph, label);
-        count = count
-            .saturating_add(dependencies)
-            .saturating_add(dependencies)
-            .saturating_add(1);
+// Goes to the item at a place, unless it was met.
+fn enter(walk: &mut Walk, place: Option<usize>) -> Result<(), AllocError> {
+    let Some(place) = place else {
+        return Ok(());
+    };
+    if meet(walk.met.as_mut_slice(), place) {
+        walk.open.push((place, 0))?;
     }
-    count
+    Ok(())
+}
+
+// Goes on to the next dependency of the innermost item, or leaves it.
+fn step(walk: &mut Walk, items: &ItemIndex<'_>) -> Result<(), AllocError> {
+    let Some((place, next)) = walk.open.pop() else {
+        return Ok(());
+    };
+    match dependency_at(items.at(Some(place)), next) {
+        None => {
+            walk.order.push(place)?;
+            Ok(())
+        }
+        Some(label) => {
+            walk.open.push((place, next.saturating_add(1)))?;
+            enter(walk, items.place(label))
+        }
+    }
+}
+
+// Goes through all that is met from an item. It ends where all is met, since no item is entered twice: the count is no bound that
+// is ever reached.
+fn walk_from(
+    walk: &mut Walk,
+    items: &ItemIndex<'_>,
+    place: Option<usize>,
+) -> Result<(), AllocError> {
+    enter(walk, place)?;
+    for _ in 0..usize::MAX {
+        if walk.open.is_empty() {
+            break;
+        }
+        step(walk, items)?;
+    }
+    Ok(())
 }
 
 // Goes through all that is met from the targets.
-fn walk_all<'a, G: Graph>(
-    alloc: Global,
-    walk: &mut Walk<'a>,
-    targets: &'a [Label],
-    graph: &'a G,
-) -> Result<(), AllocError> {
-    let steps = step_count(graph, targets);
+fn walk_all(walk: &mut Walk, items: &ItemIndex<'_>, targets: &[Label]) -> Result<(), AllocError> {
+    walk.met.resize(items.items().len(), false)?;
+    walk.order.reserve(targets.len())?;
     for target in targets {
-        enter(walk, target)?;
-        for _ in 0..steps {
-            if walk.open.is_empty() {
-                break;
-            }
-            step(alloc, walk, graph)?;
-        }
+        walk_from(walk, items, items.place(target))?;
     }
     Ok(())
 }
 
-/// The targets and what they depend on, dependencies first but where they lie on a cycle. The walk ends where all is met, and in any
-/// case after as many steps as there can be where the targets are all that have dependencies.
-pub fn dependencies_first<G: Graph>(
+/// The places of the items of targets and of what they depend on, dependencies first but where they lie on a cycle. It looks at each
+/// dependency once.
+pub fn dependencies_first(
     alloc: Global,
+    items: &ItemIndex<'_>,
     targets: &[Label],
-    graph: &G,
-) -> Result<Vec<Label>, AllocError> {
+) -> Result<Vec<usize>, AllocError> {
     let mut walk = Walk {
         open: Vec::new(alloc),
-        met: Firsts::new(alloc),
+        met: Vec::new(alloc),
         order: Vec::new(alloc),
     };
-    if let Err(error) = walk_all(alloc, &mut walk, targets, graph) {
+    if let Err(error) = walk_all(&mut walk, items, targets) {
         drop(walk);
         return Err(error);
     }

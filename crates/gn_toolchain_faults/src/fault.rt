@@ -30,11 +30,11 @@ pub struct ToolchainFault {
 
 // The toolchains that targets use, by the items that define them.
 #[derive(Drop)]
-struct Toolchains<'a> {
+struct Toolchains<'a, 'b> {
     surroundings: Surroundings<'a>,
     // The items of the build.
-    items: ItemIndex<'a>,
-    used: Vec<&'a Item>,
+    items: &'a ItemIndex<'b>,
+    used: Vec<&'b Item>,
 }
 
 // The code by which it is told what is wrong with a pool.
@@ -50,14 +50,14 @@ fn code_of(wrong: Wrong) -> Code
 // The fault of the first in label order of the pools of a toolchain's tools with which this is wrong, if there is one.
 fn pool_fault(
     alloc: Global,
-    toolchains: &Toolchains<'_>,
+    toolchains: &Toolchains<'_, '_>,
     wrong: Wrong,
     item: &Item,
 ) -> Result<Option<Fault>, AllocError>
-    ensures { IfOk result (λ fault. fault ≡ pool_fault toolchains.now.surroundings.default.now toolchains.now.items wrong item.now) }
+    ensures { IfOk result (λ fault. fault ≡ pool_fault toolchains.now.surroundings.default.now toolchains.now.items.now wrong item.now) }
 {
     let default = toolchains.surroundings.default;
-    match wrong_pool(wrong, default, &toolchains.items, item.tools.as_slice()) {
+    match wrong_pool(wrong, default, toolchains.items, item.tools.as_slice()) {
         None => Ok(None),
         Some(pool) => Ok(Some(pool_told(alloc, default, item, code_of(wrong), pool)?)),
     }
@@ -66,7 +66,7 @@ fn pool_fault(
 // The fault of a toolchain whose name another one before it has.
 fn name_fault(
     alloc: Global,
-    toolchains: &Toolchains<'_>,
+    toolchains: &Toolchains<'_, '_>,
     item: &Item,
 ) -> Result<Option<Fault>, AllocError>
     ensures { IfOk result (λ fault. fault ≡ name_told (given toolchains.now.surroundings) (lent toolchains.now.used.items) item.now) }
@@ -82,10 +82,10 @@ fn name_fault(
 #[tactic(auto, unfolding(crate::specs::Faults::fault_of))]
 fn fault_of(
     alloc: Global,
-    toolchains: &Toolchains<'_>,
+    toolchains: &Toolchains<'_, '_>,
     item: &Item,
 ) -> Result<Option<Fault>, AllocError>
-    ensures { IfOk result (λ fault. fault ≡ fault_of (given toolchains.now.surroundings) toolchains.now.items (lent toolchains.now.used.items) item.now) }
+    ensures { IfOk result (λ fault. fault ≡ fault_of (given toolchains.now.surroundings) toolchains.now.items.now (lent toolchains.now.used.items) item.now) }
 {
     if let Some(fault) = pool_fault(alloc, toolchains, Wrong::Missing, item)? {
         return Ok(Some(fault));
@@ -107,10 +107,10 @@ fn beside(alloc: Global, label: &Label, fault: Fault) -> Result<ToolchainFault, 
 // The fault of a toolchain with its label, if it has one.
 fn told_of(
     alloc: Global,
-    toolchains: &Toolchains<'_>,
+    toolchains: &Toolchains<'_, '_>,
     item: &Item,
 ) -> Result<Option<ToolchainFault>, AllocError>
-    ensures { IfOk result (λ told. told ≡ told_of (given toolchains.now.surroundings) toolchains.now.items (lent toolchains.now.used.items) item.now) }
+    ensures { IfOk result (λ told. told ≡ told_of (given toolchains.now.surroundings) toolchains.now.items.now (lent toolchains.now.used.items) item.now) }
 {
     match fault_of(alloc, toolchains, item)? {
         None => Ok(None),
@@ -144,9 +144,9 @@ fn with_one(
 // The fault of the first in label order of the toolchains that have one.
 fn fault_among(
     alloc: Global,
-    toolchains: &Toolchains<'_>,
+    toolchains: &Toolchains<'_, '_>,
 ) -> Result<Option<ToolchainFault>, AllocError>
-    ensures { IfOk result (λ told. told ≡ fault_among (given toolchains.now.surroundings) toolchains.now.items (lent toolchains.now.used.items)) }
+    ensures { IfOk result (λ told. told ≡ fault_among (given toolchains.now.surroundings) toolchains.now.items.now (lent toolchains.now.used.items)) }
 {
     let mut best: Option<ToolchainFault> = None;
     for item in toolchains.used.as_slice() {
@@ -166,13 +166,12 @@ fn fault_among(
 pub fn toolchain_fault<'a>(
     alloc: Global,
     surroundings: Surroundings<'a>,
-    items: &[&'a Item],
+    items: &'a ItemIndex<'_>,
     targets: &[Label],
 ) -> Result<Option<ToolchainFault>, AllocError>
-    ensures { IfOk result (λ told. told ≡ toolchain_fault (given surroundings.entry) (lent items.now) targets.now) }
+    ensures { IfOk result (λ told. told ≡ toolchain_fault (given surroundings.entry) items.now targets.now) }
 {
-    let used = used(alloc, surroundings.default, items, targets)?;
-    let items = ItemIndex::of(alloc, items)?;
+    let used = used(alloc, surroundings.default, items.items(), targets)?;
     let toolchains = Toolchains {
         surroundings,
         items,

@@ -18,6 +18,7 @@ use gn_built::{Built, WrittenFiles};
 use gn_faults::Fault;
 use gn_file_faults::{FileFacts, FilesWritten, file_fault};
 use gn_items::{Declaration, DefaultToolchain, Item, ItemKind, Written};
+use gn_labelled::ItemIndex;
 use gn_labels::Label;
 use gn_paths::{Path, Text};
 use gn_toolchains::Surroundings;
@@ -92,11 +93,11 @@ fn have_written(executions: &[FilesWritten<'_>]) -> bool
 fn made_where<'a>(
     alloc: Global,
     surroundings: Surroundings<'a>,
-    items: &[&'a Item],
+    items: &'a ItemIndex<'_>,
     executions: &[FilesWritten<'_>],
     generated: &[Label],
 ) -> Result<IndexSet<Text>, AllocError>
-    ensures { IfOk result (λ made. made.keys ≡ made_where (given surroundings.entry) (lent items.now) (map execution_of executions.now) generated.now) }
+    ensures { IfOk result (λ made. made.keys ≡ made_where (given surroundings.entry) items.now (map execution_of executions.now) generated.now) }
 {
     if have_written(executions) {
         made_by(alloc, surroundings, items, generated)
@@ -155,10 +156,10 @@ fn fault_of_files<'a>(
     alloc: Global,
     surroundings: Surroundings<'a>,
     built: &Built,
-    items: &[&'a Item],
+    items: &'a ItemIndex<'_>,
 ) -> Result<Option<Fault>, AllocError>
     requires default { (given surroundings).default ≡ (build_of built.now).default }
-    requires items { lent items.now ≡ items_of_build (build_of built.now) }
+    requires items { items.now ≡ items_of_build (build_of built.now) }
     ensures { IfOk result (λ fault. fault ≡ files_fault_meant (given surroundings.entry) (build_of built.now)) }
 {
     let declarations = built.declarations(alloc)?;
@@ -180,7 +181,7 @@ fn fault_of_files<'a>(
         imported: imported.as_slice(),
     };
     let default = built.default_named();
-    let is_toolchain = is_defined(surroundings.default, items, default);
+    let is_toolchain = is_defined(surroundings.default, items.items(), default);
     fault_by(
         alloc,
         lists,
@@ -196,10 +197,10 @@ fn told_fault<'a, R: Threads + Sync>(
     rt: &R,
     alloc: Global,
     surroundings: Surroundings<'a>,
-    items: &[&'a Item],
+    items: &'a ItemIndex<'_>,
     generated: &[Label],
 ) -> Result<Option<Fault>, AllocError>
-    ensures { IfOk result (λ fault. fault ≡ told_of_targets (given surroundings.entry) (lent items.now) (targets_meant (given surroundings.entry).default (lent items.now) generated.now)) }
+    ensures { IfOk result (λ fault. fault ≡ told_of_targets (given surroundings.entry) items.now (targets_meant (given surroundings.entry).default items.now generated.now)) }
 {
     let targets = targets_of(alloc, surroundings.default, items, generated)?;
     fault_of_labels(rt, alloc, surroundings, items, targets.as_slice())
@@ -212,10 +213,10 @@ fn label_fault<'a, R: Threads + Sync>(
     alloc: Global,
     surroundings: Surroundings<'a>,
     built: &Built,
-    items: &[&'a Item],
+    items: &'a ItemIndex<'_>,
 ) -> Result<Option<Fault>, AllocError>
     requires default { (given surroundings).default ≡ (build_of built.now).default }
-    requires items { lent items.now ≡ items_of_build (build_of built.now) }
+    requires items { items.now ≡ items_of_build (build_of built.now) }
     ensures { IfOk result (λ fault. fault ≡ label_fault_meant (given surroundings.entry) (build_of built.now)) }
 {
     told_fault(rt, alloc, surroundings, items, built.generated())
@@ -227,16 +228,24 @@ fn fault_by_items<'a, R: Threads + Sync>(
     alloc: Global,
     surroundings: Surroundings<'a>,
     built: &Built,
-    items: &[&'a Item],
+    items: &'a ItemIndex<'_>,
 ) -> Result<Option<Fault>, AllocError>
     requires default { (given surroundings).default ≡ (build_of built.now).default }
-    requires items { lent items.now ≡ items_of_build (build_of built.now) }
+    requires items { items.now ≡ items_of_build (build_of built.now) }
     ensures { IfOk result (λ fault. fault ≡ graph_fault (given surroundings.entry) (build_of built.now)) }
 {
     match fault_of_files(alloc, surroundings, built, items)? {
         Some(fault) => Ok(Some(fault)),
         None => label_fault(rt, alloc, surroundings, built, items),
     }
+}
+
+// The items of a build by their labels.
+fn index_of(alloc: Global, built: &Built) -> Result<ItemIndex<'_>, AllocError>
+    ensures { IfOk result (λ items. items ≡ items_of_build (build_of built.now)) }
+{
+    let items = built.items(alloc)?;
+    ItemIndex::of(alloc, items.as_slice())
 }
 
 /// The fault of the graph of a build that was loaded: those of its files stand before those of its targets. None comes exactly where it
@@ -250,6 +259,8 @@ pub(crate) fn graph_fault<'a, R: Threads + Sync>(
     requires { (given surroundings).default ≡ (build_of built.now).default }
     ensures { IfOk result (λ fault. fault ≡ graph_fault (given surroundings.entry) (build_of built.now)) }
 {
-    let items = built.items(alloc)?;
-    fault_by_items(rt, alloc, surroundings, built, items.as_slice())
+    let items = index_of(alloc, built)?;
+    let fault = fault_by_items(rt, alloc, surroundings, built, &items);
+    drop(items);
+    fault
 }

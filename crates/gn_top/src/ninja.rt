@@ -17,11 +17,28 @@ use gn_build_faults::{
 };
 use gn_files::ninja_files as files_of_targets;
 use gn_items::Item;
+use gn_labelled::ItemIndex;
 use gn_labels::Label;
 use gn_out_files::OutFile;
+use gn_paths::Text;
 use gn_toolchains::Surroundings;
 use std::alloc::{AllocError, Global};
 use std::thread::Threads;
+
+// The targets of which faults are told, by the items of a build.
+fn targets_by<'a>(
+    alloc: Global,
+    default: &Text,
+    items: &[&'a Item],
+    generated: &[Label],
+) -> Result<Vec<Label>, AllocError>
+    ensures { IfOk result (λ targets. targets.items ≡ targets_meant default.now (lent items.now) generated.now) }
+{
+    let index = ItemIndex::of(alloc, items)?;
+    let targets = targets_of(alloc, default, &index, generated);
+    drop(index);
+    targets
+}
 
 // The Ninja files of a build, by its items and the targets that it generates, of which no fault is told.
 fn files_of<'a, R: Threads + Sync>(
@@ -36,7 +53,7 @@ fn files_of<'a, R: Threads + Sync>(
 {
     faultless_targets_can_be_resolved();
     targets_have_their_dependencies();
-    let targets = targets_of(alloc, surroundings.default, items, generated)?;
+    let targets = targets_by(alloc, surroundings.default, items, generated)?;
     files_of_targets(
         rt,
         alloc,

@@ -25,7 +25,7 @@ returns g c =
     let made = c.in_ok-examined.ensures in
     let chain = made.1 in
     let had = c.map.result.f in
-    let meant = examined_of had.1.now.default.now had.1.now.items (known_of had.3.now) in
+    let meant = examined_of had.1.now had.2.now (known_of had.4.now) in
     if_ok c.in_ok-examined.examined
-    (λ all is. is ∙ ap (λ f. map (examined_of f.1.now.default.now f.1.now.items (known_of f.3.now)) targets) c.map.ensures.f)
+    (λ all is. is ∙ ap (λ f. map (examined_of f.1.now f.2.now (known_of f.4.now)) targets) c.map.ensures.f)
     (gathered examined_state meant targets made.0 c.in_ok-examined.examined (slice-AllZip chain.0 targets (chain.1 ∙ base) (Means examined_state meant _) made.0 chain.2) made.2)

@@ -7,8 +7,8 @@ use Rattle.gn_build_faults.proofs.fault.fault_among.Goals as goal
 
 pub returns : goal.returns
 returns g c =
-    let default = c.args.graph.now.default.now in
-    let items = c.args.graph.now.items in
+    let default = c.args.default.now in
+    let items = c.args.items.now in
     let known = known_of c.args.frames.now in
     if_ok c.fault_of_examined-fault.result
     (λ told is. is ∙ ap (fault_of_examined default items known []) (ap (λ examined. map examined_state examined) c.as_slice.ensures.value ∙ c.in_ok-examined.ensures) ∙ examined_tell default items known [] c.args.targets.now)

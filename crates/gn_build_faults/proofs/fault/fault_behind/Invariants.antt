@@ -5,5 +5,5 @@ use Rattle.gn_build_faults.proofs.fault.fault_behind.Given as goal
 
 abbrev pub invariant-loop-found : goal.invariant-loop-found
 invariant-loop-found l =
-    fault_of_examined l.graph.default.now l.graph.items (known_of l.frames) l.seen.keys (map examined_state (drop l.found-index l.examined))
-    ≡ fault_of_examined l.graph.default.now l.graph.items (known_of l.frames) l.initial.seen.keys (map examined_state l.examined)
+    fault_of_examined l.default l.items (known_of l.frames) l.seen.keys (map examined_state (drop l.found-index l.examined))
+    ≡ fault_of_examined l.default l.items (known_of l.frames) l.initial.seen.keys (map examined_state l.examined)

@@ -9,5 +9,5 @@ use Rattle.gn_toolchain_faults.proofs.fault.fault_among.Given as goal
 abbrev pub invariant-loop-item : goal.invariant-loop-item
 invariant-loop-item l =
     fold (earlier label_of l.toolchains.surroundings.default.now) l.best
-    (filter_map (told_of (surroundings l.toolchains.surroundings) l.toolchains.items (lent l.toolchains.used.items)) (lent (drop l.item-index l.toolchains.used.items)))
-    ≡ fault_among (surroundings l.toolchains.surroundings) l.toolchains.items (lent l.toolchains.used.items)
+    (filter_map (told_of (surroundings l.toolchains.surroundings) l.toolchains.items.now (lent l.toolchains.used.items)) (lent (drop l.item-index l.toolchains.used.items)))
+    ≡ fault_among (surroundings l.toolchains.surroundings) l.toolchains.items.now (lent l.toolchains.used.items)

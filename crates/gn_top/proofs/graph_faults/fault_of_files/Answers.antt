@@ -1,6 +1,5 @@
 use Rattle.std.proofs.Common.{◌∙◌, ap, map}
 use Rattle.gn_basics.proofs.Results.{if_ok}
-use Rattle.gn_labelled.specs.Index.{lent}
 use Rattle.gn_file_faults.specs.Faults.{file_fault}
 use Rattle.gn_file_faults.specs.Writes.{execution_of}
 use Rattle.gn_built.specs.Files.{files_of, paths_lent}
@@ -16,11 +15,12 @@ returns c =
     let executions = ap (λ es. map execution_of es) c.as_slice-4.ensures.value ∙ written in
     let made =
     c.in_ok-made.ensures
-    ∙ ap (λ es. made_where (surroundings c.args.surroundings) (lent c.args.items.now) (map execution_of es) c.generated.result.now) c.as_slice-2.ensures.value
+    ∙ ap (λ es. made_where (surroundings c.args.surroundings) c.args.items.now (map execution_of es) c.generated.result.now) c.as_slice-2.ensures.value
     ∙ (λ i. made_where (surroundings c.args.surroundings) (c.requires.items i) (written i) (c.generated.ensures i)) in
     let loaded = ap paths_lent c.as_slice-5.ensures.value ∙ c.in_ok-loaded.ensures in
     let imported = ap paths_lent c.as_slice-6.ensures.value ∙ c.in_ok-imported.ensures in
-    let defined = c.is_defined-is_toolchain.ensures ∙ (λ i. is_defined (c.requires.default i) (c.requires.items i) (c.default_named-default.ensures i)) in
+    let listed = c.items.ensures ∙ c.requires.items in
+    let defined = c.is_defined-is_toolchain.ensures ∙ (λ i. is_defined (c.requires.default i) (listed i) (c.default_named-default.ensures i)) in
     if_ok c.fault_by.result
     (λ fault is. is ∙ (λ i. file_fault (record {
       declarations = declarations i;

@@ -1,0 +1,137 @@
+// Which items reach no cycle, by an order in which dependencies stand first.
+
+ghost use Rattle.std.specs.Prelude.{◌≡◌, ◌⊎◌, ℕ, Some, true, slice_get, IfOk, option_map};
+ghost use Rattle.std.specs.List.{list_all};
+ghost use Rattle.gn_cycles.specs.Settled.{AreSettled};
+ghost use Rattle.gn_labelled.specs.Graphs.{shape_of};
+ghost use Rattle.gn_build_faults.specs.Settling.{is_marked, is_settled, dependencies_at, AreMarked};
+
+use gn_chains::Firsts;
+use gn_items::Item;
+use gn_labelled::{ItemIndex, dependencies_first};
+use gn_labels::Label;
+use gn_rows::Variable;
+use std::alloc::{AllocError, Global};
+
+/// Which items are known to reach no cycle, by marks at their places.
+#[derive(Drop)]
+pub(crate) struct Settled {
+    /// The marks.
+    pub(crate) marks: Vec<bool>,
+}
+
+// Whether the item at a place is marked; what no item has reaches nothing.
+fn is_marked(marks: &[bool], place: Option<usize>) -> bool
+    ensures { result ≡ is_marked marks.now place }
+{
+    let Some(place) = place else {
+        return true;
+    };
+    match marks.get(place) {
+        None => false,
+        Some(is_marked) => *is_marked,
+    }
+}
+
+// Whether the item of a label is marked, or no item has it.
+fn is_settled(items: &ItemIndex<'_>, marks: &[bool], label: &Label) -> bool
+    ensures { result ≡ is_settled items.now marks.now label.now }
+{
+    is_marked(marks, items.place(label))
+}
+
+// Whether those of all of the labels are.
+fn are_settled(items: &ItemIndex<'_>, marks: &[bool], labels: &[Label]) -> bool
+    ensures { result ≡ list_all (λ d. is_settled items.now marks.now d) labels.now }
+{
+    labels.iter().all(|label| is_settled(items, marks, label))
+}
+
+// Whether those of all dependencies of an item are.
+#[tactic(auto, using(crate::proofs::Settling::all_of_three))]
+fn has_settled(items: &ItemIndex<'_>, marks: &[bool], item: Option<&Item>) -> bool
+    ensures { result ≡ list_all (λ d. is_settled items.now marks.now d) (dependencies_at (option_map (λ i. i.now) item.entry)) }
+{
+    match item {
+        None => true,
+        Some(item) => {
+            are_settled(items, marks, item.fields.labels(Variable::PublicDeps))
+                && are_settled(items, marks, item.fields.labels(Variable::Deps))
+                && are_settled(items, marks, item.fields.labels(Variable::DataDeps))
+        }
+    }
+}
+
+// Marks a place.
+#[tactic(auto, using(crate::proofs::Settling::set_one))]
+fn mark(marks: &mut [bool], place: usize)
+    ensures { (n : ℕ) → slice_get marks.new n ≡ Some true → (n ≡ place) ⊎ (slice_get marks.old n ≡ Some true) }
+{
+    if place < marks.len() {
+        marks[place] = true;
+    }
+}
+
+// Marks the item at a place, if all its dependencies are marked.
+#[tactic(auto, using(crate::proofs::Settling::marked_more))]
+fn settle(items: &ItemIndex<'_>, marks: &mut [bool], place: usize)
+    requires { AreMarked items.now marks.old }
+    ensures { AreMarked items.now marks.new }
+{
+    let item = items.at(Some(place));
+    if has_settled(items, &*marks, item) {
+        mark(marks, place);
+    }
+}
+
+// Marks the items at places, one after the other.
+fn settle_all(items: &ItemIndex<'_>, marks: &mut [bool], order: &[usize])
+    requires { AreMarked items.now marks.old }
+    ensures { AreMarked items.now marks.new }
+{
+    for place in order {
+        settle(items, marks, *place);
+    }
+}
+
+// No marks, for so many items.
+#[tactic(auto, using(crate::proofs::Settling::none_marked, crate::proofs::Settling::bare))]
+fn unmarked(alloc: Global, items: &ItemIndex<'_>) -> Result<Vec<bool>, AllocError>
+    ensures { IfOk result (λ marks. AreMarked items.now marks.items) }
+{
+    let mut marks = Vec::new(alloc);
+    marks.resize(items.items().len(), false)?;
+    Ok(marks)
+}
+
+/// Which items are known to reach no cycle: of targets and of what they depend on all that reach none.
+pub(crate) fn settled(
+    alloc: Global,
+    items: &ItemIndex<'_>,
+    targets: &[Label],
+) -> Result<Settled, AllocError>
+    ensures { IfOk result (λ settled. AreMarked items.now settled.marks.items) }
+{
+    let order = dependencies_first(alloc, items, targets)?;
+    let mut marks = unmarked(alloc, items)?;
+    settle_all(items, marks.as_mut_slice(), order.as_slice());
+    Ok(Settled { marks })
+}
+
+/// A target alone, if it is known to reach no cycle; else no label.
+#[tactic(auto, using(crate::proofs::Settling::alone, crate::proofs::Settling::none_is_settled))]
+pub(crate) fn alone_settled(
+    alloc: Global,
+    items: &ItemIndex<'_>,
+    settled: &Settled,
+    target: &Label,
+) -> Result<Firsts, AllocError>
+    requires { AreMarked items.now settled.now.marks.items }
+    ensures { IfOk result (AreSettled (shape_of items.now)) }
+{
+    let mut alone = Firsts::new(alloc);
+    if is_settled(items, settled.marks.as_slice(), target) {
+        alone.add(target)?;
+    }
+    Ok(alone)
+}
