@@ -15,7 +15,7 @@ use Rattle.gn_labelled.specs.contracts.index.ItemIndex as ItemIndex
 use Rattle.gn_labelled.specs.contracts.index.ItemIndex.TheInside as TheIndex
 use Rattle.gn_toolchains.specs.contracts.frames.Frames as Frames
 use Rattle.gn_threads.proofs.Captured.{captured_send, captured_sync}
-use Rattle.gn_build_faults.specs.contracts.settling.Settled as Settled
+use Rattle.gn_build_faults.specs.contracts.settling.SettledItems as SettledItems
 use Rattle.gn_build_faults.specs.Captures.{captures}
 
 pub label : IsSync Label.the_row
@@ -24,7 +24,7 @@ label = search (sendable, crosses) depth 40 fits 10000
 text : IsSync Text.the_row
 text = search (sendable, crosses) depth 40 fits 10000
 
-settled : IsSync Settled.the_row
+settled : IsSync SettledItems.the_row
 settled = search (sendable, crosses) depth 40 fits 10000
 
 -- each part by itself: together they have more parts than one search goes through

@@ -1,6 +1,7 @@
 pub mod Listed
 pub mod Known
-pub mod Settling
+pub mod Marked
+pub mod Closed
 pub mod Faultless
 pub mod Crossing
 pub mod Telling

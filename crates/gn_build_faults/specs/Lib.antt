@@ -9,4 +9,5 @@ pub mod Made
 pub mod Labels
 pub mod Examined
 pub mod Settling
+pub mod Whole
 pub mod Captures

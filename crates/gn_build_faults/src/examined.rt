@@ -13,7 +13,7 @@ ghost use Rattle.gn_build_faults.specs.Examined.{examined_state, examined_at, ex
 use crate::first::first_of;
 use crate::outputs::made_around;
 use crate::paths::path_fault;
-use crate::settling::{Settled, alone_settled};
+use crate::settling::{SettledItems, alone_settled};
 use crate::shared::graphs_are_shared;
 use crate::tools::tool_fault;
 use gn_chains::Firsts;
@@ -184,7 +184,7 @@ fn examine<'a>(
     alloc: Global,
     default: &Text,
     items: &ItemIndex<'_>,
-    settled: &Settled,
+    settled: &SettledItems,
     frames: &Frames<'_>,
     target: &'a Label,
 ) -> Result<Examined<'a>, AllocError>
@@ -205,7 +205,7 @@ pub(crate) fn examine_all<'a, R: Threads + Sync>(
     alloc: Global,
     default: &Text,
     items: &ItemIndex<'_>,
-    settled: &Settled,
+    settled: &SettledItems,
     frames: &Frames<'_>,
     targets: &'a [Label],
 ) -> Result<Vec<Examined<'a>>, AllocError>

@@ -11,7 +11,7 @@ ghost use Rattle.gn_build_faults.specs.Examined.{examined_state, fault_with_outp
 use crate::examined::{Examined, examine_all};
 use crate::first::first_of;
 use crate::outputs::output_fault;
-use crate::settling::{Settled, settled};
+use crate::settling::{SettledItems, settled};
 use gn_faults::Fault;
 use gn_labelled::ItemIndex;
 use gn_labels::Label;
@@ -133,7 +133,7 @@ fn fault_among<R: Threads + Sync>(
     alloc: Global,
     default: &Text,
     items: &ItemIndex<'_>,
-    settled: &Settled,
+    settled: &SettledItems,
     frames: &Frames<'_>,
     targets: &[Label],
 ) -> Result<Option<Fault>, AllocError>

@@ -1,12 +1,15 @@
 // The fault that is told of the labels of a build: of targets, and of the toolchains that they use.
 
-ghost use Rattle.std.specs.Prelude.{◌≡◌, ◌++◌, ◌∷◌, [], IfOk, OnOk};
+ghost use Rattle.std.specs.Prelude.{◌≡◌, ◌++◌, ◌∷◌, [], IfOk, OnOk, option_map};
 ghost use Rattle.gn_toolchains.specs.Frames.{surroundings as given};
 ghost use Rattle.gn_build_faults.specs.Faults.{target_fault};
 ghost use Rattle.gn_build_faults.specs.Labels.{those_before, beside_toolchain, fault_of_labels};
+ghost use Rattle.gn_build_faults.specs.Reaching.{targets_of};
+ghost use Rattle.gn_build_faults.specs.Whole.{those_or};
 
 use crate::fault::target_fault;
 use crate::first::first_of;
+use crate::reaching::other_targets;
 use gn_faults::Fault;
 use gn_labelled::ItemIndex;
 use gn_labels::Label;
@@ -135,4 +138,32 @@ pub fn fault_of_labels<'a, R: Threads + Sync>(
 {
     let told = toolchain_fault(alloc, surroundings, items, targets)?;
     beside_toolchain(rt, alloc, surroundings, items, targets, told)
+}
+
+// The targets, by those that are generated and by others where these aren't all of them.
+fn those_or<'a>(generated: &'a [Label], others: &'a Option<Vec<Label>>) -> &'a [Label]
+    ensures { result.now ≡ those_or generated.now (option_map (λ targets. targets.items) others.now) }
+{
+    match others {
+        None => generated,
+        Some(targets) => targets.as_slice(),
+    }
+}
+
+/// The fault that is told of the targets that are generated and of all that dependencies lead to from them, as it is told of labels, by
+/// what never changes in the build and the items that it defines.
+pub fn fault_of_generated<'a, R: Threads + Sync>(
+    rt: &R,
+    alloc: Global,
+    surroundings: Surroundings<'a>,
+    items: &'a ItemIndex<'_>,
+    generated: &[Label],
+) -> Result<Option<Fault>, AllocError>
+    ensures { IfOk result (λ fault. fault ≡ fault_of_labels (given surroundings.entry) items.now (targets_of (given surroundings.entry).default items.now generated.now)) }
+{
+    let others = other_targets(alloc, surroundings.default, items, generated)?;
+    let targets = those_or(generated, &others);
+    let fault = fault_of_labels(rt, alloc, surroundings, items, targets);
+    drop(others);
+    fault
 }

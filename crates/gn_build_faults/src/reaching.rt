@@ -1,8 +1,10 @@
 // The targets of which faults are told.
 
-ghost use Rattle.std.specs.Prelude.{◌≡◌, IfOk};
+ghost use Rattle.std.specs.Prelude.{◌≡◌, IfOk, option_map};
 ghost use Rattle.gn_build_faults.specs.Reaching.{targets_of};
+ghost use Rattle.gn_build_faults.specs.Whole.{those_or};
 
+use crate::whole::is_whole;
 use gn_graph_meant::the_labels_of_items_are_enough;
 use gn_labelled::{ItemIndex, LentGraph};
 use gn_labels::Label;
@@ -23,4 +25,21 @@ pub fn targets_of(
     the_labels_of_items_are_enough();
     let graph = LentGraph { default, items };
     reached(alloc, generated, &graph)
+}
+
+/// The same, where they are others than those that are generated; None where those are all of them, as it is mostly, and stand in
+/// label order. Then nothing is copied.
+pub(crate) fn other_targets(
+    alloc: Global,
+    default: &Text,
+    items: &ItemIndex<'_>,
+    generated: &[Label],
+) -> Result<Option<Vec<Label>>, AllocError>
+    ensures { IfOk result (λ others. those_or generated.now (option_map (λ targets. targets.items) others) ≡ targets_of default.now items.now generated.now) }
+{
+    if is_whole(alloc, default, items, generated)? {
+        return Ok(None);
+    }
+    let targets = targets_of(alloc, default, items, generated)?;
+    Ok(Some(targets))
 }

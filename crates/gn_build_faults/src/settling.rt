@@ -1,6 +1,6 @@
 // Which items reach no cycle, by an order in which dependencies stand first.
 
-ghost use Rattle.std.specs.Prelude.{◌≡◌, ◌⊎◌, ℕ, Some, true, slice_get, IfOk, option_map};
+ghost use Rattle.std.specs.Prelude.{◌≡◌, ℕ, true, false, replicate, slice_set, IfOk, option_map};
 ghost use Rattle.std.specs.List.{list_all};
 ghost use Rattle.gn_cycles.specs.Settled.{AreSettled};
 ghost use Rattle.gn_labelled.specs.Graphs.{shape_of};
@@ -15,7 +15,7 @@ use std::alloc::{AllocError, Global};
 
 /// Which items are known to reach no cycle, by marks at their places.
 #[derive(Drop)]
-pub(crate) struct Settled {
+pub(crate) struct SettledItems {
     /// The marks.
     pub(crate) marks: Vec<bool>,
 }
@@ -48,7 +48,7 @@ fn are_settled(items: &ItemIndex<'_>, marks: &[bool], labels: &[Label]) -> bool
 }
 
 // Whether those of all dependencies of an item are.
-#[tactic(auto, using(crate::proofs::Settling::all_of_three))]
+#[tactic(auto, using(crate::proofs::Marked::all_of_three))]
 fn has_settled(items: &ItemIndex<'_>, marks: &[bool], item: Option<&Item>) -> bool
     ensures { result ≡ list_all (λ d. is_settled items.now marks.now d) (dependencies_at (option_map (λ i. i.now) item.entry)) }
 {
@@ -62,10 +62,10 @@ fn has_settled(items: &ItemIndex<'_>, marks: &[bool], item: Option<&Item>) -> bo
     }
 }
 
-// Marks a place.
-#[tactic(auto, using(crate::proofs::Settling::set_one))]
-fn mark(marks: &mut [bool], place: usize)
-    ensures { (n : ℕ) → slice_get marks.new n ≡ Some true → (n ≡ place) ⊎ (slice_get marks.old n ≡ Some true) }
+/// Marks a place, if there is one.
+#[tactic(auto, using(crate::proofs::Marked::set_past))]
+pub(crate) fn mark(marks: &mut [bool], place: usize)
+    ensures { marks.new ≡ slice_set marks.old place true }
 {
     if place < marks.len() {
         marks[place] = true;
@@ -73,7 +73,7 @@ fn mark(marks: &mut [bool], place: usize)
 }
 
 // Marks the item at a place, if all its dependencies are marked.
-#[tactic(auto, using(crate::proofs::Settling::marked_more))]
+#[tactic(auto, using(crate::proofs::Marked::marked_more))]
 fn settle(items: &ItemIndex<'_>, marks: &mut [bool], place: usize)
     requires { AreMarked items.now marks.old }
     ensures { AreMarked items.now marks.new }
@@ -94,10 +94,10 @@ fn settle_all(items: &ItemIndex<'_>, marks: &mut [bool], order: &[usize])
     }
 }
 
-// No marks, for so many items.
-#[tactic(auto, using(crate::proofs::Settling::none_marked, crate::proofs::Settling::bare))]
-fn unmarked(alloc: Global, items: &ItemIndex<'_>) -> Result<Vec<bool>, AllocError>
-    ensures { IfOk result (λ marks. AreMarked items.now marks.items) }
+/// No marks, one for each item.
+#[tactic(auto, using(crate::proofs::Marked::bare))]
+pub(crate) fn no_marks(alloc: Global, items: &ItemIndex<'_>) -> Result<Vec<bool>, AllocError>
+    ensures { IfOk result (λ marks. (k : ℕ) × (marks.items ≡ replicate k false)) }
 {
     let mut marks = Vec::new(alloc);
     marks.resize(items.items().len(), false)?;
@@ -109,21 +109,21 @@ pub(crate) fn settled(
     alloc: Global,
     items: &ItemIndex<'_>,
     targets: &[Label],
-) -> Result<Settled, AllocError>
+) -> Result<SettledItems, AllocError>
     ensures { IfOk result (λ settled. AreMarked items.now settled.marks.items) }
 {
     let order = dependencies_first(alloc, items, targets)?;
-    let mut marks = unmarked(alloc, items)?;
+    let mut marks = no_marks(alloc, items)?;
     settle_all(items, marks.as_mut_slice(), order.as_slice());
-    Ok(Settled { marks })
+    Ok(SettledItems { marks })
 }
 
 /// A target alone, if it is known to reach no cycle; else no label.
-#[tactic(auto, using(crate::proofs::Settling::alone, crate::proofs::Settling::none_is_settled))]
+#[tactic(auto, using(crate::proofs::Marked::alone, crate::proofs::Marked::none_is_settled))]
 pub(crate) fn alone_settled(
     alloc: Global,
     items: &ItemIndex<'_>,
-    settled: &Settled,
+    settled: &SettledItems,
     target: &Label,
 ) -> Result<Firsts, AllocError>
     requires { AreMarked items.now settled.now.marks.items }

@@ -4,8 +4,6 @@ ghost use Rattle.std.specs.Prelude.{◌≡◌, IfOk, map, option_map};
 ghost use Rattle.std.specs.List.{list_any};
 ghost use Rattle.gn_labelled.specs.Index.{lent};
 ghost use Rattle.gn_projects.specs.Loaded.{declared_by_build, items_of_build, default_named};
-ghost use Rattle.gn_build_faults.specs.Labels.{fault_of_labels as told_of_targets};
-ghost use Rattle.gn_build_faults.specs.Reaching.{targets_of as targets_meant};
 ghost use Rattle.gn_built.specs.Built.{build_of};
 ghost use Rattle.gn_built.specs.Files.{files_of};
 ghost use Rattle.gn_file_faults.specs.Faults.{file_fault as least_of_files};
@@ -13,7 +11,7 @@ ghost use Rattle.gn_file_faults.specs.Writes.{execution_of};
 ghost use Rattle.gn_toolchains.specs.Frames.{surroundings as given};
 ghost use Rattle.gn_top.specs.GraphFaults.{defines, is_defined, execution_in, has_some, has_written, made_where, fault_of_files as files_fault_meant, label_fault as label_fault_meant, graph_fault};
 
-use gn_build_faults::{fault_of_labels, made_by, targets_of};
+use gn_build_faults::{fault_of_generated, made_by};
 use gn_built::{Built, WrittenFiles};
 use gn_faults::Fault;
 use gn_file_faults::{FileFacts, FilesWritten, file_fault};
@@ -192,20 +190,6 @@ fn fault_of_files<'a>(
     )
 }
 
-// The fault that is told of targets, if there is one, by the items of a build and the targets that it generates.
-fn told_fault<'a, R: Threads + Sync>(
-    rt: &R,
-    alloc: Global,
-    surroundings: Surroundings<'a>,
-    items: &'a ItemIndex<'_>,
-    generated: &[Label],
-) -> Result<Option<Fault>, AllocError>
-    ensures { IfOk result (λ fault. fault ≡ told_of_targets (given surroundings.entry) items.now (targets_meant (given surroundings.entry).default items.now generated.now)) }
-{
-    let targets = targets_of(alloc, surroundings.default, items, generated)?;
-    fault_of_labels(rt, alloc, surroundings, items, targets.as_slice())
-}
-
 // The fault that is told of the targets of a build, if there is one, by its items.
 #[tactic(auto, unfolding(crate::specs::GraphFaults::label_fault))]
 fn label_fault<'a, R: Threads + Sync>(
@@ -219,7 +203,7 @@ fn label_fault<'a, R: Threads + Sync>(
     requires items { items.now ≡ items_of_build (build_of built.now) }
     ensures { IfOk result (λ fault. fault ≡ label_fault_meant (given surroundings.entry) (build_of built.now)) }
 {
-    told_fault(rt, alloc, surroundings, items, built.generated())
+    fault_of_generated(rt, alloc, surroundings, items, built.generated())
 }
 
 // The fault of the graph of a build, if there is one, by its items.

@@ -9,6 +9,6 @@ use Rattle.gn_top.proofs.graph_faults.label_fault.Goals as goal
 pub returns : goal.returns
 unfolding label_fault
 returns g c =
-    if_ok c.told_fault.result
+    if_ok c.fault_of_generated.result
     (λ fault is. is ∙ (λ i. fault_of_labels (surroundings c.args.surroundings) (c.requires.items i) (targets_of (c.requires.default i) (c.requires.items i) (c.generated.ensures i))))
-    c.told_fault.ensures
+    c.fault_of_generated.ensures

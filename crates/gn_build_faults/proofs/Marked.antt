@@ -1,5 +1,5 @@
 -- Marks at the places of items that reach no cycle.
-use Rattle.std.proofs.Common.{◌≡◌, ◌⊎◌, inl, inr, ℕ, zero, suc, List, [], ◌∷◌, ◌++◌, Bool, true, false, ◌||◌, ◌&&◌, if◌then◌else◌, Option, Some, None, slice_get, slice_set, take, replicate, refl, sym, ◌∙◌, ap, subst}
+use Rattle.std.proofs.Common.{◌≡◌, ◌⊎◌, inl, inr, ℕ, zero, suc, ◌≤◌, List, [], ◌∷◌, ◌++◌, Bool, true, false, ◌||◌, ◌&&◌, if◌then◌else◌, Option, Some, None, slice_get, slice_set, length, take, replicate, refl, sym, ◌∙◌, ap, subst, arith}
 use Rattle.std.specs.List.{list_all}
 use Rattle.std.proofs.lemmas.Bool.{and_parts}
 use Rattle.gn_labels.specs.declared.label.Label.{Label}
@@ -28,7 +28,13 @@ set_one (x ∷ marks) zero (suc n) h = inr h
 set_one (x ∷ marks) (suc place) zero h = inr h
 set_one (x ∷ marks) (suc place) (suc n) h = elim (set_one marks place n h) [ inl e ↦ inl (ap suc e) | inr i ↦ inr i ]
 
-read_true : (b : Option Bool) → or_false b ≡ true → b ≡ Some true
+-- no mark is set past the end
+pub set_past : (marks : List Bool) (place : ℕ) → length marks ≤ place → marks ≡ slice_set marks place true
+set_past [] place h = refl
+set_past (x ∷ marks) zero h = absurd (omega (arith, h))
+set_past (x ∷ marks) (suc place) h = ap (λ (bs : List Bool). x ∷ bs) (set_past marks place (omega (arith, h)))
+
+pub read_true : (b : Option Bool) → or_false b ≡ true → b ≡ Some true
 read_true None h = absurd (cc h)
 read_true (Some true) h = refl
 read_true (Some false) h = absurd (cc h)
@@ -38,7 +44,7 @@ all_by : (p : Label → Bool) (d x : Label) (xs : List Label) (b : Bool) → sam
 all_by p d x xs true e a h onward = let s : d ≡ x = same d x e in ap p s ∙ (and_parts (p x) (list_all p xs) a).0
 all_by p d x xs false e a h onward = onward (and_parts (p x) (list_all p xs) a).1 h
 
-each : (p : Label → Bool) (d : Label) (xs : List Label) → list_all p xs ≡ true → has xs d ≡ true → p d ≡ true
+pub each : (p : Label → Bool) (d : Label) (xs : List Label) → list_all p xs ≡ true → has xs d ≡ true → p d ≡ true
 each p d [] a h = absurd (cc h)
 each p d (x ∷ xs) a h = all_by p d x xs (same_label d x) refl a h (each p d xs)
 
@@ -63,9 +69,12 @@ module _ (items : List Item) where
   -- one more mark, at the place of an item whose dependencies are marked
   pub marked_more : (marks new : List Bool) (place : ℕ) (item : Option Item) → AreMarked items marks → item ≡ item_in items (Some place)
       → list_all (λ d. is_settled items marks d) (dependencies_at item) ≡ true
-      → ((n : ℕ) → slice_get new n ≡ Some true → (n ≡ place) ⊎ (slice_get marks n ≡ Some true)) → AreMarked items new
-  marked_more marks new place item are is all set q h = by (place_of q items) refl h
+      → new ≡ slice_set marks place true → AreMarked items new
+  marked_more marks new place item are is all n q h = by (place_of q items) refl h
     where
+      set : (m : ℕ) → slice_get new m ≡ Some true → (m ≡ place) ⊎ (slice_get marks m ≡ Some true)
+      set m h = set_one marks place m (ap (λ (bs : List Bool). slice_get bs m) (sym n) ∙ h)
+
       by : (p : Option ℕ) → place_of q items ≡ p → is_marked new p ≡ true → (n : ℕ) × EndsWithin (shape_of items) n q
       by None e h = (1, ends_at_once q e)
       by (Some m) e h = elim (set m (read_true (slice_get new m) h)) [
