@@ -70,7 +70,7 @@ no_less (Some k) h = omega (arith, some_is h)
 -- a place is that of one label
 same_place : (q l : Label) (items : List Item) (m : ℕ) → place_of q items ≡ Some m → place_of l items ≡ Some m → q ≡ l
 same_place q l [] m a b = absurd (cc a)
-same_place q l (x ∷ items) m a b = by (same_label q x.label) refl (same_label l x.label) refl m a b
+same_place q l (x ∷ items) m a b = by (same_place q l items) (same_label q x.label) refl (same_label l x.label) refl m a b
   where
     some_is : (i j : ℕ) → Some i ≡ Some j → i ≡ j
     some_is i j e = ap (λ (o : Option ℕ). or_zero o) e
@@ -79,18 +79,23 @@ same_place q l (x ∷ items) m a b = by (same_label q x.label) refl (same_label 
         or_zero None = zero
         or_zero (Some n) = n
 
-    further : (r : Option ℕ) → place_of q items ≡ r → (s : Option ℕ) → place_of l items ≡ s → (m : ℕ) → option_map suc r ≡ Some m → option_map suc s ≡ Some m → q ≡ l
-    further None e s f m a b = absurd (cc a)
-    further (Some i) e None f m a b = absurd (cc b)
-    further (Some i) e (Some j) f m a b =
-        let k : i ≡ j = omega (arith, some_is (suc i) m a, some_is (suc j) m b) in same_place q l items j (e ∙ ap Some k) f
+    further : ((m : ℕ) → place_of q items ≡ Some m → place_of l items ≡ Some m → q ≡ l) → (r : Option ℕ) → place_of q items ≡ r → (s : Option ℕ) → place_of l items ≡ s
+        → (m : ℕ) → option_map suc r ≡ Some m → option_map suc s ≡ Some m → q ≡ l
+    further rest None e s f m a b = absurd (cc a)
+    further rest (Some i) e None f m a b = absurd (cc b)
+    further rest (Some i) e (Some j) f m a b = let k : i ≡ j = omega (arith, some_is (suc i) m a, some_is (suc j) m b) in rest j (e ∙ ap Some k) f
 
-    by : (c : Bool) → same_label q x.label ≡ c → (d : Bool) → same_label l x.label ≡ d → (m : ℕ) → cond c (Some zero) (option_map suc (place_of q items)) ≡ Some m
-        → cond d (Some zero) (option_map suc (place_of l items)) ≡ Some m → q ≡ l
-    by true s true t m a b = label_is q x.label s ∙ sym (label_is l x.label t)
-    by true s false t m a b = absurd (no_less (place_of l items) (b ∙ sym a))
-    by false s true t m a b = absurd (no_less (place_of q items) (a ∙ sym b))
-    by false s false t m a b = further (place_of q items) refl (place_of l items) refl m a b
+    by : ((m : ℕ) → place_of q items ≡ Some m → place_of l items ≡ Some m → q ≡ l) → (c : Bool) → same_label q x.label ≡ c → (d : Bool) → same_label l x.label ≡ d
+        → (m : ℕ) → cond c (Some zero) (option_map suc (place_of q items)) ≡ Some m → cond d (Some zero) (option_map suc (place_of l items)) ≡ Some m → q ≡ l
+    by rest true s true t m a b = label_is q x.label s ∙ sym (label_is l x.label t)
+    by rest true s false t m a b = absurd (no_less (place_of l items) (b ∙ sym a))
+    by rest false s true t m a b = absurd (no_less (place_of q items) (a ∙ sym b))
+    by rest false s false t m a b = further rest (place_of q items) refl (place_of l items) refl m a b
+
+no_true : (k n : ℕ) → slice_get (replicate k false) n ≡ Some true → ⊥
+no_true zero n h = cc h
+no_true (suc k) zero h = cc h
+no_true (suc k) (suc n) h = no_true k n h
 
 module _ (items : List Item) (all : List Label) where
   -- what is marked is among the labels
@@ -122,11 +127,6 @@ module _ (items : List Item) (all : List Label) where
   unfolding AreAmong
   nothing k q i = by (place_of q items) i
     where
-      no_true : (k n : ℕ) → slice_get (replicate k false) n ≡ Some true → ⊥
-      no_true zero n h = cc h
-      no_true (suc k) zero h = cc h
-      no_true (suc k) (suc n) h = no_true k n h
-
       by : (p : Option ℕ) → has_mark (replicate k false) p ≡ true → has all q ≡ true
       by None i = absurd (cc i)
       by (Some n) i = absurd (no_true k n (read_true (slice_get (replicate k false) n) i))

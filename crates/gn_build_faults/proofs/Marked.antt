@@ -1,10 +1,11 @@
 -- Marks at the places of items that reach no cycle.
 use Rattle.std.proofs.Common.{◌≡◌, ◌⊎◌, inl, inr, ℕ, zero, suc, ◌≤◌, List, [], ◌∷◌, ◌++◌, Bool, true, false, ◌||◌, ◌&&◌, if◌then◌else◌, Option, Some, None, slice_get, slice_set, length, take, replicate, refl, sym, ◌∙◌, ap, subst, arith}
 use Rattle.std.specs.List.{list_all}
+use Rattle.std.proofs.lemmas.List.Folds.{list_all-append}
 use Rattle.std.proofs.lemmas.Bool.{and_parts}
 use Rattle.gn_labels.specs.declared.label.Label.{Label}
 use Rattle.gn_dependencies.specs.Lists.{same_label, has}
-use Rattle.gn_dependencies.specs.Shape.{Shape, all_deps, EndsWithin}
+use Rattle.gn_dependencies.specs.Shape.{EndsWithin}
 use Rattle.gn_dependencies.proofs.Same.{same}
 use Rattle.gn_dependencies.proofs.Merge.{common_depth}
 use Rattle.gn_items.specs.declared.item.Item.{Item}
@@ -13,12 +14,14 @@ use Rattle.gn_labelled.specs.Graphs.{shape_of, or_false}
 use Rattle.gn_labelled.specs.Index.{place_of, item_in}
 use Rattle.gn_labelled.proofs.Indexing.{placed}
 use Rattle.gn_cycles.specs.Settled.{AreSettled}
-use Rattle.gn_cycles.proofs.Steps.{has_cases}
-use Rattle.gn_cycles.proofs.Bounds as bounds
 use Rattle.gn_build_faults.specs.Settling.{is_marked, is_settled, dependencies_at, AreMarked}
 
 pub all_of_three : (p : Label → Bool) (xs ys zs : List Label) → list_all p ((xs ++ ys) ++ zs) ≡ (list_all p xs && (list_all p ys && list_all p zs))
-all_of_three p xs ys zs = bounds.all_of_three p xs ys zs
+all_of_three p xs ys zs = list_all-append p (xs ++ ys) zs ∙ ap (λ b. b && list_all p zs) (list_all-append p xs ys) ∙ joined (list_all p xs) (list_all p ys) (list_all p zs)
+  where
+    joined : (a b c : Bool) → ((a && b) && c) ≡ (a && (b && c))
+    joined true b c = refl
+    joined false b c = refl
 
 -- a mark that stands where one more was set
 pub set_one : (marks : List Bool) (place n : ℕ) → slice_get (slice_set marks place true) n ≡ Some true → (n ≡ place) ⊎ (slice_get marks n ≡ Some true)
@@ -96,19 +99,24 @@ module _ (items : List Item) where
       by None e h = (1, ends_at_once q e)
       by (Some n) f h = absurd (no_true k n (ap (λ (bs : List Bool). slice_get bs n) (sym e) ∙ read_true (slice_get marks n) h))
 
+  one_there : (t q : Label) → has (t ∷ []) q ≡ true → q ≡ t
+  one_there t q h = by (same_label q t) refl h
+    where
+      by : (b : Bool) → same_label q t ≡ b → (b || false) ≡ true → q ≡ t
+      by true e h = same q t e
+      by false e h = absurd (cc h)
+
   -- the label of a marked item alone
-  pub alone : (marks : List Bool) (t : Label) (none new : List Label) → AreMarked items marks → is_settled items marks t ≡ true → none ≡ []
-      → new ≡ (if has none t then none else none ++ t ∷ []) → AreSettled (shape_of items) new
-  alone marks t none new are is e n =
-      subst (AreSettled (shape_of items)) (sym (n ∙ ap (λ (z : List Label). if has z t then z else z ++ t ∷ []) e))
-      (λ q i. elim (has_cases [] t q i) [
-        | inl j ↦ absurd (cc j)
-        | inr j ↦ subst (λ (z : Label). (n : ℕ) × EndsWithin (shape_of items) n z) (sym j) (are t is)
-      ])
+  pub alone_marked : (marks : List Bool) (t : Label) (labels : List Label) → AreMarked items marks → is_settled items marks t ≡ true → labels ≡ t ∷ []
+      → AreSettled (shape_of items) labels
+  alone_marked marks t labels are is e =
+      subst (AreSettled (shape_of items)) (sym e) (λ q i. subst (λ (z : Label). (n : ℕ) × EndsWithin (shape_of items) n z) (sym (one_there t q i)) (are t is))
 
-pub none_is_settled : (items : List Item) (none : List Label) → none ≡ [] → AreSettled (shape_of items) none
-none_is_settled items none e = subst (AreSettled (shape_of items)) (sym e) (λ q i. absurd (cc i))
+pub none_is_settled : (items : List Item) (labels : List Label) → labels ≡ [] → AreSettled (shape_of items) labels
+none_is_settled items labels e = subst (AreSettled (shape_of items)) (sym e) (λ q i. absurd (cc i))
 
-pub bare : {A : Type 0} (n : ℕ) → take {A = A} n [] ≡ []
-bare zero = refl
-bare (suc n) = refl
+-- what is made of no marks by so many more
+pub none_made : (xs ys : List Bool) (n m : ℕ) → xs ≡ [] → ys ≡ take n xs ++ replicate m false → (k : ℕ) × (ys ≡ replicate k false)
+none_made [] ys zero m e h = (m, h)
+none_made [] ys (suc n) m e h = (m, h)
+none_made (x ∷ xs) ys n m e h = absurd (cc e)

@@ -1,6 +1,6 @@
 // Which items reach no cycle, by an order in which dependencies stand first.
 
-ghost use Rattle.std.specs.Prelude.{◌≡◌, ℕ, true, false, replicate, slice_set, IfOk, option_map};
+ghost use Rattle.std.specs.Prelude.{◌≡◌, ◌∷◌, [], ℕ, true, false, replicate, slice_set, IfOk, option_map};
 ghost use Rattle.std.specs.List.{list_all};
 ghost use Rattle.gn_cycles.specs.Settled.{AreSettled};
 ghost use Rattle.gn_labelled.specs.Graphs.{shape_of};
@@ -63,7 +63,6 @@ fn has_settled(items: &ItemIndex<'_>, marks: &[bool], item: Option<&Item>) -> bo
 }
 
 /// Marks a place, if there is one.
-#[tactic(auto, using(crate::proofs::Marked::set_past))]
 pub(crate) fn mark(marks: &mut [bool], place: usize)
     ensures { marks.new ≡ slice_set marks.old place true }
 {
@@ -73,7 +72,6 @@ pub(crate) fn mark(marks: &mut [bool], place: usize)
 }
 
 // Marks the item at a place, if all its dependencies are marked.
-#[tactic(auto, using(crate::proofs::Marked::marked_more))]
 fn settle(items: &ItemIndex<'_>, marks: &mut [bool], place: usize)
     requires { AreMarked items.now marks.old }
     ensures { AreMarked items.now marks.new }
@@ -95,7 +93,7 @@ fn settle_all(items: &ItemIndex<'_>, marks: &mut [bool], order: &[usize])
 }
 
 /// No marks, one for each item.
-#[tactic(auto, using(crate::proofs::Marked::bare))]
+#[tactic(auto, using(crate::proofs::Marked::none_made))]
 pub(crate) fn no_marks(alloc: Global, items: &ItemIndex<'_>) -> Result<Vec<bool>, AllocError>
     ensures { IfOk result (λ marks. (k : ℕ) × (marks.items ≡ replicate k false)) }
 {
@@ -118,8 +116,16 @@ pub(crate) fn settled(
     Ok(SettledItems { marks })
 }
 
+// A label alone.
+fn alone(alloc: Global, label: &Label) -> Result<Firsts, AllocError>
+    ensures { IfOk result (λ labels. labels ≡ label.now ∷ []) }
+{
+    let mut labels = Firsts::new(alloc);
+    labels.add(label)?;
+    Ok(labels)
+}
+
 /// A target alone, if it is known to reach no cycle; else no label.
-#[tactic(auto, using(crate::proofs::Marked::alone, crate::proofs::Marked::none_is_settled))]
 pub(crate) fn alone_settled(
     alloc: Global,
     items: &ItemIndex<'_>,
@@ -129,9 +135,9 @@ pub(crate) fn alone_settled(
     requires { AreMarked items.now settled.now.marks.items }
     ensures { IfOk result (AreSettled (shape_of items.now)) }
 {
-    let mut alone = Firsts::new(alloc);
     if is_settled(items, settled.marks.as_slice(), target) {
-        alone.add(target)?;
+        alone(alloc, target)
+    } else {
+        Ok(Firsts::new(alloc))
     }
-    Ok(alone)
 }
