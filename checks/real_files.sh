@@ -162,6 +162,17 @@ expect "a word that is no text" 2 "$usage"
 run / ls out
 expect "the root of the host" 2 "$usage"
 
+# The system tells no length of such a file.
+if [ -r /proc/sys/kernel/ostype ]; then
+  project untold
+  ln -s /proc/sys/kernel/ostype "$folder/untold/system"
+  printf 'print(read_file("//system", "trim string"))\n' >"$folder/untold/BUILD.gn"
+  run "$folder/untold" ls out
+  expect "a file whose length isn't told" 0 $'Linux\n'
+else
+  echo "real_files: skipped the file whose length isn't told, since /proc is missing"
+fi
+
 # Permissions bind everyone but root, so these run as nobody where that can be had.
 if [ "$(id -u)" -eq 0 ] && command -v setpriv >/dev/null 2>&1; then
   project closed
