@@ -173,6 +173,41 @@ else
   echo "real_files: skipped the file whose length isn't told, since /proc is missing"
 fi
 
+project puts
+mkdir -p "$folder/puts/d/e"
+printf 'group("a") {\n  deps = [ "//d/e:c" ]\n}\n' >"$folder/puts/BUILD.gn"
+printf 'group("c") {\n}\n' >"$folder/puts/d/e/BUILD.gn"
+made=$'Done. Made 2 targets from 3 files\n'
+run "$folder/puts" gen out
+expect "folders that are missing" 0 "$made"
+cp -r "$folder/puts/out" "$folder/whole"
+touch -d 2002-02-03 "$folder/mark"
+
+# puts NAME FILES: makes all files of the build directory old and runs `gen`, which writes just these files anew; all hold again what they held
+puts() {
+  find "$folder/puts/out" -type f -exec touch -d 2001-02-03 {} +
+  run "$folder/puts" gen out
+  out=$out$(cd "$folder/puts/out" && find . -type f -newer "$folder/mark" | LC_ALL=C sort)$(diff -r "$folder/puts/out" "$folder/whole")
+  expect "$1" 0 "$made$2"
+}
+
+file=$folder/puts/out/obj/a.ninja
+puts "files that hold their bytes" ""
+tr b-y c-z <"$folder/whole/obj/a.ninja" >"$file"
+puts "a file of other bytes" "./obj/a.ninja"
+echo >>"$file"
+puts "a file that is too long" "./obj/a.ninja"
+: >"$file"
+puts "an empty file" "./obj/a.ninja"
+rm -r "$folder/puts/out/obj/d"
+puts "a folder that is missing" "./obj/d/e/c.ninja"
+rm "$file" && ln -s "$folder/whole/obj/a.ninja" "$file"
+puts "a link to a file of the same bytes" "./obj/a.ninja"
+rm "$file" && mkfifo "$file"
+puts "a named pipe in a file's place" "./obj/a.ninja"
+echo >>"$file" && echo left >"$folder/puts/out/obj/.gn-new"
+puts "what a stopped run has left" "./obj/a.ninja"
+
 # Permissions bind everyone but root, so these run as nobody where that can be had.
 if [ "$(id -u)" -eq 0 ] && command -v setpriv >/dev/null 2>&1; then
   project closed

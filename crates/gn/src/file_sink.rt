@@ -2,7 +2,7 @@
 ghost use Rattle.std.specs.Prelude.{None};
 
 use gn_outside::{Sink, SinkStop};
-use std::io::{ErrorKind, Write};
+use std::io::{ErrorKind, Read, Write};
 use std::rt::Files;
 use std::{fs, io};
 
@@ -53,16 +53,67 @@ impl<R: Files + Print + Drop + AllocGlobal> Sink for FileSink<R> {
     }
 }
 
-// Writes a file whole, and makes the folders above it where they are missing.
+// Writes a file whole, unless it holds these bytes already, and makes the folders above it where they are missing.
 fn write_file<R: Files + AllocGlobal>(rt: &R, name: &str, bytes: &[u8]) -> io::Result<()> {
-    match name.rsplit_once('/') {
-        Some((folder, _)) => {
-            fs::create_dir_all(rt, folder)?;
-            let beside = format!(in rt.alloc(); "{folder}/{UNFINISHED}")?;
-            write_beside(rt, beside.as_str(), name, bytes)
-        }
-        None => write_beside(rt, UNFINISHED, name, bytes),
+    let Some((folder, _)) = name.rsplit_once('/') else {
+        return write_changed(rt, UNFINISHED, name, bytes);
+    };
+    let is_new = make_folder(rt, folder)?;
+    let beside = format!(in rt.alloc(); "{folder}/{UNFINISHED}")?;
+    if is_new {
+        write_beside(rt, beside.as_str(), name, bytes)
+    } else {
+        write_changed(rt, beside.as_str(), name, bytes)
     }
+}
+
+// Makes a folder and those above it, where they are missing. It is true only where this one is new, so that nothing stands in it.
+fn make_folder<R: Files>(rt: &R, folder: &str) -> io::Result<bool> {
+    match fs::create_dir(rt, folder) {
+        Ok(()) => return Ok(true),
+        Err(error) if error.kind() == ErrorKind::AlreadyExists => {}
+        Err(_) => fs::create_dir_all(rt, folder)?,
+    }
+    Ok(false)
+}
+
+// Writes a file by the first name, unless it holds these bytes already. So the time at which it was changed stays with what it holds.
+fn write_changed<R: Files + AllocGlobal>(
+    rt: &R,
+    beside: &str,
+    name: &str,
+    bytes: &[u8],
+) -> io::Result<()> {
+    if holds(rt, name, bytes) {
+        return Ok(());
+    }
+    write_beside(rt, beside, name, bytes)
+}
+
+// Whether a file holds just these bytes. A link, a folder and a named pipe don't, and aren't opened; neither does what can't be read.
+fn holds<R: Files + AllocGlobal>(rt: &R, name: &str, bytes: &[u8]) -> bool {
+    is_of_length(rt, name, bytes.len())
+        && match read_held(rt, name, bytes.len()) {
+            Ok(held) => held.as_slice() == bytes,
+            Err(_) => false,
+        }
+}
+
+// Whether there is a file of so many bytes.
+fn is_of_length<R: Files>(rt: &R, name: &str, length: usize) -> bool {
+    match fs::symlink_metadata(rt, name) {
+        Ok(metadata) => metadata.is_file() && metadata.len() == length as u64,
+        Err(_) => false,
+    }
+}
+
+// The first bytes of a file, so many of them.
+fn read_held<R: Files + AllocGlobal>(rt: &R, name: &str, length: usize) -> io::Result<Vec<u8>> {
+    let mut file = fs::open(rt, name)?;
+    let mut held = Vec::new(rt.alloc());
+    held.resize(length, 0)?;
+    file.read_exact(held.as_mut_slice())?;
+    Ok(held)
 }
 
 // Writes a file whole under the first name, and only then gives it the second one, under which so never stands a part of it.
