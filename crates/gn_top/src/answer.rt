@@ -32,6 +32,7 @@ use gn_out_files::OutFiles;
 use gn_outside::Source;
 use gn_paths::{Path, PathFault, Text, Texts};
 use std::alloc::{AllocError, Global};
+use std::mem::forget;
 use std::thread::Threads;
 
 /// What is wanted of a build.
@@ -273,7 +274,7 @@ fn outer_of(alloc: Global, host: &Host) -> Result<Outer, AllocError>
     })
 }
 
-// The answer for the build of a source.
+// The answer for the build of a source. The build isn't let go: see `run_one`.
 fn read_build<R: Threads + Sync, S: Source>(
     rt: &R,
     alloc: Global,
@@ -291,7 +292,9 @@ fn read_build<R: Threads + Sync, S: Source>(
 {
     let outer = outer_of(alloc, host)?;
     let end = make_build(rt, alloc, &outer, request, source)?;
-    Ok(end_answer(rt, alloc, wanted, request, &end)?)
+    let answered = end_answer(rt, alloc, wanted, request, &end);
+    forget(end);
+    Ok(answered?)
 }
 
 // What a line says over the source's tree.

@@ -30,6 +30,7 @@ use gn_paths::{Path, Text, Texts};
 use gn_toolchains::Surroundings;
 use std::alloc::{AllocError, Global};
 use std::collections::BTreeMap;
+use std::mem::forget;
 use std::sync::Arc;
 use std::thread::Threads;
 
@@ -116,7 +117,7 @@ pub(crate) fn surroundings_of(build: &Build) -> Surroundings<'_>
     }
 }
 
-// The third stage: a build, unless it has a fault of its graph.
+// The third stage: a build, unless it has a fault of its graph. Then the build isn't let go: see `run_one`.
 fn judge_build<R: Threads + Sync>(
     rt: &R,
     alloc: Global,
@@ -128,7 +129,10 @@ fn judge_build<R: Threads + Sync>(
     let units = judged.files;
     let fault = graph_fault(rt, alloc, surroundings_of(judged), &judged.loaded)?;
     match fault {
-        Some(fault) => Ok(BuildEnd::Failed(Failure { fault, units })),
+        Some(fault) => {
+            forget(build);
+            Ok(BuildEnd::Failed(Failure { fault, units }))
+        }
         None => Ok(BuildEnd::Built(Faultless { build })),
     }
 }

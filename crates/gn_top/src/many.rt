@@ -18,7 +18,8 @@ use std::thread::Threads;
 
 /// The whole run of a command line over 1 to 64 sources, which come back in their places.
 ///
-/// The words, the sink and the statuses are those of [`run_one`]. Sources that have no worker aren't read.
+/// The words, the sink and the statuses are those of [`run_one`], and so is the memory that a call keeps until the process ends. Sources
+/// that have no worker aren't read.
 pub fn run_gn<R: Threads + Wait + Sync, S: Source + Send, K: Sink>(
     rt: &R,
     alloc: Global,

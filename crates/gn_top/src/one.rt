@@ -19,6 +19,7 @@ use gn_out_files::OutFiles;
 use gn_outside::{Sink, SinkStop, Source, say_text};
 use gn_paths::Path;
 use std::alloc::{AllocError, Global};
+use std::mem::forget;
 use std::thread::Threads;
 
 // Says a text under a status from 0 to 3, unless the sink fails or lacks memory. An empty text isn't said.
@@ -68,6 +69,9 @@ fn say_failure<K: Sink>(alloc: Global, sink: &mut K, path: &Path) -> u8
 /// The whole run of a command line over one source, with one worker. It waits for nobody and always returns. Several threads make the
 /// files of targets.
 ///
+/// What was loaded and what was put aren't given back to the allocator: the program ends with its run, and to let millions of small pieces
+/// go would take longer than much of the rest. So each call keeps its build's memory until the process ends.
+///
 /// `words` are those of the command line without the program's name. The files below the source root come from
 /// `source`; the text goes to `sink`. The statuses are: 0, the answer was said; 1, the line of an error in the
 /// build was said; 2, the words have no form and the usage line was said; 3, a read has failed and the line on it
@@ -115,10 +119,12 @@ pub fn run_one<R: Threads + Sync, S: Source, K: Sink>(
     ensures sources { EachPair ReadsOn (S.state source.old ∷ []) (S.state source.new ∷ []) }
 {
     match answer(rt, alloc, words, host, source) {
-        Ok(answered) => One {
-            status: tell_under(sink, &answered.files, &answered.text, answered.status),
-            units: answered.units,
-        },
+        Ok(answered) => {
+            let status = tell_under(sink, &answered.files, &answered.text, answered.status);
+            let units = answered.units;
+            forget(answered);
+            One { status, units }
+        }
         Err(RunStop::CannotRead(path)) => One {
             status: say_failure(alloc, sink, &path),
             units: 0,
