@@ -261,6 +261,21 @@ fn end_answer<R: Threads + Sync>(
     }
 }
 
+// The same, where the build isn't needed behind it. It isn't let go, as `run_one` says.
+fn last_answer<R: Threads + Sync>(
+    rt: &R,
+    alloc: Global,
+    wanted: Wanted<'_>,
+    request: &Request<'_>,
+    end: BuildEnd,
+) -> Result<Answered, AllocError>
+    ensures { IfOk result (λ a. SaysEnd a (wanted_view wanted.entry) (request_view request.now) end) }
+{
+    let answered = end_answer(rt, alloc, wanted, request, &end);
+    forget(end);
+    answered
+}
+
 // The host's texts.
 fn outer_of(alloc: Global, host: &Host) -> Result<Outer, AllocError>
     ensures { IfOk result (λ outer. outer_view outer ≡ host_texts host.now) }
@@ -274,7 +289,7 @@ fn outer_of(alloc: Global, host: &Host) -> Result<Outer, AllocError>
     })
 }
 
-// The answer for the build of a source. The build isn't let go: see `run_one`.
+// The answer for the build of a source.
 fn read_build<R: Threads + Sync, S: Source>(
     rt: &R,
     alloc: Global,
@@ -292,9 +307,7 @@ fn read_build<R: Threads + Sync, S: Source>(
 {
     let outer = outer_of(alloc, host)?;
     let end = make_build(rt, alloc, &outer, request, source)?;
-    let answered = end_answer(rt, alloc, wanted, request, &end);
-    forget(end);
-    Ok(answered?)
+    Ok(last_answer(rt, alloc, wanted, request, end)?)
 }
 
 // What a line says over the source's tree.

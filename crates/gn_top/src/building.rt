@@ -117,7 +117,7 @@ pub(crate) fn surroundings_of(build: &Build) -> Surroundings<'_>
     }
 }
 
-// The third stage: a build, unless it has a fault of its graph. Then the build isn't let go: see `run_one`.
+// The third stage: a build, unless it has a fault of its graph. Then the build isn't let go, as `run_one` says.
 fn judge_build<R: Threads + Sync>(
     rt: &R,
     alloc: Global,

@@ -6,18 +6,18 @@ use Rattle.gn_top.proofs.one.run_one.Goals as goal
 pub returns-in-Ok-clause-cut_short : goal.returns-in-Ok-clause-cut_short
 returns-in-Ok-clause-cut_short g c = λ tree told stopped.
     cut_answer _ _ _ _ _ _ _ (c.in-Ok.ensures.meaning tree told).text (c.in-Ok.ensures.meaning tree told).files
-    (rw c.deref.ensures.value at (c.tell_under.ensures.part stopped))
+    (rw c.deref.ensures.value at (c.tell_under-status.ensures.part stopped))
 
 pub returns-in-Ok-clause-meaning : goal.returns-in-Ok-clause-meaning
 returns-in-Ok-clause-meaning g c = λ tree told few.
     let says = c.in-Ok.ensures.meaning tree told in
-    let whole = c.tell_under.ensures.whole (omega (arith, few)) in
+    let whole = c.tell_under-status.ensures.whole (omega (arith, few)) in
     ends_as _ _ _ _ _ _ _ says.text says.files says.status whole.0 (rw c.deref.ensures.value at whole.1)
 
 pub returns-in-Ok-clause-no_form : goal.returns-in-Ok-clause-no_form
 returns-in-Ok-clause-no_form g c = λ none.
     let usage = c.in-Ok.ensures.no_form none in
-    ends_with_usage _ _ _ _ _ _ usage.0 usage.1 (rw c.deref.ensures.value at c.tell_under.ensures)
+    ends_with_usage _ _ _ _ _ _ usage.0 usage.1 (rw c.deref.ensures.value at c.tell_under-status.ensures)
 
 pub returns-in-Err-CannotRead-clause-cannot_read : goal.returns-in-Err-CannotRead-clause-cannot_read
 returns-in-Err-CannotRead-clause-cannot_read g c = λ three.
