@@ -1,3 +1,5 @@
 pub mod Agreeing
 pub mod Crossing
+pub mod Dones
 pub mod Knowing
+pub mod Made

@@ -7,10 +7,10 @@ ghost use Rattle.gn_resolved_meant.specs.Laws.{IsClosed};
 ghost use Rattle.gn_toolchains.specs.Frames.{surroundings as given, IsOver};
 ghost use Rattle.gn_resolve.specs.Whole.{AllEnd, AreResolved};
 ghost use Rattle.gn_out_files.specs.Files.{put_of};
-ghost use Rattle.gn_files.specs.Files.{files_by, files_of_build};
-ghost use Rattle.gn_files.specs.Known.{surroundings_in, known, AreAmong, IsProject};
+ghost use Rattle.gn_files.specs.Files.{files_of_build};
+ghost use Rattle.gn_files.specs.Known.{AreAmong, IsProject};
 
-use crate::files::add_known_files;
+use crate::files::known_files;
 use crate::project::Project;
 use gn_items::Item;
 use gn_labelled::ItemIndex;
@@ -74,22 +74,6 @@ fn project_of<'a, R: Threads + Sync>(
     }
 }
 
-// The Ninja files by what is known.
-fn files_of<R: Threads + Sync>(
-    rt: &R,
-    alloc: Global,
-    project: &Project<'_>,
-) -> Result<Vec<OutFile>, AllocError>
-    ensures { IfOk result (λ files. map put_of files.items ≡ files_by (surroundings_in project.now) (known project.now) project.now.items project.now.targets.now) }
-{
-    let mut files = Vec::new(alloc);
-    if let Err(error) = add_known_files(rt, alloc, &mut files, project) {
-        drop(files);
-        return Err(error);
-    }
-    Ok(files)
-}
-
 /// The Ninja files of a build that generates these targets, which stand in label order: build.ninja, those of its toolchains and
 /// those of its targets. The targets that are reached are those and all that dependencies lead to from them, and none of them may
 /// reach a cycle. The files of targets are made by several threads, and are those that one thread makes of the targets in their order.
@@ -107,7 +91,7 @@ pub fn ninja_files<'a, R: Threads + Sync>(
     ensures { IfOk result (λ files. map put_of files.items ≡ files_of_build (given surroundings.entry) (lent items.now) targets.now) }
 {
     let project = project_of(rt, alloc, surroundings, items, reached, targets)?;
-    let files = files_of(rt, alloc, &project);
+    let files = known_files(rt, alloc, &project);
     drop(project);
     files
 }

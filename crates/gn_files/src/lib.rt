@@ -3,12 +3,14 @@
 
 mod build;
 mod files;
+mod gathering;
 mod paths;
+mod pieces;
 mod project;
 mod pushing;
 mod root;
 mod target_files;
-mod targets;
+mod toolchains;
 mod used;
 
 pub use build::ninja_files;

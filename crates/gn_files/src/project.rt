@@ -2,7 +2,7 @@
 
 ghost use Rattle.std.specs.Prelude.{◌≡◌, IfOk, option_map};
 ghost use Rattle.gn_records.specs.Around.{around};
-ghost use Rattle.gn_files.specs.Files.{out_of, toolchain_path, target_path, done_of};
+ghost use Rattle.gn_files.specs.Files.{out_of, toolchain_path, target_path};
 ghost use Rattle.gn_files.specs.Known.{surroundings_in, known};
 
 use crate::paths::{path_in, path_of_target};
@@ -73,18 +73,4 @@ pub(crate) fn record_of<'a>(project: &'a Project<'_>, target: &Label) -> Option<
     ensures { option_map (λ r. r.now) result ≡ (known project.now).target target.now }
 {
     project.resolved.get(target)
-}
-
-/// The done file of a target; the empty text where it has no record.
-pub(crate) fn done_of(
-    alloc: Global,
-    project: &Project<'_>,
-    target: &Label,
-) -> Result<Text, AllocError>
-    ensures { IfOk result (λ d. d ≡ done_of (known project.now) target.now) }
-{
-    match record_of(project, target) {
-        None => Ok(Text::new(alloc)),
-        Some(record) => record.exports.done.copy(alloc),
-    }
 }

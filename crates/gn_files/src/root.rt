@@ -1,89 +1,28 @@
 // build.ninja.
 
-ghost use Rattle.std.specs.Prelude.{◌≡◌, ◌++◌, ◌∷◌, [], IfOk, OnOk, map, option_map};
-ghost use Rattle.std.specs.List.{fold, list_any};
+ghost use Rattle.std.specs.Prelude.{◌≡◌, IfOk, map, option_map};
+ghost use Rattle.std.specs.List.{list_any};
 ghost use Rattle.gn_ninja.specs.Format.{text_of_file};
-ghost use Rattle.gn_ninja.specs.Claims.{claimant};
-ghost use Rattle.gn_ninja.specs.Root.{root_of as root_held};
-ghost use Rattle.gn_records.specs.Around.{around};
-ghost use Rattle.gn_labelled.specs.Graphs.{kind_at};
+ghost use Rattle.gn_ninja.specs.Claims.{claimant, claims_of};
+ghost use Rattle.gn_ninja.specs.Root.{root_of as root_held, root_blocks};
+ghost use Rattle.gn_ninja.specs.Taken.{taken_by};
 ghost use Rattle.gn_out_files.specs.Files.{put_of};
-ghost use Rattle.gn_files.specs.Files.{seen, toolchain_path, toolchains_used, under, is_default, all_written, root_of, blocks_of_root, root_out};
-ghost use Rattle.gn_files.specs.Files.{with_pools_of_target, with_pools_of_tools, pool_table, item_tools, depth_in, pool_out, pools_out};
-ghost use Rattle.gn_files.specs.Files.{done_in, done_of, is_executable, claimant_of, claimants_of};
+ghost use Rattle.gn_files.specs.Files.{seen, toolchain_path, toolchains_used, is_default, root_of, pool_table, depth_in, pool_out, pools_out, claimants_of};
+ghost use Rattle.gn_files.specs.Making.{root_made};
 ghost use Rattle.gn_files.specs.Known.{surroundings_in, known};
 
 use crate::paths::path_in;
-use crate::project::{Project, context_of, done_of, record_of, toolchain_path};
-use crate::pushing::push_file;
-use crate::used::{put_pools_of_item, put_pools_of_tools, toolchains_of};
-use gn_items::{Item, ItemKind, Tool};
+use crate::project::{Project, toolchain_path};
+use gn_items::Item;
 use gn_labelled::ItemIndex;
 use gn_labels::{Label, LabelKey};
 use gn_ninja::{Claimant, Pool, Root, append_root};
 use gn_out_files::OutFile;
-use gn_paths::{Text, Texts};
-use gn_records::{Context, Record};
+use gn_paths::{Path, Text, Texts};
 use gn_rows::Variable;
 use gn_writing::{Written, pool_name};
 use std::alloc::{AllocError, Global};
 use std::collections::BTreeMap;
-
-// Puts the pools in that targets name.
-fn put_pools_of_targets(
-    alloc: Global,
-    pools: &mut BTreeMap<LabelKey, Label>,
-    project: &Project<'_>,
-) -> Result<(), AllocError>
-    ensures { OnOk result (pools.new.entries ≡ fold (with_pools_of_target project.now.surroundings.default.now project.now.items) pools.old.entries project.now.targets.now) }
-{
-    for target in project.targets {
-        put_pools_of_item(
-            alloc,
-            pools,
-            project.surroundings.default,
-            project.items.item(target),
-        )?;
-    }
-    Ok(())
-}
-
-// The tools of a toolchain; none where it isn't known.
-fn item_tools<'a>(context: Option<Context<'a>>) -> &'a [Tool]
-    ensures { result.now ≡ item_tools (option_map around context.entry) }
-{
-    match context {
-        None => &[],
-        Some(context) => context.tools.as_slice(),
-    }
-}
-
-// Puts the pools in that the tools of toolchains name.
-fn put_pools_of_toolchains(
-    alloc: Global,
-    pools: &mut BTreeMap<LabelKey, Label>,
-    project: &Project<'_>,
-    toolchains: &[Text],
-) -> Result<(), AllocError>
-    ensures { OnOk result (pools.new.entries ≡ fold (with_pools_of_tools project.now.surroundings.default.now (known project.now)) pools.old.entries toolchains.now) }
-{
-    for toolchain in toolchains {
-        let tools = item_tools(context_of(project, toolchain));
-        put_pools_of_tools(alloc, pools, project.surroundings.default, tools)?;
-    }
-    Ok(())
-}
-
-// The pools that are used, by their keys.
-fn pool_table(alloc: Global, project: &Project<'_>) -> Result<BTreeMap<LabelKey, Label>, AllocError>
-    ensures { IfOk result (λ table. table.entries ≡ pool_table project.now.surroundings.default.now (known project.now) project.now.items project.now.targets.now) }
-{
-    let toolchains = toolchains_of(alloc, project.targets)?;
-    let mut pools = BTreeMap::new(alloc);
-    put_pools_of_targets(alloc, &mut pools, project)?;
-    put_pools_of_toolchains(alloc, &mut pools, project, toolchains.as_slice())?;
-    Ok(pools)
-}
 
 // How many commands a pool runs at once.
 fn depth_in(item: Option<&Item>) -> i64
@@ -116,12 +55,16 @@ fn pool_out(
 
 // The pools that are used, in label order.
 #[tactic(auto, unfolding(crate::specs::Files::pools_used))]
-fn pools_out(alloc: Global, project: &Project<'_>) -> Result<Vec<Pool>, AllocError>
+fn pools_out(
+    alloc: Global,
+    project: &Project<'_>,
+    table: &BTreeMap<LabelKey, Label>,
+) -> Result<Vec<Pool>, AllocError>
+    requires { table.now.entries ≡ pool_table project.now.surroundings.default.now (known project.now) project.now.items project.now.targets.now }
     ensures { IfOk result (λ ps. ps.items ≡ pools_out project.now.surroundings.default.now (known project.now) project.now.items project.now.targets.now) }
 {
-    let table = pool_table(alloc, project)?;
     let mut pools = Vec::new(alloc);
-    for (_, pool) in &table {
+    for (_, pool) in table {
         pools.push(pool_out(alloc, project.surroundings.default, &project.items, pool)?)?;
     }
     Ok(pools)
@@ -150,15 +93,13 @@ fn toolchain_files(
     Ok(files)
 }
 
-// The done files of the targets of the default toolchain.
-fn dones(alloc: Global, project: &Project<'_>) -> Result<Texts, AllocError>
-    ensures { IfOk result (λ files. files ≡ map (done_of (known project.now)) (under project.now.surroundings.default.now project.now.targets.now)) }
+// The done files of targets.
+fn dones(alloc: Global, targets: &[Claimant<'_>]) -> Result<Texts, AllocError>
+    ensures { IfOk result (λ files. files ≡ map (λ c. c.done) (map claimant targets.now)) }
 {
     let mut files = Texts::new(alloc);
-    for target in project.targets {
-        if target.toolchain == *project.surroundings.default {
-            files.push(done_of(alloc, project, target)?)?;
-        }
+    for target in targets {
+        files.push(target.done.copy(alloc)?)?;
     }
     Ok(files)
 }
@@ -184,14 +125,24 @@ fn has_default(default: &Text, targets: &[Label]) -> bool
     false
 }
 
-// What build.ninja is made of but for its names.
-fn root_of(alloc: Global, project: &Project<'_>, toolchains: &[Text]) -> Result<Root, AllocError>
-    requires { toolchains.now ≡ toolchains_used project.now.surroundings.default.now project.now.targets.now }
+/// What build.ninja is made of but for its names, by the toolchains that have a file, the pools that are used, and the targets of the
+/// default toolchain.
+#[tactic(auto, using(crate::proofs::Dones::dones_are))]
+pub(crate) fn root_of(
+    alloc: Global,
+    project: &Project<'_>,
+    toolchains: &[Text],
+    pools: &BTreeMap<LabelKey, Label>,
+    claimants: &[Claimant<'_>],
+) -> Result<Root, AllocError>
+    requires toolchains { toolchains.now ≡ toolchains_used project.now.surroundings.default.now project.now.targets.now }
+    requires pools { pools.now.entries ≡ pool_table project.now.surroundings.default.now (known project.now) project.now.items project.now.targets.now }
+    requires claimants { map claimant claimants.now ≡ claimants_of project.now.surroundings.default.now (known project.now) project.now.items project.now.targets.now }
     ensures { IfOk result (λ r. root_held r ≡ root_of (surroundings_in project.now) (known project.now) project.now.items project.now.targets.now) }
 {
-    let pools = pools_out(alloc, project)?;
+    let pools = pools_out(alloc, project, pools)?;
     let files = toolchain_files(alloc, project, toolchains)?;
-    let dones = dones(alloc, project)?;
+    let dones = dones(alloc, claimants)?;
     Ok(Root {
         pools,
         toolchains: files,
@@ -200,100 +151,31 @@ fn root_of(alloc: Global, project: &Project<'_>, toolchains: &[Text]) -> Result<
     })
 }
 
-// Whether an item is an executable.
-fn is_executable(item: Option<&Item>) -> bool
-    ensures { result ≡ is_executable (kind_at (option_map (λ i. i.now) item.entry)) }
-{
-    match item {
-        None => false,
-        Some(item) => matches!(item.kind, ItemKind::Executable),
-    }
-}
-
-// The done file of a record; where there is none, the text that is handed in, which is empty.
-fn done_in<'a>(record: Option<&'a Record>, none: &'a Text) -> &'a Text
-    requires { none.now ≡ [] }
-    ensures { result.now ≡ done_in (option_map (λ r. r.now) record.entry) }
-{
-    match record {
-        None => none,
-        Some(record) => &record.exports.done,
-    }
-}
-
-// A target that may have names besides its done file.
-fn claimant_of<'a>(project: &'a Project<'_>, target: &'a Label, none: &'a Text) -> Claimant<'a>
-    requires { none.now ≡ [] }
-    ensures { claimant result ≡ claimant_of (known project.now) project.now.items target.now }
-{
-    Claimant {
-        label: target,
-        is_executable: is_executable(project.items.item(target)),
-        done: done_in(record_of(project, target), none),
-    }
-}
-
-// The targets of the default toolchain.
-fn claimants<'a>(
+// The text of build.ninja.
+fn root_text(
     alloc: Global,
-    project: &'a Project<'_>,
-    none: &'a Text,
-) -> Result<Vec<Claimant<'a>>, AllocError>
-    requires { none.now ≡ [] }
-    ensures { IfOk result (λ cs. map claimant cs.items ≡ claimants_of project.now.surroundings.default.now (known project.now) project.now.items project.now.targets.now) }
+    root: &Root,
+    written: &[&Written],
+    claimants: &[Claimant<'_>],
+) -> Result<Text, AllocError>
+    ensures { IfOk result (λ t. t ≡ text_of_file (root_blocks (root_held root.now) (taken_by (map (λ w. w.now) written.now)) (claims_of (map claimant claimants.now)))) }
 {
-    let mut found = Vec::new(alloc);
-    for target in project.targets {
-        if target.toolchain == *project.surroundings.default {
-            found.push(claimant_of(project, target, none))?;
-        }
-    }
-    Ok(found)
-}
-
-// What is written of all targets.
-fn all_written<'a>(alloc: Global, project: &'a Project<'_>) -> Result<Vec<&'a Written>, AllocError>
-    ensures { IfOk result (λ ws. map (λ w. w.now) ws.items ≡ all_written (known project.now) project.now.targets.now) }
-{
-    let mut written = Vec::new(alloc);
-    for target in project.targets {
-        if let Some(record) = record_of(project, target) {
-            written.push(&record.written)?;
-        }
-    }
-    Ok(written)
-}
-
-// build.ninja.
-fn root_text(alloc: Global, project: &Project<'_>, root: &Root) -> Result<Text, AllocError>
-    ensures { IfOk result (λ t. t ≡ text_of_file (blocks_of_root project.now.surroundings.default.now (known project.now) project.now.items project.now.targets.now (root_held root.now))) }
-{
-    let none = Text::new(alloc);
-    let written = all_written(alloc, project)?;
-    let claimants = claimants(alloc, project, &none)?;
     let mut text = Vec::new(alloc);
-    append_root(
-        alloc,
-        &mut text,
-        root,
-        written.as_slice(),
-        claimants.as_slice(),
-    )?;
+    append_root(alloc, &mut text, root, written, claimants)?;
     Ok(Text::from_vec(text))
 }
 
-/// Puts build.ninja among the files, which names the files of these toolchains.
-pub(crate) fn add_root(
+/// build.ninja in the build directory.
+pub(crate) fn root_file(
     alloc: Global,
-    out: &mut Vec<OutFile>,
-    project: &Project<'_>,
-    toolchains: &[Text],
-) -> Result<(), AllocError>
-    requires { toolchains.now ≡ toolchains_used project.now.surroundings.default.now project.now.targets.now }
-    ensures { OnOk result (map put_of out.new.items ≡ map put_of out.old.items ++ root_out (surroundings_in project.now) (known project.now) project.now.items project.now.targets.now ∷ []) }
+    build: &Path,
+    root: &Root,
+    written: &[&Written],
+    claimants: &[Claimant<'_>],
+) -> Result<OutFile, AllocError>
+    ensures { IfOk result (λ made. put_of made ≡ root_made build.now (root_held root.now) (map (λ w. w.now) written.now) (map claimant claimants.now)) }
 {
-    let root = root_of(alloc, project, toolchains)?;
-    let text = root_text(alloc, project, &root)?;
-    let path = path_in(alloc, project.surroundings.build, b"build.ninja")?;
-    push_file(out, path, text)
+    let bytes = root_text(alloc, root, written, claimants)?;
+    let path = path_in(alloc, build, b"build.ninja")?;
+    Ok(OutFile { path, bytes })
 }

@@ -1,12 +1,13 @@
-// The files of targets, which several threads make.
+// Files that several threads make: those of targets, and build.ninja.
 
 ghost use Rattle.std.specs.Prelude.{◌≡◌, IfOk, map};
 ghost use Rattle.gn_out_files.specs.Files.{put_of};
-ghost use Rattle.gn_files.specs.Making.{text_of, file_of};
+ghost use Rattle.gn_files.specs.Making.{text_of, file_of, piece_of};
 
 use crate::paths::path_of_target;
+use crate::root::root_file;
 use gn_labels::Label;
-use gn_ninja::append_target;
+use gn_ninja::{Claimant, Root, append_target};
 use gn_out_files::OutFile;
 use gn_paths::{Path, Text};
 use gn_writing::Written;
@@ -50,22 +51,66 @@ fn make(alloc: Global, file: &TargetFile<'_>) -> Result<OutFile, AllocError>
     Ok(OutFile { path, bytes })
 }
 
-/// The files of targets, in their order. Several threads make them, each those of some targets.
-#[tactic(auto, using(crate::proofs::Crossing::label, crate::proofs::Crossing::path, crate::proofs::Crossing::written))]
+/// What build.ninja is made of.
+#[derive(Clone, Copy)]
+pub(crate) struct RootFile<'a> {
+    /// The build directory.
+    pub(crate) build: &'a Path,
+    /// What it is made of but for its names.
+    pub(crate) root: &'a Root,
+    /// What is written of all targets.
+    pub(crate) written: &'a [&'a Written],
+    /// The targets of the default toolchain.
+    pub(crate) claimants: &'a [Claimant<'a>],
+}
+
+/// What a file is made of.
+#[derive(Clone, Copy)]
+pub(crate) enum Piece<'a> {
+    /// build.ninja.
+    Root(RootFile<'a>),
+    /// A file that is made already.
+    Made(&'a OutFile),
+    /// The file of a target.
+    Target(TargetFile<'a>),
+}
+
+// A copy of a file.
+fn copied(alloc: Global, file: &OutFile) -> Result<OutFile, AllocError>
+    ensures { IfOk result (λ made. put_of made ≡ put_of file.now) }
+{
+    let path = file.path.copy(alloc)?;
+    let bytes = file.bytes.copy(alloc)?;
+    Ok(OutFile { path, bytes })
+}
+
+// The file of a piece.
+fn make_piece(alloc: Global, piece: &Piece<'_>) -> Result<OutFile, AllocError>
+    ensures { IfOk result (λ made. put_of made ≡ piece_of piece.now) }
+{
+    match piece {
+        Piece::Root(root) => root_file(alloc, root.build, root.root, root.written, root.claimants),
+        Piece::Made(file) => copied(alloc, file),
+        Piece::Target(file) => make(alloc, file),
+    }
+}
+
+/// The files of pieces, in their order. Several threads make them, each those of some pieces.
+#[tactic(auto, using(crate::proofs::Crossing::label, crate::proofs::Crossing::path, crate::proofs::Crossing::written, crate::proofs::Crossing::root, crate::proofs::Crossing::out_file))]
 pub(crate) fn make_all<R: Threads + Sync>(
     rt: &R,
     alloc: Global,
-    files: &[TargetFile<'_>],
+    pieces: &[Piece<'_>],
 ) -> Result<Vec<OutFile>, AllocError>
-    ensures { IfOk result (λ made. map put_of made.items ≡ map file_of files.now) }
+    ensures { IfOk result (λ made. map put_of made.items ≡ map piece_of pieces.now) }
 {
-    let made: Result<Vec<OutFile>, AllocError> = files
+    let made: Result<Vec<OutFile>, AllocError> = pieces
         .par_iter()
         .with_min_len(LEAST_FILES)
         .map(
-            |file: &TargetFile<'_>| -> Result<OutFile, AllocError>
-                ensures { IfOk result (λ made. put_of made ≡ file_of file.now) }
-            { make(alloc, file) },
+            |piece: &Piece<'_>| -> Result<OutFile, AllocError>
+                ensures { IfOk result (λ made. put_of made ≡ piece_of piece.now) }
+            { make_piece(alloc, piece) },
         )
         .collect(rt, alloc)?;
     made

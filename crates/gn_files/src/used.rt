@@ -1,14 +1,19 @@
 // The toolchains and the pools that are used.
 
-ghost use Rattle.std.specs.Prelude.{◌≡◌, ◌∷◌, ◌++◌, [], IfOk, OnOk, map, filter, option_map};
+ghost use Rattle.std.specs.Prelude.{◌≡◌, ◌++◌, [], List, IfOk, OnOk, map, filter, option_map};
 ghost use Rattle.std.specs.List.{fold};
 ghost use Rattle.gn_define.specs.Fields.{field_at, labels_of};
 ghost use Rattle.gn_rows.specs.declared.variable.Variable.TheVariants.{Pool as PoolOf};
-ghost use Rattle.gn_files.specs.Files.{with_member, toolchains_of, is_other, toolchains_used, under, is_own_of_ninja, with_pool, with_pools, pools_named, with_pools_of_tool};
+ghost use Rattle.gn_labels.specs.declared.label.Label.{Label as Named};
+ghost use Rattle.gn_records.specs.Around.{around};
+ghost use Rattle.gn_files.specs.Files.{with_member, toolchains_of, is_other, toolchains_used, is_own_of_ninja, with_pool, with_pools, pools_named, with_pools_of_tool, with_pools_of_tools, item_tools};
+ghost use Rattle.gn_files.specs.Known.{known};
 
+use crate::project::{Project, context_of};
 use gn_items::{Item, Tool};
 use gn_labels::{Label, LabelKey};
 use gn_paths::{Text, Texts};
+use gn_records::Context;
 use gn_rows::Variable;
 use gn_writing::pool_name;
 use std::alloc::{AllocError, Global};
@@ -56,52 +61,19 @@ fn push_others(
     Ok(())
 }
 
-/// The toolchains that have a file, for these of the targets: the default one always and first.
+/// The toolchains that have a file, by those of some targets: the default one always and first.
 #[tactic(auto, unfolding(crate::specs::Files::toolchains_used))]
 pub(crate) fn toolchains_used(
     alloc: Global,
     default: &Text,
-    targets: &[Label],
+    toolchains: &[Text],
 ) -> Result<Texts, AllocError>
-    ensures { IfOk result (λ texts. texts ≡ toolchains_used default.now targets.now) }
+    ensures { IfOk result (λ texts. (ts : List Named) → toolchains.now ≡ toolchains_of ts → texts ≡ toolchains_used default.now ts) }
 {
-    let toolchains = toolchains_of(alloc, targets)?;
     let mut texts = Texts::new(alloc);
     texts.push(default.copy(alloc)?)?;
-    push_others(alloc, &mut texts, default, toolchains.as_slice())?;
+    push_others(alloc, &mut texts, default, toolchains)?;
     Ok(texts)
-}
-
-// Puts the targets of a toolchain behind others, in their order.
-fn add_under<'a>(
-    found: &mut Vec<&'a Label>,
-    toolchain: &Text,
-    targets: &'a [Label],
-) -> Result<(), AllocError>
-    ensures { OnOk result (map (λ t. t.now) found.new.items ≡ map (λ t. t.now) found.old.items ++ under toolchain.now targets.now) }
-{
-    for target in targets {
-        if target.toolchain == *toolchain {
-            found.push(target)?;
-        }
-    }
-    Ok(())
-}
-
-/// The targets of a toolchain, in their order.
-pub(crate) fn under<'a>(
-    alloc: Global,
-    toolchain: &Text,
-    targets: &'a [Label],
-) -> Result<Vec<&'a Label>, AllocError>
-    ensures { IfOk result (λ ts. map (λ t. t.now) ts.items ≡ under toolchain.now targets.now) }
-{
-    let mut found = Vec::new(alloc);
-    if let Err(error) = add_under(&mut found, toolchain, targets) {
-        drop(found);
-        return Err(error);
-    }
-    Ok(found)
 }
 
 // Whether a pool is Ninja's own.
@@ -167,8 +139,8 @@ pub(crate) fn put_pools_of_item(
     put_pools(alloc, pools, default, pools_named(item))
 }
 
-/// Puts the pools in that tools name.
-pub(crate) fn put_pools_of_tools(
+// Puts the pools in that tools name.
+fn put_pools_of_tools(
     alloc: Global,
     pools: &mut BTreeMap<LabelKey, Label>,
     default: &Text,
@@ -178,6 +150,32 @@ pub(crate) fn put_pools_of_tools(
 {
     for tool in tools {
         put_pools(alloc, pools, default, tool.fields.labels(Variable::Pool))?;
+    }
+    Ok(())
+}
+
+// The tools of a toolchain; none where it isn't known.
+fn item_tools<'a>(context: Option<Context<'a>>) -> &'a [Tool]
+    ensures { result.now ≡ item_tools (option_map around context.entry) }
+{
+    match context {
+        None => &[],
+        Some(context) => context.tools.as_slice(),
+    }
+}
+
+/// Puts the pools in that the tools of toolchains name.
+pub(crate) fn put_pools_of_toolchains(
+    alloc: Global,
+    pools: &mut BTreeMap<LabelKey, Label>,
+    project: &Project<'_>,
+    toolchains: &[Text],
+) -> Result<(), AllocError>
+    ensures { OnOk result (pools.new.entries ≡ fold (with_pools_of_tools project.now.surroundings.default.now (known project.now)) pools.old.entries toolchains.now) }
+{
+    for toolchain in toolchains {
+        let tools = item_tools(context_of(project, toolchain));
+        put_pools_of_tools(alloc, pools, project.surroundings.default, tools)?;
     }
     Ok(())
 }

@@ -14,6 +14,6 @@ returns g c =
     let items = lent c.args.items.now in
     let ts = c.args.targets.now in
     let p = c.in_ok-project.project in
-    IfOk-weaker c.files_of-files.result (λ files. map put_of files.items ≡ files_by (surroundings_in p) (known p) p.items p.targets.now)
+    IfOk-weaker c.known_files-files.result (λ files. map put_of files.items ≡ files_by (surroundings_in p) (known p) p.items p.targets.now)
     (λ files. map put_of files.items ≡ files_of_build s items ts)
-    (λ files e. e ∙ project_files s items c.args.reached.now ts p c.in_ok-project.ensures c.requires.among) c.files_of-files.ensures
+    (λ files e. e ∙ project_files s items c.args.reached.now ts p c.in_ok-project.ensures c.requires.among) c.known_files-files.ensures

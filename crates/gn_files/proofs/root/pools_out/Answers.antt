@@ -9,6 +9,6 @@ use Rattle.gn_files.proofs.root.pools_out.Goals as goal
 pub returns : goal.returns
 unfolding pools_used
 returns c =
-    let all : map deref_pair c.loop-pool.yielded ≡ c.in_ok-table.table.entries = search (rules, iter_end) in
+    let all : map deref_pair c.loop-pool.yielded ≡ c.args.table.now.entries = search (rules, iter_end) in
     c.loop-pool.invariant
-    ∙ ap (λ (es : List (LabelKey × Label)). map (pool_out c.args.project.now.surroundings.default.now c.args.project.now.items) (map (λ e. e.1) es)) (all ∙ c.in_ok-table.ensures)
+    ∙ ap (λ (es : List (LabelKey × Label)). map (pool_out c.args.project.now.surroundings.default.now c.args.project.now.items) (map (λ e. e.1) es)) (all ∙ c.requires)
