@@ -25,7 +25,7 @@ use Rattle.gn_toolchains.specs.Toolchains.{Surroundings, around_of}
 use Rattle.gn_resolve.specs.declared.table.Entry.{Entry}
 use Rattle.gn_resolve.specs.declared.table.Resolved.{Resolved}
 use Rattle.gn_resolve.specs.Resolved.{labels_in, configs_at, inherited_from, inherited_at, dones_at, hard_at as hard_meant, record_in, record_at}
-use Rattle.gn_resolve.specs.Table.{is_in, AreIn, hard_at, dones_in, dones_from, configs_of, AreFields, AreTaken, IsRecordOf, KnownBy, IsKnown, IsMade}
+use Rattle.gn_resolve.specs.Table.{is_in, record_kept, AreIn, hard_at, dones_in, dones_from, configs_of, AreFields, AreTaken, IsRecordOf, KnownBy, IsKnown, IsMade}
 use Rattle.gn_resolve.specs.Steps.{IsRight, IsHeld}
 use Rattle.gn_resolve.proofs.Items.{label_found, only_items}
 use Rattle.gn_resolve.proofs.Held.{ExportsAlone, ObjectsAlone, near_all, hard_right, dones_right, dones_from_right, end_in, libraries_are_in}
@@ -108,5 +108,5 @@ module _ (laws : Known) (s : Surroundings) (items : List Item) (r : Resolved) (h
         pushed = made.pushed;
         pushed_public = made.pushed_public;
         hard = hard;
-        known = known_right_here a around default same ends e.hard.items hard e.known made.known;
+        known = known_right_here a around default same ends e.hard.items hard (record_kept e) made.known;
       }

@@ -8,7 +8,7 @@ use Rattle.gn_records.specs.Around.{Around}
 use Rattle.gn_toolchains.specs.Toolchains.{Surroundings, around_of}
 use Rattle.gn_resolve.specs.declared.table.Entry.{Entry}
 use Rattle.gn_resolve.specs.declared.table.Resolved.{Resolved}
-use Rattle.gn_resolve.specs.Table.{AreIn, IsMade}
+use Rattle.gn_resolve.specs.Table.{record_kept, AreIn, IsMade}
 use Rattle.gn_resolve.specs.Steps.{IsRight, IsHeld}
 
 -- what is kept of some targets is right, and all dependencies of this one are among them
@@ -26,7 +26,7 @@ pub record AreSame (one other : Entry) : Type 0 where
   pub pushed : one.pushed.items ≡ other.pushed.items
   pub pushed_public : one.pushed_public.items ≡ other.pushed_public.items
   pub hard : one.hard.items ≡ other.hard.items
-  pub known : one.known ≡ other.known
+  pub known : record_kept one ≡ record_kept other
 
 abbrev pub PartIsEnough : Type 0
 PartIsEnough = (s : Surroundings) (items : List Item) (t : Label) (part all : Resolved) → IsEnough s items t part → IsEnough s items t all

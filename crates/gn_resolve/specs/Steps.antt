@@ -14,7 +14,7 @@ use Rattle.gn_toolchains.specs.Frames.{surroundings, known_of}
 use Rattle.gn_resolve.specs.declared.table.Entry.{Entry}
 use Rattle.gn_resolve.specs.declared.table.Resolved.{Resolved}
 use Rattle.gn_resolve.specs.Resolved.{labels_in, record_at}
-use Rattle.gn_resolve.specs.Table.{entry_in, is_in, AreIn, IsPut}
+use Rattle.gn_resolve.specs.Table.{entry_in, is_in, record_kept, AreIn, IsPut}
 
 -- What is known of toolchains
 
@@ -42,7 +42,7 @@ pub record IsRight (s : Surroundings) (items : List Item) (t : Label) (e : Entry
   pub pushed : IsPushed (shape_of items) t e.pushed.items
   pub pushed_public : IsPushedPublic (shape_of items) t e.pushed_public.items
   pub hard : e.hard.items ≡ hard_in (labels_in items) s.default (shape_of items) t
-  pub known : e.known ≡ record_at s items t
+  pub known : record_kept e ≡ record_at s items t
 
 -- it is of each that is resolved, and all of their dependencies are
 pub record IsHeld (s : Surroundings) (items : List Item) (r : Resolved) : Type 0 where

@@ -1,5 +1,6 @@
 -- What is kept of the targets of a build while they are resolved, and what is made of it.
-use Rattle.std.specs.Prelude.{◌≡◌, ℕ, List, [], ◌∷◌, ◌++◌, Option, Some, None, is_some, true, map, Bool}
+use Rattle.std.specs.Prelude.{◌≡◌, ℕ, List, [], ◌∷◌, ◌++◌, Option, Some, None, is_some, option_map, true, map, Bool, Box}
+use Rattle.std.specs.Global.{Global}
 use Rattle.std.specs.List.{flat_map}
 use Rattle.indexmap.specs.IndexMap.{get, Updates}
 use Rattle.gn_labels.specs.declared.label.Label.{Label}
@@ -62,10 +63,17 @@ hard_held (Some e) = e.hard.items
 abbrev pub hard_at : Resolved → Label → List Label
 hard_at r q = hard_held (entry_in r q)
 
+-- a record that is kept
+abbrev pub unboxed : Option (Box Record Global) → Option Record
+unboxed known = option_map (λ b. b.value) known
+
+abbrev pub record_kept : Entry → Option Record
+record_kept e = unboxed e.known
+
 -- the record of its target
 abbrev pub known_held : Option Entry → Option Record
 known_held None = None
-known_held (Some e) = e.known
+known_held (Some e) = record_kept e
 
 abbrev pub known_in : Resolved → Label → Option Record
 known_in r q = known_held (entry_in r q)
@@ -173,7 +181,7 @@ pub record IsMade (a : Around) (default : List ℕ) (items : List Item) (r : Res
   pub pushed : IsPushed (shape_of items) t e.pushed.items
   pub pushed_public : IsPushedPublic (shape_of items) t e.pushed_public.items
   pub hard : AreInOrder default (hard_from (shape_of items) (hard_at r) t) e.hard.items
-  pub known : IsKnown a default items r t e.hard.items e.known
+  pub known : IsKnown a default items r t e.hard.items (record_kept e)
 
 -- it stands with what was kept before
 abbrev pub IsPut : Resolved → Resolved → Label → Entry → Type 0

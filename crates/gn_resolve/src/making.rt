@@ -6,7 +6,7 @@ ghost use Rattle.gn_dependencies.specs.Shape.{all_deps};
 ghost use Rattle.gn_labelled.specs.Graphs.{shape_of};
 ghost use Rattle.gn_records.specs.Around.{around, fields_of};
 ghost use Rattle.gn_records.specs.Records.{record_of};
-ghost use Rattle.gn_resolve.specs.Table.{handed_in, dones_from, AreIn, IsLinked, IsRecordOf, IsKnown, IsMade};
+ghost use Rattle.gn_resolve.specs.Table.{handed_in, unboxed, dones_from, AreIn, IsLinked, IsRecordOf, IsKnown, IsMade};
 ghost use Rattle.gn_resolve.specs.Steps.{surroundings_in, IsAround, IsRight, IsHeld};
 
 use crate::configs::configs;
@@ -96,14 +96,15 @@ fn known(
     graph: &Known<'_>,
     target: &Label,
     hard: &[Label],
-) -> Result<Option<Record>, AllocError>
+) -> Result<Option<Box<Record>>, AllocError>
     requires { AreRecorded (shape_of graph.now.items) (handed_in graph.now.records) target.now }
-    ensures { IfOk result (IsKnown (around context.now) graph.now.default.now graph.now.items graph.now.records target.now hard.now) }
+    ensures { IfOk result (λ known. IsKnown (around context.now) graph.now.default.now graph.now.items graph.now.records target.now hard.now (unboxed known)) }
 {
     match graph.items.item(target) {
         None => Ok(None),
         Some(item) => {
-            let record = record_from(alloc, context, graph, target, item, hard)?;
+            let made = record_from(alloc, context, graph, target, item, hard)?;
+            let record = Box::new(alloc, made)?;
             Ok(Some(record))
         }
     }

@@ -5,7 +5,7 @@ ghost use Rattle.indexmap.specs.IndexMap.{IsUnchanged};
 ghost use Rattle.gn_labels.specs.declared.label.Label.{Label as Named};
 ghost use Rattle.gn_items.specs.declared.item.Item.{Item};
 ghost use Rattle.gn_toolchains.specs.Toolchains.{Surroundings};
-ghost use Rattle.gn_resolve.specs.Table.{entry_in, is_in, known_in, handed_in, hard_at, IsPut};
+ghost use Rattle.gn_resolve.specs.Table.{entry_in, is_in, record_kept, known_in, handed_in, hard_at, IsPut};
 ghost use Rattle.gn_resolve.specs.Steps.{IsHeld, StaysHeld};
 
 use gn_labelled::{HandedOn, ItemGraph};
@@ -24,7 +24,7 @@ pub struct Entry {
     /// The actions and copies to which its dependencies lead, in label order.
     pub hard: Vec<Label>,
     /// Its record; None where no item has its label.
-    pub known: Option<Record>,
+    pub known: Option<Box<Record>>,
 }
 
 /// Targets that are resolved, by their labels.
@@ -32,6 +32,16 @@ pub struct Entry {
 pub struct Resolved {
     /// What is kept of each.
     pub entries: IndexMap<Label, Entry>,
+}
+
+// The record that is kept, if there is one.
+fn record_in(entry: &Entry) -> Option<&Record>
+    ensures { option_map (λ r. r.now) result ≡ record_kept entry.now }
+{
+    match &entry.known {
+        None => None,
+        Some(record) => Some(record),
+    }
 }
 
 /// The graph of the items of a build, with what is kept of its targets.
@@ -88,7 +98,7 @@ impl Resolved {
     {
         match self.entry(label) {
             None => None,
-            Some(entry) => entry.known.as_ref(),
+            Some(entry) => record_in(entry),
         }
     }
 

@@ -9,7 +9,7 @@ ghost use Rattle.gn_resolve.specs.Steps.{surroundings_of, surroundings_in, IsFit
 ghost use Rattle.gn_resolve.specs.Putting.{CanBePut, AllCanBePut, TakesAll};
 
 use crate::making::resolve;
-use crate::resolving::{is_ready, pass};
+use crate::resolving::is_ready;
 use crate::shared::graphs_are_shared;
 use crate::table::{Entry, Known, Resolved};
 use gn_labels::Label;
@@ -138,40 +138,6 @@ fn resolve_together<R: Threads + Sync>(
     put_all(&mut graph.records, made)
 }
 
-// Resolves those of the targets whose dependencies are resolved when they are looked at, one after the other.
-fn resolve_in_turn(
-    alloc: Global,
-    frames: &Frames<'_>,
-    graph: &mut Known<'_>,
-    targets: &[Label],
-) -> Result<(), AllocError>
-    requires fit { IsFit frames.now graph.old.default.now graph.old.items }
-    requires held { IsHeld (surroundings_of frames.now) graph.old.items graph.old.records }
-    ensures held { OnOk result (IsHeld (surroundings_of frames.now) graph.old.items graph.new.records) }
-    ensures same { OnOk result ((graph.new.items ≡ graph.old.items) × (graph.new.default ≡ graph.old.default)) }
-{
-    pass(alloc, frames, graph, targets)
-}
-
-// Resolves the targets of a level: many at once, few one after the other.
-fn resolve_level<R: Threads + Sync>(
-    rt: &R,
-    alloc: Global,
-    frames: &Frames<'_>,
-    graph: &mut Known<'_>,
-    level: &[Label],
-) -> Result<(), AllocError>
-    requires fit { IsFit frames.now graph.old.default.now graph.old.items }
-    requires held { IsHeld (surroundings_of frames.now) graph.old.items graph.old.records }
-    ensures held { OnOk result (IsHeld (surroundings_of frames.now) graph.old.items graph.new.records) }
-    ensures same { OnOk result ((graph.new.items ≡ graph.old.items) × (graph.new.default ≡ graph.old.default)) }
-{
-    if level.len() / 2 < LEAST_TARGETS {
-        return resolve_in_turn(alloc, frames, graph, level);
-    }
-    resolve_together(rt, alloc, frames, graph, level)
-}
-
 /// Resolves the targets of levels whose dependencies are resolved in the levels before.
 pub(crate) fn resolve_levels<R: Threads + Sync>(
     rt: &R,
@@ -186,7 +152,7 @@ pub(crate) fn resolve_levels<R: Threads + Sync>(
     ensures same { OnOk result ((graph.new.items ≡ graph.old.items) × (graph.new.default ≡ graph.old.default)) }
 {
     for level in levels {
-        resolve_level(rt, alloc, frames, graph, level.as_slice())?;
+        resolve_together(rt, alloc, frames, graph, level.as_slice())?;
     }
     Ok(())
 }

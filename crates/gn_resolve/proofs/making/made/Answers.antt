@@ -1,7 +1,7 @@
 use Rattle.std.proofs.Common.{List, subst}
 use Rattle.gn_labels.specs.declared.label.Label.{Label}
 use Rattle.gn_records.specs.Around.{around}
-use Rattle.gn_resolve.specs.Table.{IsKnown}
+use Rattle.gn_resolve.specs.Table.{unboxed, IsKnown}
 use Rattle.gn_resolve.proofs.making.made.Goals as goal
 
 pub returns : goal.returns
@@ -10,6 +10,6 @@ returns c = record {
   pushed_public = c.in_ok-pushed_public.ensures;
   hard = c.in_ok-hard.ensures;
   known =
-      subst (λ (z : List Label). IsKnown (around c.args.context.now) c.args.graph.now.default.now c.args.graph.now.items c.args.graph.now.records c.args.target.now z c.in_ok-known.known)
+      subst (λ (z : List Label). IsKnown (around c.args.context.now) c.args.graph.now.default.now c.args.graph.now.items c.args.graph.now.records c.args.target.now z (unboxed c.in_ok-known.known))
       c.as_slice.ensures.value c.in_ok-known.ensures;
 }

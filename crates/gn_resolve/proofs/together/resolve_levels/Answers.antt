@@ -7,8 +7,8 @@ use Rattle.gn_resolve.proofs.together.resolve_levels.Goals as goal
 pub loop-level-init : goal.loop-level-init
 loop-level-init g c = record { held = c.requires.held; items = refl; default = refl }
 
-pub resolve_level-requires : goal.resolve_level-requires
-resolve_level-requires g c = (
+pub resolve_together-requires : goal.resolve_together-requires
+resolve_together-requires g c = (
   c.type_bounds.sync-R,
   (
     fit_at c.args.frames.now c.args.graph.now.default.now c.loop-level.graph.default.now c.args.graph.now.items c.loop-level.graph.items
@@ -19,9 +19,9 @@ resolve_level-requires g c = (
 
 pub loop-level-preserved : goal.loop-level-preserved
 loop-level-preserved g c = record {
-  held = subst (λ (z : List Item). IsHeld (surroundings_of c.args.frames.now) z c.resolve_level.new.graph.records) c.loop-level.invariant.items c.in_ok-resolve_level.ensures.held;
-  items = c.in_ok-resolve_level.ensures.same.0 ∙ c.loop-level.invariant.items;
-  default = c.in_ok-resolve_level.ensures.same.1 ∙ c.loop-level.invariant.default;
+  held = subst (λ (z : List Item). IsHeld (surroundings_of c.args.frames.now) z c.resolve_together.new.graph.records) c.loop-level.invariant.items c.in_ok-resolve_together.ensures.held;
+  items = c.in_ok-resolve_together.ensures.same.0 ∙ c.loop-level.invariant.items;
+  default = c.in_ok-resolve_together.ensures.same.1 ∙ c.loop-level.invariant.default;
 }
 
 pub returns : goal.returns
