@@ -1,62 +1,65 @@
 // Keys, and the names of executions.
 
+use crate::rows::{field, number, table};
 use gn_items::{Key, When, import_name, load_name};
 use gn_labels::Label;
-use gn_paths::{Path, Text, resolve};
+use gn_paths::{Path, PathError, Text, resolve};
 use std::alloc::{AllocError, Global};
 use std::test::Fail;
 
-// What is executed: the build file of a directory, or a file that is imported.
-#[derive(Clone, Copy)]
-enum Executed {
-    Load,
-    Import(When),
-}
+/// What is executed, the build file of a directory or a file that is imported, under which toolchain, at which path, and its name.
+pub(crate) const NAMED: &str = table! {
+    "load", "", "//a", "L//a";
+    "load", "//t:t", "//a", ".....L//t:t//a";
+    "import", "", "//a", "U//a";
+    "early import", "", "//a", "E//a";
+    "import", "//t:t", "/s//b.gni", ".....U//t:t/s//b.gni";
+};
 
-// What is executed, under which toolchain, at which path, and its name.
-const NAMED: [(Executed, &[u8], &[u8], &[u8]); 5] = [
-    (Executed::Load, b"", b"//a", b"L//a"),
-    (Executed::Load, b"//t:t", b"//a", b".....L//t:t//a"),
-    (Executed::Import(When::Usual), b"", b"//a", b"U//a"),
-    (Executed::Import(When::Early), b"", b"//a", b"E//a"),
-    (
-        Executed::Import(When::Usual),
-        b"//t:t",
-        b"/s//b.gni",
-        b".....U//t:t/s//b.gni",
-    ),
-];
-
-fn name(
-    alloc: Global,
-    executed: Executed,
-    toolchain: &Text,
-    path: &Path,
-) -> Result<Text, AllocError> {
+fn name(alloc: Global, executed: &str, toolchain: &Text, path: &Path) -> Result<Text, AllocError> {
     match executed {
-        Executed::Load => load_name(alloc, path, toolchain),
-        Executed::Import(when) => import_name(alloc, when, toolchain, path),
+        "load" => load_name(alloc, path, toolchain),
+        "early import" => import_name(alloc, When::Early, toolchain, path),
+        _ => import_name(alloc, When::Usual, toolchain, path),
     }
 }
 
-fn is_named(alloc: Global, row: &(Executed, &[u8], &[u8], &[u8])) -> Result<bool, Fail> {
+fn at_root(alloc: Global, text: &str) -> Result<Path, PathError> {
     let root = Path::root(alloc)?;
-    let path = resolve(alloc, &root, row.2)?;
-    let toolchain = Text::from_bytes(alloc, row.1)?;
-    let name = name(alloc, row.0, &toolchain, &path)?;
-    Ok(name.as_bytes() == row.3)
+    let path = resolve(alloc, &root, text.as_bytes());
+    drop(root);
+    path
 }
 
-#[test]
-fn executions_are_named_by_their_keys(rt: HostRuntime) -> Result<(), Fail> {
-    for (number, row) in NAMED.iter().enumerate() {
-        assert!(rt; is_named(rt.alloc(), row)?, "row {number}");
-    }
-    Ok(())
+fn is_named_at(alloc: Global, row: &str, path: &Path) -> Result<bool, AllocError> {
+    let toolchain = Text::from_bytes(alloc, field(row, 1).as_bytes())?;
+    let name = name(alloc, field(row, 0), &toolchain, path);
+    drop(toolchain);
+    let name = name?;
+    let is_so = name.as_bytes() == field(row, 3).as_bytes();
+    drop(name);
+    Ok(is_so)
 }
+
+/// Whether the execution of a row has its name.
+pub(crate) fn is_named(alloc: Global, row: &str) -> Result<bool, Fail> {
+    let path = at_root(alloc, field(row, 2))?;
+    let is_named = is_named_at(alloc, row, &path);
+    drop(path);
+    Ok(is_named?)
+}
+
+/// A kind of keys, by its number, and another kind.
+pub(crate) const KINDS: &str = table! {
+    0, 1;
+    1, 2;
+    2, 3;
+    3, 4;
+    4, 0;
+};
 
 // A key of each kind, by a number.
-fn key(alloc: Global, kind: u8) -> Result<Key, AllocError> {
+fn key(alloc: Global, kind: usize) -> Result<Key, AllocError> {
     let root = Path::root(alloc)?;
     let text = Text::new(alloc);
     let key = match kind {
@@ -73,23 +76,25 @@ fn key(alloc: Global, kind: u8) -> Result<Key, AllocError> {
     Ok(key)
 }
 
-// Whether a copy of the key of one number is that of another.
-fn is_copy(alloc: Global, kind: u8, other: u8) -> Result<bool, AllocError> {
+fn copied(alloc: Global, kind: usize) -> Result<Key, AllocError> {
     let key = key(alloc, kind)?;
-    let copy = key.copy(alloc)?;
-    is_key(alloc, &copy, other)
+    let copied = key.copy(alloc);
+    drop(key);
+    copied
 }
 
-fn is_key(alloc: Global, copy: &Key, kind: u8) -> Result<bool, AllocError> {
+fn is_key(alloc: Global, copy: &Key, kind: usize) -> Result<bool, AllocError> {
     let key = key(alloc, kind)?;
-    Ok(*copy == key)
+    let is_same = *copy == key;
+    drop(key);
+    Ok(is_same)
 }
 
-#[test]
-fn copies_of_keys_are_equal_and_keys_of_other_kinds_are_not(rt: HostRuntime) -> Result<(), Fail> {
-    for kind in 0..5 {
-        assert!(rt; is_copy(rt.alloc(), kind, kind)?);
-        assert!(rt; !is_copy(rt.alloc(), kind, (kind + 1) % 5)?);
-    }
-    Ok(())
+/// Whether a copy of the key of a kind is that key, and not the one of another kind.
+pub(crate) fn is_told(alloc: Global, row: &str) -> Result<bool, AllocError> {
+    let copy = copied(alloc, number(row, 0))?;
+    let is_same = is_key(alloc, &copy, number(row, 0));
+    let is_other = is_key(alloc, &copy, number(row, 1));
+    drop(copy);
+    Ok(is_same? && !is_other?)
 }

@@ -4,7 +4,6 @@ use crate::rows::{field, is_shown, number, table};
 use gn_faults::{Code, Fault, Stage};
 use gn_paths::{Place, Text, Texts};
 use std::alloc::{AllocError, Global};
-use std::test::Fail;
 
 // The codes in the order of their numbers, which begin at 1.
 static CODES: [Code; 48] = [
@@ -58,8 +57,8 @@ static CODES: [Code; 48] = [
     Code::FileTooBig,
 ];
 
-// Details that are parted by `|`, and the text of a code with them, in the order of the numbers.
-const TEXTS: &str = table! {
+/// Details that are parted by `|`, and the text of a code with them, in the order of the numbers.
+pub(crate) const TEXTS: &str = table! {
     "", "Invalid token.";
     "", "Invalid number.";
     "", "Unterminated string literal.";
@@ -138,36 +137,35 @@ fn fault(alloc: Global, code: Code, parted: &str) -> Result<Fault, AllocError> {
 }
 
 fn printed(alloc: Global, code: Code, parted: &str) -> Result<Text, AllocError> {
-    fault(alloc, code, parted)?.print(alloc)
+    let fault = fault(alloc, code, parted)?;
+    let printed = fault.print(alloc);
+    drop(fault);
+    printed
 }
 
 fn prints(alloc: Global, code: Code, parted: &str, line: &[u8]) -> Result<bool, AllocError> {
     let printed = printed(alloc, code, parted)?;
-    Ok(printed.as_bytes() == line)
+    let is_so = printed.as_bytes() == line;
+    drop(printed);
+    Ok(is_so)
 }
 
 fn has_row(alloc: Global, code: Code, row: &str) -> Result<bool, AllocError> {
     let text = field(row, 1);
     let line = format!(in alloc; "ERROR: {text}\n")?;
-    prints(alloc, code, field(row, 0), line.as_bytes())
+    let is_so = prints(alloc, code, field(row, 0), line.as_bytes());
+    drop(line);
+    is_so
 }
 
-// Whether the row of this number says the text of its code.
-fn is_text(alloc: Global, number: usize, row: &str) -> Result<bool, AllocError> {
+/// Whether the row of this number says the text of its code.
+pub(crate) fn is_text(alloc: Global, number: usize, row: &str) -> Result<bool, AllocError> {
     match CODES.get(number) {
         Some(code) => Ok(
             usize::from(code.number()) == number.wrapping_add(1) && has_row(alloc, *code, row)?,
         ),
         None => Ok(false),
     }
-}
-
-#[test]
-fn each_code_has_its_number_and_its_text(rt: HostRuntime) -> Result<(), Fail> {
-    for (number, row) in TEXTS.split_terminator('\x1e').enumerate() {
-        assert!(rt; is_text(rt.alloc(), number, row)?, "at {row}");
-    }
-    Ok(())
 }
 
 // The code of this name.
@@ -180,8 +178,8 @@ fn code_named(alloc: Global, name: &str) -> Result<Option<Code>, AllocError> {
     Ok(None)
 }
 
-// A code, details that are missing or too many, and the line.
-const LINES: &str = table! {
+/// A code, details that are missing or too many, and the line.
+pub(crate) const LINES: &str = table! {
     "AssertFailed", "", "ERROR: Assertion failed.\n";
     "AssertFailed", "a|b", "ERROR: Assertion failed. a\n";
     "Missing", "", "ERROR: \"\" is missing.\n";
@@ -192,19 +190,12 @@ const LINES: &str = table! {
     "TooLarge", "a", "ERROR: The build is larger than a limit.\n";
 };
 
-fn has_line(alloc: Global, row: &str) -> Result<bool, AllocError> {
+/// Whether a code with details has the line of its row.
+pub(crate) fn has_line(alloc: Global, row: &str) -> Result<bool, AllocError> {
     match code_named(alloc, field(row, 0))? {
         Some(code) => prints(alloc, code, field(row, 1), field(row, 2).as_bytes()),
         None => Ok(false),
     }
-}
-
-#[test]
-fn details_may_be_missing_or_too_many(rt: HostRuntime) -> Result<(), Fail> {
-    for row in LINES.split_terminator('\x1e') {
-        assert!(rt; has_line(rt.alloc(), row)?, "at {row}");
-    }
-    Ok(())
 }
 
 // A fault: its stage, its code, its details, its toolchain, and the file, the line and the column of its place. It has no place
@@ -213,8 +204,8 @@ const PLACED: &str = table! {
     "Loading", "BadByte", "", "//t:t", "//a/BUILD.gn", 12, 4294967295;
 };
 
-// Faults, each before the next. The one for a file that is missing names it.
-const IN_ORDER: &str = table! {
+/// Faults, each before the next. The one for a file that is missing names it.
+pub(crate) const IN_ORDER: &str = table! {
     "Arguments", "BadByte", "", "", "//z", 9, 9;
     "Loading", "TooLarge", "", "", "", 0, 0;
     "Loading", "NoFile", "//a", "", "", 0, 0;
@@ -268,7 +259,10 @@ fn standing(alloc: Global, row: &str) -> Result<Fault, AllocError> {
 
 fn is_placed(alloc: Global, fault: &Fault) -> Result<bool, AllocError> {
     let line = fault.print(alloc)?;
-    Ok(line.as_bytes() == b"ERROR at //a/BUILD.gn:12:4294967295: Invalid token.\n".as_slice())
+    let is_so = line.as_bytes()
+        == b"ERROR at //a/BUILD.gn:12:4294967295: Invalid token.\n".as_slice();
+    drop(line);
+    Ok(is_so)
 }
 
 fn are_equal(fault: &Fault, other: &Fault) -> bool {
@@ -277,23 +271,26 @@ fn are_equal(fault: &Fault, other: &Fault) -> bool {
 
 fn is_copied(alloc: Global, fault: &Fault) -> Result<bool, AllocError> {
     let copied = fault.copy(alloc)?;
-    Ok(is_placed(alloc, &copied)? && are_equal(fault, &copied))
+    let are_equal = are_equal(fault, &copied);
+    let is_placed = is_placed(alloc, &copied);
+    drop(copied);
+    Ok(is_placed? && are_equal)
 }
 
-fn is_placed_and_copied(alloc: Global) -> Result<bool, AllocError> {
+/// Whether a fault with a place is printed and copied.
+pub(crate) fn is_placed_and_copied(alloc: Global) -> Result<bool, AllocError> {
     let fault = standing(alloc, PLACED)?;
-    Ok(is_placed(alloc, &fault)? && is_copied(alloc, &fault)?)
-}
-
-#[test]
-fn a_place_is_printed_and_copied(rt: HostRuntime) -> Result<(), Fail> {
-    assert!(rt; is_placed_and_copied(rt.alloc())?);
-    Ok(())
+    let is_placed = is_placed(alloc, &fault);
+    let is_copied = is_copied(alloc, &fault);
+    drop(fault);
+    Ok(is_placed? && is_copied?)
 }
 
 fn is_before(alloc: Global, fault: &Fault, other: &str) -> Result<bool, AllocError> {
     let other = standing(alloc, other)?;
-    Ok(fault.before(&other))
+    let is_before = fault.before(&other);
+    drop(other);
+    Ok(is_before)
 }
 
 // Whether the fault stands before the later ones alone.
@@ -306,35 +303,34 @@ fn is_at(alloc: Global, place: usize, fault: &Fault) -> Result<bool, AllocError>
     Ok(true)
 }
 
-fn is_in_order(alloc: Global, place: usize, row: &str) -> Result<bool, AllocError> {
+/// Whether the fault of a row, which stands at a place of the table, stands before the later ones alone.
+pub(crate) fn is_in_order(alloc: Global, place: usize, row: &str) -> Result<bool, AllocError> {
     let fault = standing(alloc, row)?;
-    is_at(alloc, place, &fault)
+    let is_so = is_at(alloc, place, &fault);
+    drop(fault);
+    is_so
 }
 
-#[test]
-fn faults_are_ordered(rt: HostRuntime) -> Result<(), Fail> {
-    for (number, row) in IN_ORDER.split_terminator('\x1e').enumerate() {
-        assert!(rt; is_in_order(rt.alloc(), number, row)?, "at {row}");
-    }
-    Ok(())
+// Whether a fault stands before the one of its code that has these details.
+fn stands_before(alloc: Global, few: &Fault, parted: &str) -> Result<bool, AllocError> {
+    let more = fault(alloc, Code::Missing, parted)?;
+    let is_so = few.before(&more) && !more.before(few);
+    drop(more);
+    Ok(is_so)
 }
 
-// Whether more details stand behind fewer.
-fn are_counted(alloc: Global) -> Result<bool, AllocError> {
+/// Whether more details stand behind fewer.
+pub(crate) fn are_counted(alloc: Global) -> Result<bool, AllocError> {
     let few = fault(alloc, Code::Missing, "a|b")?;
-    let more = fault(alloc, Code::Missing, "a|b|")?;
-    Ok(few.before(&more) && !more.before(&few))
+    let are_counted = stands_before(alloc, &few, "a|b|");
+    drop(few);
+    are_counted
 }
 
-#[test]
-fn details_are_ordered(rt: HostRuntime) -> Result<(), Fail> {
-    assert!(rt; are_counted(rt.alloc())?);
-    Ok(())
-}
-
-#[test]
-fn stages_and_codes_are_ordered(rt: HostRuntime) -> Result<(), Fail> {
-    assert!(rt; Stage::Question < Stage::Includes && Code::BadByte < Code::FileTooBig);
-    assert!(rt; Stage::Graph == Stage::Graph && Code::Cycle != Code::ImportCycle);
-    Ok(())
+/// Whether stages and codes are in their orders.
+pub(crate) fn are_ordered() -> bool {
+    Stage::Question < Stage::Includes
+        && Code::BadByte < Code::FileTooBig
+        && Stage::Graph == Stage::Graph
+        && Code::Cycle != Code::ImportCycle
 }

@@ -91,21 +91,26 @@ fn joined(alloc: Global, texts: &[Text]) -> Result<Text, AllocError> {
     Ok(joined)
 }
 
-fn are_sorted(alloc: Global) -> Result<bool, AllocError> {
+/// Whether texts are sorted by their bytes.
+pub(crate) fn are_sorted(alloc: Global) -> Result<bool, AllocError> {
     let list = sorted(unsorted(alloc)?)?;
-    let joined = joined(alloc, list.as_slice())?;
-    Ok(joined.as_bytes() == b" a a/b b \xFF ".as_slice())
+    let joined = joined(alloc, list.as_slice());
+    drop(list);
+    let joined = joined?;
+    let are_sorted = joined.as_bytes() == b" a a/b b \xFF ".as_slice();
+    drop(joined);
+    Ok(are_sorted)
 }
 
-fn are_copied(alloc: Global) -> Result<bool, AllocError> {
-    let copy = Texts::from_vec(unsorted(alloc)?).copy(alloc)?;
-    Ok(copy.as_slice().len() == 5)
-}
-
-#[test]
-fn texts_are_sorted_by_their_bytes(rt: HostRuntime) -> Result<(), Fail> {
-    assert!(rt; are_sorted(rt.alloc())? && are_copied(rt.alloc())?);
-    Ok(())
+/// Whether all texts are copied.
+pub(crate) fn are_copied(alloc: Global) -> Result<bool, AllocError> {
+    let texts = Texts::from_vec(unsorted(alloc)?);
+    let copied = texts.copy(alloc);
+    drop(texts);
+    let copy = copied?;
+    let count = copy.as_slice().len();
+    drop(copy);
+    Ok(count == 5)
 }
 
 fn is_same_key(root: &Path, again: &Path) -> bool {
@@ -123,31 +128,42 @@ fn value_at(
     Ok(look_up(&map, again))
 }
 
-fn is_key(alloc: Global) -> Result<bool, Fail> {
-    let root = Path::root(alloc)?;
-    let again = root.copy(alloc)?;
-    let is_same = is_same_key(&root, &again);
-    Ok(is_same && value_at(alloc, root, &again)? == Some(7))
+// Whether a copy of a path is the same key as that path.
+fn is_key_again(alloc: Global, again: &Path) -> Result<bool, Fail> {
+    let root = again.copy(alloc)?;
+    let is_same = is_same_key(&root, again);
+    Ok(value_at(alloc, root, again)? == Some(7) && is_same)
+}
+
+/// Whether paths are keys.
+pub(crate) fn is_key(alloc: Global) -> Result<bool, Fail> {
+    let again = Path::root(alloc)?;
+    let is_key = is_key_again(alloc, &again);
+    drop(again);
+    is_key
 }
 
 fn is_place(alloc: Global, place: &Place) -> Result<bool, AllocError> {
-    let copy = place.copy(alloc)?;
     let file = Text::from_vec(Vec::from_slice(alloc, b"//")?);
-    Ok(are_same_places(place, &copy) && are_same(&copy.file, &file))
+    let is_file = are_same(&place.file, &file);
+    drop(file);
+    let copy = place.copy(alloc)?;
+    let is_copy = are_same_places(place, &copy);
+    drop(copy);
+    Ok(is_file && is_copy)
 }
 
-fn is_place_of_root(alloc: Global) -> Result<bool, AllocError> {
+/// Whether a place is compared and copied.
+pub(crate) fn is_place_of_root(alloc: Global) -> Result<bool, AllocError> {
     let root = Path::root(alloc)?;
+    let file = root.as_text().copy(alloc);
+    drop(root);
     let place = Place {
-        file: root.as_text().copy(alloc)?,
+        file: file?,
         line: 1,
         column: 2,
     };
-    is_place(alloc, &place)
-}
-
-#[test]
-fn paths_are_keys(rt: HostRuntime) -> Result<(), Fail> {
-    assert!(rt; is_key(rt.alloc())? && is_place_of_root(rt.alloc())?);
-    Ok(())
+    let is_place = is_place(alloc, &place);
+    drop(place);
+    is_place
 }

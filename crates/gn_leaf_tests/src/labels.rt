@@ -6,10 +6,10 @@ use gn_paths::{Path, PathError, Text, resolve};
 use std::alloc::{AllocError, Global};
 use std::test::Fail;
 
-// Calls on labels, each with what it answers or why it doesn't. Where a label is an argument, its directory, its name and its
-// toolchain stand there. Labels are read in a file of `//c/d` whose toolchain is `//t:u`, and printed where `//t:t` is the
-// default toolchain.
-const LABELS: &str = calls! {
+/// Calls on labels, each with what it answers or why it doesn't. Where a label is an argument, its directory, its name and its
+/// toolchain stand there. Labels are read in a file of `//c/d` whose toolchain is `//t:u`, and printed where `//t:t` is the
+/// default toolchain.
+pub(crate) const LABELS: &str = calls! {
     print("//", "g", "//t:t") => "//:g";
     print("//", "k", "//t:t") => "//:k";
     print("//", "k", "//a:a") => "//:k(//a:a)";
@@ -50,8 +50,8 @@ const LABELS: &str = calls! {
     is_name("a*") => false;
 };
 
-// Calls on patterns, which are read in a file of `//c/d`.
-const PATTERNS: &str = calls! {
+/// Calls on patterns, which are read in a file of `//c/d`.
+pub(crate) const PATTERNS: &str = calls! {
     matches("//a:*", "//a:a") => true;
     matches("//a", "//a:a") => true;
     matches("//a/*", "//a:a") => true;
@@ -98,8 +98,12 @@ fn label(alloc: Global, row: &str, place: usize) -> Result<Label, Fail> {
 
 fn prints_as(alloc: Global, label: &Label, wanted: &str) -> Result<bool, AllocError> {
     let default = Text::from_bytes(alloc, b"//t:t")?;
-    let text = label.print(alloc, &default)?;
-    Ok(text.as_bytes() == wanted.as_bytes())
+    let text = label.print(alloc, &default);
+    drop(default);
+    let text = text?;
+    let is_so = text.as_bytes() == wanted.as_bytes();
+    drop(text);
+    Ok(is_so)
 }
 
 // A copy of the first label of a row.
@@ -157,9 +161,21 @@ fn error_name(error: &LabelError) -> &'static str {
 }
 
 fn is_read(alloc: Global, row: &str) -> Result<bool, AllocError> {
-    match &read(alloc, field(row, 2)) {
-        Ok(label) => prints_as(alloc, label, field(row, 1)),
-        Err(error) => Ok(error_name(error) == field(row, 1)),
+    let label = read(alloc, field(row, 2));
+    let is_so = is_label(alloc, &label, field(row, 1));
+    drop(label);
+    is_so
+}
+
+// Whether a label prints so, or is none for this reason.
+fn is_label(
+    alloc: Global,
+    label: &Result<Label, LabelError>,
+    wanted: &str,
+) -> Result<bool, AllocError> {
+    match label {
+        Ok(label) => prints_as(alloc, label, wanted),
+        Err(error) => Ok(error_name(error) == wanted),
     }
 }
 
@@ -167,7 +183,8 @@ fn is_known(alloc: Global, row: &str) -> Result<bool, AllocError> {
     is_shown(alloc, is_name(field(row, 2).as_bytes()), field(row, 1))
 }
 
-fn is_label_answered(alloc: Global, row: &str) -> Result<bool, Fail> {
+/// Whether a call on labels answers what its row expects.
+pub(crate) fn is_label_answered(alloc: Global, row: &str) -> Result<bool, Fail> {
     match field(row, 0) {
         "print" => is_printed(alloc, row),
         "before" => is_ordered(alloc, row),
@@ -175,14 +192,6 @@ fn is_label_answered(alloc: Global, row: &str) -> Result<bool, Fail> {
         "is_name" => Ok(is_known(alloc, row)?),
         _ => Ok(false),
     }
-}
-
-#[test]
-fn calls_on_labels_answer(rt: HostRuntime) -> Result<(), Fail> {
-    for row in LABELS.split_terminator('\x1e') {
-        assert!(rt; is_label_answered(rt.alloc(), row)?, "at {row}");
-    }
-    Ok(())
 }
 
 fn pattern(alloc: Global, text: &str) -> Result<Pattern, PatternError> {
@@ -202,21 +211,15 @@ fn pattern_error_name(error: &PatternError) -> &'static str {
 
 fn matches(alloc: Global, pattern: &Pattern, row: &str) -> Result<bool, Fail> {
     let label = read(alloc, field(row, 3))?;
-    Ok(is_shown(alloc, pattern.matches(&label), field(row, 1))?)
+    let matches = pattern.matches(&label);
+    drop(label);
+    Ok(is_shown(alloc, matches, field(row, 1))?)
 }
 
-// Whether a pattern has the answer of a row: what it says of a label, or why it is none.
-fn is_pattern_answered(alloc: Global, row: &str) -> Result<bool, Fail> {
+/// Whether a pattern has the answer of a row: what it says of a label, or why it is none.
+pub(crate) fn is_pattern_answered(alloc: Global, row: &str) -> Result<bool, Fail> {
     match &pattern(alloc, field(row, 2)) {
         Ok(pattern) => matches(alloc, pattern, row),
         Err(error) => Ok(pattern_error_name(error) == field(row, 1)),
     }
-}
-
-#[test]
-fn calls_on_patterns_answer(rt: HostRuntime) -> Result<(), Fail> {
-    for row in PATTERNS.split_terminator('\x1e') {
-        assert!(rt; is_pattern_answered(rt.alloc(), row)?, "at {row}");
-    }
-    Ok(())
 }

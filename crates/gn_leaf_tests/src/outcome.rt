@@ -15,8 +15,8 @@ const ADDED: &str = table! {
     "k", 3;
 };
 
-// A name, a toolchain, whether the label is known, and the line of the first item that has it, 0 where none has.
-const KNOWN: &str = table! {
+/// A name, a toolchain, whether the label is known, and the line of the first item that has it, 0 where none has.
+pub(crate) const KNOWN: &str = table! {
     "k", "", "true", 1;
     "g", "", "true", 2;
     "k", "//t:t", "false", 0;
@@ -85,24 +85,22 @@ fn first_line(outcome: &Outcome, label: &Label) -> u32 {
 
 fn has(alloc: Global, outcome: &Outcome, row: &str) -> Result<bool, AllocError> {
     let label = label(alloc, field(row, 0), field(row, 1))?;
-    let known = is_shown(alloc, outcome.has(&label), field(row, 2))?;
-    Ok(known && is_shown(alloc, first_line(outcome, &label), field(row, 3))?)
+    let has = outcome.has(&label);
+    let line = first_line(outcome, &label);
+    drop(label);
+    Ok(is_shown(alloc, has, field(row, 2))? && is_shown(alloc, line, field(row, 3))?)
 }
 
-fn is_known(alloc: Global, row: &str) -> Result<bool, AllocError> {
+/// Whether a label is known as the row expects.
+pub(crate) fn is_known(alloc: Global, row: &str) -> Result<bool, AllocError> {
     let outcome = outcome(alloc)?;
-    has(alloc, &outcome, row)
+    let is_known = has(alloc, &outcome, row);
+    drop(outcome);
+    is_known
 }
 
-#[test]
-fn labels_are_known(rt: HostRuntime) -> Result<(), Fail> {
-    for row in KNOWN.split_terminator('\x1e') {
-        assert!(rt; is_known(rt.alloc(), row)?, "at {row}");
-    }
-    Ok(())
-}
-
-fn begins_empty(alloc: Global) -> bool {
+/// Whether nothing is left at first.
+pub(crate) fn begins_empty(alloc: Global) -> bool {
     let outcome = Outcome::new(alloc);
     outcome.items().is_empty()
         && outcome.prints().is_empty()
@@ -132,16 +130,13 @@ fn are_prints(alloc: Global, prints: &[Text]) -> Result<bool, AllocError> {
     Ok(text.as_bytes() == b"kgk".as_slice())
 }
 
-fn are_left_in_order(alloc: Global) -> Result<bool, AllocError> {
+/// Whether items and lines come in order.
+pub(crate) fn are_left_in_order(alloc: Global) -> Result<bool, AllocError> {
     let outcome = outcome(alloc)?;
-    let count = outcome.items().len();
-    Ok(count == 3 && are_items(outcome.items()) && are_prints(alloc, outcome.prints())?)
-}
-
-#[test]
-fn items_and_lines_come_in_order(rt: HostRuntime) -> Result<(), Fail> {
-    assert!(rt; begins_empty(rt.alloc()) && are_left_in_order(rt.alloc())?);
-    Ok(())
+    let are_items = are_items(outcome.items());
+    let are_prints = are_prints(alloc, outcome.prints());
+    drop(outcome);
+    Ok(are_items && are_prints?)
 }
 
 fn path(alloc: Global, row: &str) -> Result<Path, PathError> {
@@ -185,15 +180,22 @@ fn ask_all(alloc: Global, outcome: &mut Outcome) -> Result<(), PathError> {
     Ok(())
 }
 
-fn are_asked_in_order(alloc: Global) -> Result<bool, PathError> {
-    let mut outcome = outcome(alloc)?;
-    ask_all(alloc, &mut outcome)?;
+fn are_kept(outcome: Outcome) -> bool {
     let kept = are_items(outcome.items()) && are_asked(outcome.asked());
-    Ok(kept && are_asked(&outcome.into_asked()))
+    let asked = outcome.into_asked();
+    let are_asked = are_asked(&asked);
+    drop(asked);
+    kept && are_asked
 }
 
-#[test]
-fn questions_come_in_order(rt: HostRuntime) -> Result<(), Fail> {
-    assert!(rt; are_asked_in_order(rt.alloc())?);
-    Ok(())
+/// Whether questions come in order.
+pub(crate) fn are_asked_in_order(alloc: Global) -> Result<bool, Fail> {
+    let mut outcome = outcome(alloc)?;
+    match ask_all(alloc, &mut outcome) {
+        Ok(()) => Ok(are_kept(outcome)),
+        Err(error) => {
+            drop(outcome);
+            Err(error)?
+        }
+    }
 }

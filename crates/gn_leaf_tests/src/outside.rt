@@ -3,23 +3,20 @@
 use crate::rows::{field, is_shown, number, table};
 use gn_outside::{ReadStop, Sink, SinkStop, Source, Tree, TreeFile, TreeSink, TreeSource};
 use std::alloc::{AllocError, Global};
-use std::test::Fail;
 
-// A path, and the bytes that the tree has there, or that it has none.
-const FILES: &str = table! {
+/// A path, and the bytes that the tree has there, or that it has none.
+pub(crate) const FILES: &str = table! {
     "//BUILD.gn", "new";
     "//a", "";
     "//big", "TooBig";
     "//b", "None";
 };
 
-fn tree(alloc: Global) -> Result<Tree, AllocError> {
-    let mut tree = Tree::new(alloc);
+fn put_all(tree: &mut Tree) -> Result<(), AllocError> {
     tree.put("//BUILD.gn", b"old")?;
     tree.put("//a", b"")?;
     tree.put("//BUILD.gn", b"new")?;
-    tree.mark("//big")?;
-    Ok(tree)
+    tree.mark("//big")
 }
 
 fn is_file(found: Option<TreeFile<'_>>, wanted: &str) -> bool {
@@ -30,30 +27,34 @@ fn is_file(found: Option<TreeFile<'_>>, wanted: &str) -> bool {
     }
 }
 
-fn is_there(alloc: Global, row: &str) -> Result<bool, AllocError> {
-    let tree = tree(alloc)?;
-    Ok(is_file(tree.get(field(row, 0)), field(row, 1)))
+/// Whether a tree has what the row expects at its path.
+pub(crate) fn is_there(alloc: Global, row: &str) -> Result<bool, AllocError> {
+    let mut tree = Tree::new(alloc);
+    let is_put = put_all(&mut tree);
+    let is_there = is_file(tree.get(field(row, 0)), field(row, 1));
+    drop(tree);
+    is_put?;
+    Ok(is_there)
 }
 
-#[test]
-fn a_tree_has_what_was_put_last(rt: HostRuntime) -> Result<(), Fail> {
-    for row in FILES.split_terminator('\x1e') {
-        assert!(rt; is_there(rt.alloc(), row)?, "at {row}");
-    }
-    Ok(())
-}
-
-// How long a file is, and what its read answers: how long it is, or why there is none.
-const LENGTHS: &str = table! {
+/// How long a file is, and what its read answers: how long it is, or why there is none.
+pub(crate) const LENGTHS: &str = table! {
     16777216, "Ok(Some(16777216))";
     16777217, "Err(TooBig(16777217))";
 };
 
 fn file_of(alloc: Global, len: usize) -> Result<Tree, AllocError> {
-    let mut tree = Tree::new(alloc);
     let bytes = vec![in alloc; 7; len]?;
-    tree.put("//long", &bytes)?;
-    Ok(tree)
+    let mut tree = Tree::new(alloc);
+    let is_put = tree.put("//long", &bytes);
+    drop(bytes);
+    match is_put {
+        Ok(()) => Ok(tree),
+        Err(error) => {
+            drop(tree);
+            Err(error)
+        }
+    }
 }
 
 fn length(source: &mut TreeSource, alloc: Global) -> Result<Option<usize>, ReadStop> {
@@ -64,18 +65,13 @@ fn length(source: &mut TreeSource, alloc: Global) -> Result<Option<usize>, ReadS
     }
 }
 
-fn is_long(alloc: Global, row: &str) -> Result<bool, AllocError> {
+/// Whether the read of a file that is so long answers what the row expects.
+pub(crate) fn is_long(alloc: Global, row: &str) -> Result<bool, AllocError> {
     let tree = file_of(alloc, number(row, 0))?;
     let mut source = TreeSource::new(alloc, tree, Vec::new(alloc));
-    is_shown(alloc, length(&mut source, alloc), field(row, 1))
-}
-
-#[test]
-fn a_file_above_the_limit_is_too_big(rt: HostRuntime) -> Result<(), Fail> {
-    for row in LENGTHS.split_terminator('\x1e') {
-        assert!(rt; is_long(rt.alloc(), row)?, "at {row}");
-    }
-    Ok(())
+    let length = length(&mut source, alloc);
+    drop(source);
+    is_shown(alloc, length, field(row, 1))
 }
 
 // The reads from a source that fails at the second, in order, with the bytes that each answers, or why there are none.
@@ -85,8 +81,8 @@ const READS: &str = table! {
     "//c", "None";
 };
 
-// The path of each read by its number.
-const READ_PATHS: &str = table! {
+/// The path of each read by its number.
+pub(crate) const READ_PATHS: &str = table! {
     0, "Some(\"//a\")";
     1, "Some(\"//b\")";
     2, "Some(\"//c\")";
@@ -127,18 +123,13 @@ fn answers_all(source: &mut TreeSource, alloc: Global) -> bool {
     true
 }
 
-fn has_read(alloc: Global, row: &str) -> Result<bool, AllocError> {
+/// Whether a source that fails at times has read the path of the row.
+pub(crate) fn has_read(alloc: Global, row: &str) -> Result<bool, AllocError> {
     let mut source = failing_source(alloc)?;
     let answers = answers_all(&mut source, alloc);
-    Ok(answers && is_shown(alloc, source.read_path(number(row, 0)), field(row, 1))?)
-}
-
-#[test]
-fn a_source_fails_at_the_calls_listed(rt: HostRuntime) -> Result<(), Fail> {
-    for row in READ_PATHS.split_terminator('\x1e') {
-        assert!(rt; has_read(rt.alloc(), row)?, "at {row}");
-    }
-    Ok(())
+    let is_path = is_shown(alloc, source.read_path(number(row, 0)), field(row, 1));
+    drop(source);
+    Ok(answers && is_path?)
 }
 
 // The calls of a sink that fails at the second and the fifth, in order, with their answers: bytes that are said, and then
@@ -152,8 +143,8 @@ const CALLS: &str = table! {
     "z", "3", "Ok(())";
 };
 
-// The files of the sink then by their numbers: a path and its bytes.
-const PUT: &str = table! {
+/// The files of the sink then by their numbers: a path and its bytes.
+pub(crate) const PUT: &str = table! {
     0, "x", "1";
     1, "z", "3";
     2, "None", "";
@@ -182,19 +173,14 @@ fn is_put(found: Option<(&str, &[u8])>, row: &str) -> bool {
     }
 }
 
-fn has_taken(alloc: Global, row: &str) -> Result<bool, AllocError> {
+/// Whether a sink that fails at times has the file of the row.
+pub(crate) fn has_taken(alloc: Global, row: &str) -> Result<bool, AllocError> {
     let failing = [2, 5].to_vec(alloc)?;
     let mut sink = TreeSink::new(alloc, failing);
-    let takes = takes_all(alloc, &mut sink)?;
-    Ok(takes && sink.said() == b"ac".as_slice() && is_put(sink.file(number(row, 0)), row))
-}
-
-#[test]
-fn a_sink_fails_at_the_calls_listed(rt: HostRuntime) -> Result<(), Fail> {
-    for row in PUT.split_terminator('\x1e') {
-        assert!(rt; has_taken(rt.alloc(), row)?, "at {row}");
-    }
-    Ok(())
+    let takes = takes_all(alloc, &mut sink);
+    let is_put = sink.said() == b"ac".as_slice() && is_put(sink.file(number(row, 0)), row);
+    drop(sink);
+    Ok(is_put && takes?)
 }
 
 const MANY: u64 = 10_000;
@@ -217,20 +203,19 @@ fn many_files(alloc: Global) -> Result<Tree, AllocError> {
     Ok(tree)
 }
 
-// The number of the first file that isn't there.
-fn first_absent(alloc: Global) -> Result<u64, AllocError> {
-    let tree = many_files(alloc)?;
+fn has_all(alloc: Global, tree: &Tree) -> Result<bool, AllocError> {
     for number in 0..MANY {
-        if !has_numbered(alloc, &tree, number)? {
-            return Ok(number);
+        if !has_numbered(alloc, tree, number)? {
+            return Ok(false);
         }
     }
-    Ok(MANY)
+    Ok(true)
 }
 
-#[test]
-fn a_tree_of_many_files(rt: HostRuntime) -> Result<(), Fail> {
-    let absent = first_absent(rt.alloc())?;
-    assert!(rt; absent == MANY, "{absent}");
-    Ok(())
+/// Whether a tree has each of many files that were put.
+pub(crate) fn has_many(alloc: Global) -> Result<bool, AllocError> {
+    let tree = many_files(alloc)?;
+    let has_all = has_all(alloc, &tree);
+    drop(tree);
+    has_all
 }

@@ -5,11 +5,10 @@ use gn_paths::{
     Path, PathError, PathFault, PathPart, Text, directory, gen_directory, is_system, obj_directory,
     part, path_meant, rebase, resolve,
 };
-use std::alloc::Global;
-use std::test::Fail;
+use std::alloc::{AllocError, Global};
 
-// Calls, each with what it answers or why it doesn't. Where a path is an argument, it is what the text means at the root.
-const CALLS: &str = calls! {
+/// Calls, each with what it answers or why it doesn't. Where a path is an argument, it is what the text means at the root.
+pub(crate) const CALLS: &str = calls! {
     resolve("//", "a/b/") => "//a/b/";
     resolve("//", "//.") => "//";
     resolve("//", "\u{E9}/b") => "//\u{E9}/b";
@@ -112,16 +111,6 @@ fn at_root(alloc: Global, text: &[u8]) -> Result<Path, PathError> {
     resolve(alloc, &root, text)
 }
 
-// The path that is the first argument of a row.
-fn first(alloc: Global, row: &str) -> Result<Path, PathError> {
-    at_root(alloc, field(row, 2).as_bytes())
-}
-
-// The path that is the second argument of a row.
-fn second(alloc: Global, row: &str) -> Result<Path, PathError> {
-    at_root(alloc, field(row, 3).as_bytes())
-}
-
 fn name_of(error: &PathError) -> &'static str {
     match error {
         PathError::AboveRoot => "AboveRoot",
@@ -137,15 +126,17 @@ fn is_answer(found: &Result<Path, PathError>, wanted: &str) -> bool {
     }
 }
 
-fn is_resolved(alloc: Global, row: &str) -> Result<bool, PathError> {
-    let directory = first(alloc, row)?;
-    let found = resolve(alloc, &directory, field(row, 3).as_bytes());
-    Ok(is_answer(&found, field(row, 1)))
+fn is_found(found: Result<Path, PathError>, row: &str) -> bool {
+    let is_so = is_answer(&found, field(row, 1));
+    drop(found);
+    is_so
 }
 
-fn are_bytes_resolved(alloc: Global, row: &str) -> Result<bool, PathError> {
+fn are_bytes_resolved(alloc: Global, row: &str) -> Result<bool, AllocError> {
     let bytes = bytes_of(alloc, field(row, 2))?;
-    Ok(is_answer(&at_root(alloc, &bytes), field(row, 1)))
+    let found = at_root(alloc, &bytes);
+    drop(bytes);
+    Ok(is_found(found, row))
 }
 
 fn is_meaning(meant: &Result<Path, PathFault>, wanted: &str) -> bool {
@@ -156,10 +147,25 @@ fn is_meaning(meant: &Result<Path, PathFault>, wanted: &str) -> bool {
     }
 }
 
-fn is_meant(alloc: Global, row: &str) -> Result<bool, PathError> {
-    let directory = first(alloc, row)?;
-    let meant = path_meant(alloc, &directory, field(row, 3).as_bytes())?;
-    Ok(is_meaning(&meant, field(row, 1)))
+fn is_meant(alloc: Global, directory: &Path, row: &str) -> Result<bool, AllocError> {
+    let meant = path_meant(alloc, directory, field(row, 3).as_bytes())?;
+    let is_so = is_meaning(&meant, field(row, 1));
+    drop(meant);
+    Ok(is_so)
+}
+
+fn is_path(made: Result<Path, AllocError>, row: &str) -> Result<bool, AllocError> {
+    let path = made?;
+    let is_so = path.as_str() == field(row, 1);
+    drop(path);
+    Ok(is_so)
+}
+
+fn is_text(made: Result<Text, AllocError>, row: &str) -> Result<bool, AllocError> {
+    let text = made?;
+    let is_so = text.as_bytes() == field(row, 1).as_bytes();
+    drop(text);
+    Ok(is_so)
 }
 
 // How a path is shown from a directory that is a text itself, where one is given.
@@ -168,57 +174,70 @@ fn shown(alloc: Global, path: &Path, base: &str) -> Result<Text, PathError> {
         return rebase(alloc, path, b"", b"/src");
     }
     let directory = at_root(alloc, base.as_bytes())?;
-    rebase(alloc, path, directory.as_bytes(), b"/src")
+    let shown = rebase(alloc, path, directory.as_bytes(), b"/src");
+    drop(directory);
+    shown
 }
 
-fn is_rebased(alloc: Global, row: &str) -> Result<bool, PathError> {
-    let path = first(alloc, row)?;
-    let shown = shown(alloc, &path, field(row, 3))?;
-    Ok(shown.as_bytes() == field(row, 1).as_bytes())
+fn is_rebased(alloc: Global, path: &Path, row: &str) -> bool {
+    match shown(alloc, path, field(row, 3)) {
+        Ok(text) => {
+            let is_so = text.as_bytes() == field(row, 1).as_bytes();
+            drop(text);
+            is_so
+        }
+        Err(_) => false,
+    }
 }
 
-fn is_seen(alloc: Global, row: &str) -> Result<bool, PathError> {
-    let path = first(alloc, row)?;
-    let build = second(alloc, row)?;
-    let seen = path.seen_from(alloc, &build)?;
-    Ok(seen.as_bytes() == field(row, 1).as_bytes())
+// Whether a call on two paths answers what its row expects.
+fn is_answered_of_two(
+    alloc: Global,
+    first: &Path,
+    second: &Path,
+    row: &str,
+) -> Result<bool, AllocError> {
+    match field(row, 0) {
+        "seen_from" => is_text(first.seen_from(alloc, second), row),
+        "is_below" => is_shown(alloc, first.is_below(second), field(row, 1)),
+        "obj_directory" => is_path(obj_directory(alloc, first, second), row),
+        "gen_directory" => is_path(gen_directory(alloc, first, second), row),
+        _ => Ok(false),
+    }
 }
 
-fn is_directory_of(alloc: Global, row: &str) -> Result<bool, PathError> {
-    let path = first(alloc, row)?;
-    let found = directory(alloc, &path)?;
-    Ok(found.as_str() == field(row, 1))
+fn is_second_answered(alloc: Global, first: &Path, row: &str) -> Result<bool, AllocError> {
+    match at_root(alloc, field(row, 3).as_bytes()) {
+        Ok(second) => {
+            let is_so = is_answered_of_two(alloc, first, &second, row);
+            drop(second);
+            is_so
+        }
+        Err(_) => Ok(false),
+    }
 }
 
-fn is_as_directory(alloc: Global, row: &str) -> Result<bool, PathError> {
-    let path = first(alloc, row)?;
-    let found = path.to_directory(alloc)?;
-    Ok(found.as_str() == field(row, 1))
+// Whether a call whose first argument is a path answers what its row expects.
+fn is_first_answered(alloc: Global, first: &Path, row: &str) -> Result<bool, AllocError> {
+    match field(row, 0) {
+        "resolve" => Ok(is_found(resolve(alloc, first, field(row, 3).as_bytes()), row)),
+        "path_meant" => is_meant(alloc, first, row),
+        "rebase" => Ok(is_rebased(alloc, first, row)),
+        "directory" => is_path(directory(alloc, first), row),
+        "to_directory" => is_path(first.to_directory(alloc), row),
+        _ => is_second_answered(alloc, first, row),
+    }
 }
 
-fn is_below(alloc: Global, row: &str) -> Result<bool, PathError> {
-    let path = first(alloc, row)?;
-    let directory = second(alloc, row)?;
-    Ok(is_shown(alloc, path.is_below(&directory), field(row, 1))?)
-}
-
-fn are_objects(alloc: Global, row: &str) -> Result<bool, PathError> {
-    let out = first(alloc, row)?;
-    let path = second(alloc, row)?;
-    let found = obj_directory(alloc, &out, &path)?;
-    Ok(found.as_str() == field(row, 1))
-}
-
-fn are_generated(alloc: Global, row: &str) -> Result<bool, PathError> {
-    let out = first(alloc, row)?;
-    let path = second(alloc, row)?;
-    let found = gen_directory(alloc, &out, &path)?;
-    Ok(found.as_str() == field(row, 1))
-}
-
-fn is_of_system(alloc: Global, row: &str) -> Result<bool, PathError> {
-    let is_system = is_system(field(row, 2).as_bytes());
-    Ok(is_shown(alloc, is_system, field(row, 1))?)
+fn is_path_answered(alloc: Global, row: &str) -> Result<bool, AllocError> {
+    match at_root(alloc, field(row, 2).as_bytes()) {
+        Ok(first) => {
+            let is_so = is_first_answered(alloc, &first, row);
+            drop(first);
+            is_so
+        }
+        Err(_) => Ok(false),
+    }
 }
 
 fn part_named(name: &str) -> PathPart {
@@ -230,33 +249,19 @@ fn part_named(name: &str) -> PathPart {
     }
 }
 
-fn is_part(alloc: Global, row: &str) -> Result<bool, PathError> {
-    let found = part(alloc, field(row, 2).as_bytes(), part_named(field(row, 3)))?;
-    Ok(found.as_bytes() == field(row, 1).as_bytes())
+fn is_of_system(alloc: Global, row: &str) -> Result<bool, AllocError> {
+    is_shown(alloc, is_system(field(row, 2).as_bytes()), field(row, 1))
 }
 
-fn is_answered(alloc: Global, row: &str) -> Result<bool, PathError> {
+/// Whether a call answers what its row expects.
+pub(crate) fn is_answered(alloc: Global, row: &str) -> Result<bool, AllocError> {
     match field(row, 0) {
-        "resolve" => is_resolved(alloc, row),
         "resolve_bytes" => are_bytes_resolved(alloc, row),
-        "path_meant" => is_meant(alloc, row),
-        "rebase" => is_rebased(alloc, row),
-        "seen_from" => is_seen(alloc, row),
-        "directory" => is_directory_of(alloc, row),
-        "to_directory" => is_as_directory(alloc, row),
-        "is_below" => is_below(alloc, row),
-        "obj_directory" => are_objects(alloc, row),
-        "gen_directory" => are_generated(alloc, row),
         "is_system" => is_of_system(alloc, row),
-        "part" => is_part(alloc, row),
-        _ => Ok(false),
+        "part" => is_text(
+            part(alloc, field(row, 2).as_bytes(), part_named(field(row, 3))),
+            row,
+        ),
+        _ => is_path_answered(alloc, row),
     }
-}
-
-#[test]
-fn calls_on_paths_answer(rt: HostRuntime) -> Result<(), Fail> {
-    for row in CALLS.split_terminator('\x1e') {
-        assert!(rt; is_answered(rt.alloc(), row)?, "at {row}");
-    }
-    Ok(())
 }

@@ -4,8 +4,11 @@
 use std::alloc::{AllocError, Global};
 use std::fmt::Debug;
 
-/// A table of rows that have two to seven literals each, with a semicolon behind each row.
+/// A table of rows that have one to seven literals each, with a semicolon behind each row.
 macro_rules! table {
+    ($($a:literal;)+) => {
+        concat!($($a, "\x1e"),+)
+    };
     ($($a:literal, $b:literal;)+) => {
         concat!($($a, "\x1f", $b, "\x1f\x1e"),+)
     };

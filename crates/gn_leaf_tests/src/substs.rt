@@ -55,48 +55,62 @@ fn given(position: Position, texts: Texts) -> Option<Given> {
 
 fn copied(alloc: Global, text: &str, position: Position) -> Result<Subst, Fail> {
     let subst = Subst::read(alloc, text.as_bytes(), position)?;
-    Ok(subst.copy(alloc)?)
+    let copied = subst.copy(alloc);
+    drop(subst);
+    Ok(copied?)
 }
 
 fn becomes(alloc: Global, subst: &Subst, given: &Given, wanted: &str) -> Result<bool, AllocError> {
     let text = subst.expand(alloc, given)?;
-    Ok(text.as_bytes() == wanted.as_bytes())
+    let is_so = text.as_bytes() == wanted.as_bytes();
+    drop(text);
+    Ok(is_so)
 }
 
-// A position, the texts of its names, parted by bars, a text, and what it becomes.
-const EXPANDED: &str = table! {
+/// A position, the texts of its names, parted by bars, a text, and what it becomes.
+pub(crate) const EXPANDED: &str = table! {
     "ToolOutputs", "||main||||||.|||||||", "{{output_dir}}/{{source_name_part}}.o", "./main.o";
     "ToolOutputs", "||main||||||.|||||||", "}}a{b}", "}}a{b}";
     "ToolOutputs", "||main||||||.|||||||", "{{source_name_part}}}{{source_dir}}", "main}";
     "CopyOutputs", "s|||||||", "{{source}}}}", "s}}";
 };
 
-fn expands(alloc: Global, row: &str, position: Position) -> Result<bool, Fail> {
-    let Some(given) = given(position, texts(alloc, field(row, 1))?) else {
-        return Ok(false);
-    };
-    let subst = copied(alloc, field(row, 2), position)?;
-    Ok(becomes(alloc, &subst, &given, field(row, 3))?)
+// Whether a text at a position becomes what is wanted.
+fn is_text_so(
+    alloc: Global,
+    text: &str,
+    position: Position,
+    given: &Given,
+    wanted: &str,
+) -> Result<bool, Fail> {
+    let subst = copied(alloc, text, position)?;
+    let is_so = becomes(alloc, &subst, given, wanted);
+    drop(subst);
+    Ok(is_so?)
 }
 
-fn is_expanded(alloc: Global, row: &str) -> Result<bool, Fail> {
+fn expands(alloc: Global, row: &str, position: Position) -> Result<bool, Fail> {
+    match given(position, texts(alloc, field(row, 1))?) {
+        Some(given) => {
+            let is_so = is_text_so(alloc, field(row, 2), position, &given, field(row, 3));
+            drop(given);
+            is_so
+        }
+        None => Ok(false),
+    }
+}
+
+/// Whether the text of a row becomes what it expects.
+pub(crate) fn is_expanded(alloc: Global, row: &str) -> Result<bool, Fail> {
     match position_named(alloc, field(row, 0))? {
         Some(position) => expands(alloc, row, position),
         None => Ok(false),
     }
 }
 
-#[test]
-fn texts_become_what_is_given(rt: HostRuntime) -> Result<(), Fail> {
-    for row in EXPANDED.split_terminator('\x1e') {
-        assert!(rt; is_expanded(rt.alloc(), row)?, "at {row}");
-    }
-    Ok(())
-}
-
-// A position, a source, the directory of its target, a text, and what it becomes where the build directory is `//out`
-// and the toolchain's output directory `//out/t`.
-const OF_SOURCES: &str = table! {
+/// A position, a source, the directory of its target, a text, and what it becomes where the build directory is `//out`
+/// and the toolchain's output directory `//out/t`.
+pub(crate) const OF_SOURCES: &str = table! {
     "ForeachOutputs", "//a/b.c.d", "//a", "{{source}}|{{source_file_part}}|{{source_name_part}}", "//a/b.c.d|b.c.d|b.c";
     "ForeachOutputs", "//a/b.c.d", "//a", "{{source_dir}}|{{source_root_relative_dir}}|{{source_target_relative}}", "//a|a|b.c.d";
     "ForeachOutputs", "//a/b.c.d", "//a", "{{source_gen_dir}}|{{source_out_dir}}", "//out/t/gen/a|//out/t/obj/a";
@@ -146,49 +160,40 @@ fn given_of_row(alloc: Global, row: &str, position: Position) -> Result<Given, P
 
 fn stands_for(alloc: Global, row: &str, position: Position) -> Result<bool, Fail> {
     let given = given_of_row(alloc, row, position)?;
-    let subst = copied(alloc, field(row, 3), position)?;
-    Ok(becomes(alloc, &subst, &given, field(row, 4))?)
+    let is_so = is_text_so(alloc, field(row, 3), position, &given, field(row, 4));
+    drop(given);
+    is_so
 }
 
-fn is_of_source(alloc: Global, row: &str) -> Result<bool, Fail> {
+/// Whether the text of a row becomes what it expects for its source.
+pub(crate) fn is_of_source(alloc: Global, row: &str) -> Result<bool, Fail> {
     match position_named(alloc, field(row, 0))? {
         Some(position) => stands_for(alloc, row, position),
         None => Ok(false),
     }
 }
 
-#[test]
-fn sources_have_their_texts(rt: HostRuntime) -> Result<(), Fail> {
-    for row in OF_SOURCES.split_terminator('\x1e') {
-        assert!(rt; is_of_source(rt.alloc(), row)?, "at {row}");
-    }
-    Ok(())
-}
-
-// A text of a tool, and what a Ninja file has for it.
-const TOOL_TEXTS: &str = table! {
+/// A text of a tool, and what a Ninja file has for it.
+pub(crate) const TOOL_TEXTS: &str = table! {
     " gcc $x {{defines}} {{source}} -o {{output}}", "$ gcc $$x ${defines} ${in} -o ${out}";
     "{{cflags}} a$", "${cflags} a$$";
     " a", "$ a";
     "{{inputs}}{{inputs_newline}}{{label}}", "${in}${in_newline}${label}";
 };
 
-fn has_variables(alloc: Global, row: &str) -> Result<bool, Fail> {
+/// Whether a Ninja file has what the row expects for its text of a tool.
+pub(crate) fn has_variables(alloc: Global, row: &str) -> Result<bool, Fail> {
     let subst = copied(alloc, field(row, 0), Position::ToolText)?;
-    let text = subst.tool_text(alloc)?;
-    Ok(text.as_bytes() == field(row, 1).as_bytes())
+    let text = subst.tool_text(alloc);
+    drop(subst);
+    let text = text?;
+    let is_so = text.as_bytes() == field(row, 1).as_bytes();
+    drop(text);
+    Ok(is_so)
 }
 
-#[test]
-fn tools_have_variables(rt: HostRuntime) -> Result<(), Fail> {
-    for row in TOOL_TEXTS.split_terminator('\x1e') {
-        assert!(rt; has_variables(rt.alloc(), row)?, "at {row}");
-    }
-    Ok(())
-}
-
-// A text, where it stands, and the offset of what is unknown there.
-const REFUSED: &str = table! {
+/// A text, where it stands, and the offset of what is unknown there.
+pub(crate) const REFUSED: &str = table! {
     "a{{x}}", "ToolText", 1;
     "{{{{source}}", "ToolText", 0;
     "{{source}}{{ source }}{{x}}", "CopyOutputs", 10;
@@ -205,17 +210,10 @@ fn refuses(alloc: Global, text: &str, position: Position, wanted: usize) -> bool
     }
 }
 
-fn is_refused(alloc: Global, row: &str) -> Result<bool, AllocError> {
+/// Whether the text of a row is refused at its offset.
+pub(crate) fn is_refused(alloc: Global, row: &str) -> Result<bool, AllocError> {
     match position_named(alloc, field(row, 1))? {
         Some(position) => Ok(refuses(alloc, field(row, 0), position, number(row, 2))),
         None => Ok(false),
     }
-}
-
-#[test]
-fn bad_texts_are_refused(rt: HostRuntime) -> Result<(), Fail> {
-    for row in REFUSED.split_terminator('\x1e') {
-        assert!(rt; is_refused(rt.alloc(), row)?, "at {row}");
-    }
-    Ok(())
 }

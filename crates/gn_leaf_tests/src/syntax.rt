@@ -1,12 +1,12 @@
 // What no clause says: that the definitions mean what the language says, and that the stack is large enough. Offsets,
 // places and counts are counted by hand.
 
-mod expressions;
-mod files;
-mod nesting;
-mod places;
-mod sizes;
-mod trees;
+pub(crate) mod expressions;
+pub(crate) mod files;
+pub(crate) mod nesting;
+pub(crate) mod places;
+pub(crate) mod sizes;
+pub(crate) mod trees;
 
 use crate::rows::is_shown;
 use gn_syntax::{SyntaxError, parse};

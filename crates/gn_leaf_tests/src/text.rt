@@ -3,7 +3,6 @@
 use crate::rows::{field, number, table};
 use gn_text::{Names, decimal, quote};
 use std::alloc::{AllocError, Global};
-use std::test::Fail;
 
 // A name, and the number that it has once the names before it have theirs.
 const INTERNED: &str = table! {
@@ -38,50 +37,40 @@ fn are_known(names: &Names) -> bool {
         && names.name(4).is_none()
 }
 
-fn have_numbers(alloc: Global) -> Result<bool, AllocError> {
+/// Whether names have the numbers that their table expects.
+pub(crate) fn have_numbers(alloc: Global) -> Result<bool, AllocError> {
     let mut names = Names::new(alloc);
     let is_empty = names.name(0).is_none();
-    let interned = are_interned(&mut names)?;
-    Ok(is_empty && interned && are_known(&names))
+    let interned = are_interned(&mut names);
+    let are_known = are_known(&names);
+    drop(names);
+    Ok(is_empty && are_known && interned?)
 }
 
-#[test]
-fn names_have_numbers(rt: HostRuntime) -> Result<(), Fail> {
-    assert!(rt; have_numbers(rt.alloc())?);
-    Ok(())
-}
-
-const QUOTED: &str = table! {
+/// Texts as they are quoted.
+pub(crate) const QUOTED: &str = table! {
     "q\"", "\"q\\\"\"";
     "", "\"\"";
     "a$b\\c", "\"a\\$b\\\\c\"";
 };
 
-fn is_quoted(alloc: Global, row: &str) -> Result<bool, AllocError> {
+/// Whether the text of a row is quoted so.
+pub(crate) fn is_quoted(alloc: Global, row: &str) -> Result<bool, AllocError> {
     let quoted = quote(alloc, field(row, 0).as_bytes())?;
     Ok(quoted.as_slice() == field(row, 1).as_bytes())
 }
 
-#[test]
-fn texts_are_quoted(rt: HostRuntime) -> Result<(), Fail> {
-    for row in QUOTED.split_terminator('\x1e') {
-        assert!(rt; is_quoted(rt.alloc(), row)?, "at {row}");
-    }
-    Ok(())
-}
+/// Numbers as they are written.
+pub(crate) const DECIMALS: &str = table! {
+    0;
+    7;
+    "-10";
+    "-9223372036854775808";
+    9223372036854775807;
+};
 
-// Numbers as they are written.
-const DECIMALS: &str = "0 7 -10 -9223372036854775808 9223372036854775807";
-
-fn is_written(alloc: Global, text: &str) -> Result<bool, AllocError> {
+/// Whether a number is written so.
+pub(crate) fn is_written(alloc: Global, text: &str) -> Result<bool, AllocError> {
     let written = decimal(alloc, text.parse::<i64>().unwrap_or(1))?;
     Ok(written.as_slice() == text.as_bytes())
-}
-
-#[test]
-fn numbers_are_written(rt: HostRuntime) -> Result<(), Fail> {
-    for text in DECIMALS.split_whitespace() {
-        assert!(rt; is_written(rt.alloc(), text)?, "at {text}");
-    }
-    Ok(())
 }

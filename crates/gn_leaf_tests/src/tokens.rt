@@ -3,10 +3,9 @@
 use crate::rows::{bytes_of, field, is_shown, table};
 use gn_tokens::{Token, TokenError, TokenKind, Tokens, integer_value};
 use std::alloc::{AllocError, Global};
-use std::test::Fail;
 
-// A file, its tokens with their places, and the error that ends them. Each character stands for the byte of its number.
-const FILES: &str = table! {
+/// A file, its tokens with their places, and the error that ends them. Each character stands for the byte of its number.
+pub(crate) const FILES: &str = table! {
     "", "", "";
     "y = a -1", "Identifier 0 1|Assign 2 3|Identifier 4 5|Integer 6 8|", "";
     "a--1", "Identifier 0 1|Minus 1 2|Integer 2 4|", "";
@@ -74,52 +73,42 @@ fn has_tokens(alloc: Global, bytes: &[u8], row: &str) -> Result<bool, AllocError
     )
 }
 
-fn is_cut(alloc: Global, row: &str) -> Result<bool, AllocError> {
+/// Whether the file of a row is cut into its tokens.
+pub(crate) fn is_cut(alloc: Global, row: &str) -> Result<bool, AllocError> {
     let bytes = bytes_of(alloc, field(row, 0))?;
     has_tokens(alloc, &bytes, row)
 }
 
-#[test]
-fn files_are_cut_into_tokens(rt: HostRuntime) -> Result<(), Fail> {
-    for row in FILES.split_terminator('\x1e') {
-        assert!(rt; is_cut(rt.alloc(), row)?, "at {row}");
-    }
-    Ok(())
-}
+/// Strings with one `$` at the front that is no expansion.
+pub(crate) const BAD_DOLLARS: &str = table! {
+    "\"$if\"";
+    "\"${true}\"";
+    "\"${a.if}\"";
+    "\"${a[if]}\"";
+    "\"${ a }\"";
+    "\"${a[0 ]}\"";
+    "\"${a.b.c}\"";
+    "\"${}\"";
+    "\"${a[01]}\"";
+    "\"${a[-0]}\"";
+    "\"${a[9223372036854775808]}\"";
+    "\"$0x4\"";
+    "\"$1\"";
+    "\"${a\"";
+};
 
-// Strings with one `$` at the front that is no expansion, one a line.
-const BAD_DOLLARS: &str = concat!(
-    "\"$if\"\n",
-    "\"${true}\"\n",
-    "\"${a.if}\"\n",
-    "\"${a[if]}\"\n",
-    "\"${ a }\"\n",
-    "\"${a[0 ]}\"\n",
-    "\"${a.b.c}\"\n",
-    "\"${}\"\n",
-    "\"${a[01]}\"\n",
-    "\"${a[-0]}\"\n",
-    "\"${a[9223372036854775808]}\"\n",
-    "\"$0x4\"\n",
-    "\"$1\"\n",
-    "\"${a\"\n",
-);
-
-fn is_bad_dollar(text: &[u8]) -> bool {
-    let mut tokens = Tokens::new(text);
+/// Whether a text is refused at its `$`.
+pub(crate) fn is_bad_dollar(text: &str) -> bool {
+    let mut tokens = Tokens::new(text.as_bytes());
     tokens.next() == Err(TokenError::BadDollar(1))
 }
 
-#[test]
-fn what_is_no_expansion_is_refused(rt: HostRuntime) -> Result<(), Fail> {
-    for text in BAD_DOLLARS.split_terminator('\n') {
-        assert!(rt; is_bad_dollar(text.as_bytes()), "at {text}");
-    }
-    Ok(())
-}
-
-// Integers, one a line.
-const INTEGERS: &str = " -17 \n9223372036854775807\n-9223372036854775808\n";
+/// Integers.
+pub(crate) const INTEGERS: &str = table! {
+    " -17 ";
+    9223372036854775807;
+    "-9223372036854775808";
+};
 
 // The integer at the front.
 fn first_integer(text: &[u8]) -> Option<i64> {
@@ -138,14 +127,7 @@ fn first_integer(text: &[u8]) -> Option<i64> {
     }
 }
 
-fn has_value(text: &str) -> bool {
+/// Whether a text is an integer that has its value.
+pub(crate) fn has_value(text: &str) -> bool {
     first_integer(text.as_bytes()) == text.trim().parse::<i64>().ok()
-}
-
-#[test]
-fn integers_have_values(rt: HostRuntime) -> Result<(), Fail> {
-    for text in INTEGERS.split_terminator('\n') {
-        assert!(rt; has_value(text), "at {text}");
-    }
-    Ok(())
 }

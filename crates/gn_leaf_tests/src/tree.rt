@@ -1,10 +1,10 @@
 // Trees are shared, looked at and dropped. The parser makes them, by the calls of the tree.
 
+use crate::rows::table;
 use crate::syntax::push_deepest_left;
 use gn_syntax::{Parsed, parse, parse_expr};
 use gn_tree::{Block, Call, Condition, Otherwise, Position, Statement};
 use std::alloc::{AllocError, Global};
-use std::test::Fail;
 
 fn is_sent<T: Send + Sync>(_value: &T) -> bool {
     true
@@ -43,34 +43,29 @@ fn stays_whole(parsed: Parsed) -> Result<bool, AllocError> {
     Ok(is_sent(&block) && is_whole(&block))
 }
 
-fn is_shared(alloc: Global) -> Result<bool, AllocError> {
+/// Whether a block stays whole where its file is let go.
+pub(crate) fn is_shared(alloc: Global) -> Result<bool, AllocError> {
     match parse(alloc, b"a = a if (a) { } else if (a) { } a(a) { }") {
         Ok(parsed) => stays_whole(parsed),
         Err(_) => Ok(false),
     }
 }
 
-#[test]
-fn blocks_are_shared(rt: HostRuntime) -> Result<(), Fail> {
-    assert!(rt; is_shared(rt.alloc())?);
-    Ok(())
-}
-
-// An expression of each kind, one a line, whose first token stands in column 4.
-const EXPRESSIONS: &str = concat!(
-    "   a\n",
-    "   1\n",
-    "   \"\"\n",
-    "   true\n",
-    "   a.a\n",
-    "   []\n",
-    "   a(a)\n",
-    "   a[a]\n",
-    "   {}\n",
-    "   (a)\n",
-    "   !a\n",
-    "   a < a\n",
-);
+/// An expression of each kind, whose first token stands in column 4.
+pub(crate) const EXPRESSIONS: &str = table! {
+    "   a";
+    "   1";
+    "   \"\"";
+    "   true";
+    "   a.a";
+    "   []";
+    "   a(a)";
+    "   a[a]";
+    "   {}";
+    "   (a)";
+    "   !a";
+    "   a < a";
+};
 
 // Whether the text is an expression whose first token stands in this column.
 fn begins_in(alloc: Global, text: &[u8], column: u32) -> bool {
@@ -80,22 +75,14 @@ fn begins_in(alloc: Global, text: &[u8], column: u32) -> bool {
     }
 }
 
-#[test]
-fn each_kind_has_a_first_position(rt: HostRuntime) -> Result<(), Fail> {
-    for text in EXPRESSIONS.split_terminator('\n') {
-        assert!(rt; begins_in(rt.alloc(), text.as_bytes(), 4), "at {text}");
-    }
-    Ok(())
+/// Whether the first token of an expression stands in column 4.
+pub(crate) fn begins_in_column_4(alloc: Global, text: &str) -> bool {
+    begins_in(alloc, text.as_bytes(), 4)
 }
 
-fn is_deepest_dropped(alloc: Global) -> Result<bool, AllocError> {
+/// Whether the deepest tree is made and dropped.
+pub(crate) fn is_deepest_dropped(alloc: Global) -> Result<bool, AllocError> {
     let mut bytes = Vec::new(alloc);
     push_deepest_left(&mut bytes)?;
     Ok(begins_in(alloc, &bytes, 1))
-}
-
-#[test]
-fn deepest_tree_is_dropped(rt: HostRuntime) -> Result<(), Fail> {
-    assert!(rt; is_deepest_dropped(rt.alloc())?);
-    Ok(())
 }

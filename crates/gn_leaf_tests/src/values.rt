@@ -5,7 +5,6 @@ use gn_paths::Text;
 use gn_values::{Overrides, Value};
 use std::alloc::{AllocError, Global};
 use std::sync::Arc;
-use std::test::Fail;
 
 fn set(alloc: Global, overrides: &mut Overrides, number: i64) -> Result<(), AllocError> {
     overrides.set(Text::from_bytes(alloc, b"x")?, Value::Int(number))
@@ -18,18 +17,12 @@ fn is_number(value: Option<&Value>, wanted: i64) -> bool {
     }
 }
 
-// Whether a name that was set to 1 and then to 2 has 2.
-fn last_counts(alloc: Global) -> Result<bool, AllocError> {
+/// Whether a name that was set to 1 and then to 2 has 2.
+pub(crate) fn last_counts(alloc: Global) -> Result<bool, AllocError> {
     let mut overrides = Overrides::new(alloc);
     set(alloc, &mut overrides, 1)?;
     set(alloc, &mut overrides, 2)?;
     Ok(is_number(overrides.get(b"x"), 2))
-}
-
-#[test]
-fn the_last_override_counts(rt: HostRuntime) -> Result<(), Fail> {
-    assert!(rt; last_counts(rt.alloc())?);
-    Ok(())
 }
 
 // An execution that made no definitions.
@@ -49,14 +42,9 @@ fn is_taken_out(alloc: Global, others: &MadeBy, execution: &Text) -> Result<bool
     Ok(is_known && known.get(execution).is_none())
 }
 
-fn an_addition_is_taken_out(alloc: Global) -> Result<bool, AllocError> {
+/// Whether what was added is taken out.
+pub(crate) fn an_addition_is_taken_out(alloc: Global) -> Result<bool, AllocError> {
     let execution = Text::from_bytes(alloc, b"L//a")?;
     let others = made_by(alloc, &execution)?;
     is_taken_out(alloc, &others, &execution)
-}
-
-#[test]
-fn what_was_added_is_taken_out(rt: HostRuntime) -> Result<(), Fail> {
-    assert!(rt; an_addition_is_taken_out(rt.alloc())?);
-    Ok(())
 }

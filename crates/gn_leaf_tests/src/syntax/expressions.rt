@@ -5,10 +5,9 @@ use crate::rows::{field, is_shown, number, table};
 use gn_syntax::{SyntaxError, parse_expr};
 use gn_tree::Expr;
 use std::alloc::{AllocError, Global};
-use std::test::Fail;
 
-// An expression, and what stands at its top: its operator, or else its kind.
-const EXPRESSIONS: &str = table! {
+/// An expression, and what stands at its top: its operator, or else its kind.
+pub(crate) const EXPRESSIONS: &str = table! {
     "a", "Name";
     "  # c\n\t-1 # d", "Integer";
     "-9223372036854775808", "Integer";
@@ -56,23 +55,16 @@ fn has_top(alloc: Global, expr: &Expr, wanted: &str) -> Result<bool, AllocError>
     }
 }
 
-fn is_read(alloc: Global, row: &str) -> Result<bool, AllocError> {
+/// Whether an expression has at its top what the row expects.
+pub(crate) fn is_read(alloc: Global, row: &str) -> Result<bool, AllocError> {
     match parse_expr(alloc, field(row, 0).as_bytes()) {
         Ok(expr) => has_top(alloc, expr.get(), field(row, 1)),
         Err(_) => Ok(false),
     }
 }
 
-#[test]
-fn bytes_are_one_expression(rt: HostRuntime) -> Result<(), Fail> {
-    for row in EXPRESSIONS.split_terminator('\x1e') {
-        assert!(rt; is_read(rt.alloc(), row)?, "at {row}");
-    }
-    Ok(())
-}
-
-// What is no expression, and its first error.
-const REFUSED: &str = table! {
+/// What is no expression, and its first error.
+pub(crate) const REFUSED: &str = table! {
     // The end of the bytes stands behind the last one.
     "", "Unexpected(0)";
     "  # a", "Unexpected(5)";
@@ -113,23 +105,16 @@ fn error_of(alloc: Global, bytes: &[u8]) -> Option<SyntaxError> {
     }
 }
 
-fn is_refused(alloc: Global, row: &str) -> Result<bool, AllocError> {
+/// Whether bytes that are no expression have the error of their row.
+pub(crate) fn is_refused(alloc: Global, row: &str) -> Result<bool, AllocError> {
     match error_of(alloc, field(row, 0).as_bytes()) {
         Some(error) => is_shown(alloc, error, field(row, 1)),
         None => Ok(false),
     }
 }
 
-#[test]
-fn bytes_that_are_no_expression_have_their_first_error(rt: HostRuntime) -> Result<(), Fail> {
-    for row in REFUSED.split_terminator('\x1e') {
-        assert!(rt; is_refused(rt.alloc(), row)?, "at {row}");
-    }
-    Ok(())
-}
-
-// What nests 200 times, as in a file, and the offset of the token that is too deep where it nests once more.
-const NESTS: &str = table! {
+/// What nests 200 times, as in a file, and the offset of the token that is too deep where it nests once more.
+pub(crate) const NESTS: &str = table! {
     "", "(", "a", ")", "", 200;
     "", "!", "a", "", "", 200;
     "", "f(", "", ")", "", 401;
@@ -143,16 +128,9 @@ fn error_at(alloc: Global, row: &str, count: usize) -> Result<Option<SyntaxError
     Ok(error_of(alloc, &bytes))
 }
 
-fn is_limited(alloc: Global, row: &str) -> Result<bool, AllocError> {
+/// Whether an expression nests 200 times and no more.
+pub(crate) fn is_limited(alloc: Global, row: &str) -> Result<bool, AllocError> {
     let deepest = error_at(alloc, row, 200)?;
     let deeper = error_at(alloc, row, 201)?;
     Ok(deepest == None && deeper == Some(SyntaxError::TooDeep(number(row, 5))))
-}
-
-#[test]
-fn expressions_nest_200_deep_and_no_deeper(rt: HostRuntime) -> Result<(), Fail> {
-    for row in NESTS.split_terminator('\x1e') {
-        assert!(rt; is_limited(rt.alloc(), row)?, "at {row}");
-    }
-    Ok(())
 }

@@ -3,10 +3,9 @@
 use super::has_error;
 use crate::rows::{field, table};
 use std::alloc::{AllocError, Global};
-use std::test::Fail;
 
-// A file, and its first error, none where it parses.
-const FILES: &str = table! {
+/// A file, and its first error, none where it parses.
+pub(crate) const FILES: &str = table! {
     "", "";
     "a = 1\ny = a - 1\nprint(y, \"${a} $0x41\")\n", "";
     "if (a) { } else if (b.c) { x += [ 1, [ 2, ], ] } else { y[0] = !d }", "";
@@ -53,14 +52,7 @@ const FILES: &str = table! {
     "x = \"$\"", "Token(BadDollar(5))";
 };
 
-fn is_read(alloc: Global, row: &str) -> Result<bool, AllocError> {
+/// Whether a file has the first error of its row, or none.
+pub(crate) fn is_read(alloc: Global, row: &str) -> Result<bool, AllocError> {
     has_error(alloc, field(row, 0).as_bytes(), field(row, 1))
-}
-
-#[test]
-fn files_parse_or_have_their_first_error(rt: HostRuntime) -> Result<(), Fail> {
-    for row in FILES.split_terminator('\x1e') {
-        assert!(rt; is_read(rt.alloc(), row)?, "at {row}");
-    }
-    Ok(())
 }

@@ -4,11 +4,10 @@ use super::{error_of, push_times};
 use crate::rows::{field, number, table};
 use gn_syntax::SyntaxError;
 use std::alloc::{AllocError, Global};
-use std::test::Fail;
 
-// What stands in front, what nests, what stands inside, what closes each one, and what stands behind. Then how often it
-// may nest, and the offset of the token that is too deep where it nests once more.
-const NESTS: &str = table! {
+/// What stands in front, what nests, what stands inside, what closes each one, and what stands behind. Then how often it
+/// may nest, and the offset of the token that is too deep where it nests once more.
+pub(crate) const NESTS: &str = table! {
     // A bracket counts for all that stands inside.
     "x=", "(", "a", ")", "", 200, 202;
     "x=", "[", "", "]", "", 200, 202;
@@ -48,19 +47,12 @@ fn error_at(alloc: Global, row: &str, count: usize) -> Result<Option<SyntaxError
     Ok(error_of(alloc, &bytes))
 }
 
-fn is_limited(alloc: Global, row: &str) -> Result<bool, AllocError> {
+/// Whether a file nests as often as its row expects, and no more.
+pub(crate) fn is_limited(alloc: Global, row: &str) -> Result<bool, AllocError> {
     let count = number(row, 5);
     let deepest = error_at(alloc, row, count)?;
     let deeper = error_at(alloc, row, count.saturating_add(1))?;
     Ok(deepest == None && deeper == Some(SyntaxError::TooDeep(number(row, 6))))
-}
-
-#[test]
-fn nests_200_deep_and_no_deeper(rt: HostRuntime) -> Result<(), Fail> {
-    for row in NESTS.split_terminator('\x1e') {
-        assert!(rt; is_limited(rt.alloc(), row)?, "at {row}");
-    }
-    Ok(())
 }
 
 /// 200 brackets, each the left operand of as many operators as the limit leaves.
@@ -82,13 +74,8 @@ fn are_deepest(alloc: Global, bytes: &mut Vec<u8>) -> Result<bool, AllocError> {
     Ok(deepest == None && deeper == Some(SyntaxError::TooDeep(40603)))
 }
 
-fn stand_deep(alloc: Global) -> Result<bool, AllocError> {
+/// Whether left operands stand 20,100 deep and no deeper.
+pub(crate) fn stand_deep(alloc: Global) -> Result<bool, AllocError> {
     let mut bytes = "x=".as_bytes().to_vec(alloc)?;
     are_deepest(alloc, &mut bytes)
-}
-
-#[test]
-fn left_operands_stand_20100_deep(rt: HostRuntime) -> Result<(), Fail> {
-    assert!(rt; stand_deep(rt.alloc())?);
-    Ok(())
 }

@@ -5,10 +5,9 @@ use crate::rows::{bytes_of, field, is_shown, number, table};
 use gn_syntax::{SyntaxError, place_of};
 use gn_tokens::TokenError;
 use std::alloc::{AllocError, Global};
-use std::test::Fail;
 
-// A file, an offset, and its line and column. Each character stands for the byte of its number, here and in the next table.
-const PLACES: &str = table! {
+/// A file, an offset, and its line and column. Each character stands for the byte of its number, here and in the next table.
+pub(crate) const PLACES: &str = table! {
     "", 0, "(1, 1)";
     "a\nbc", 0, "(1, 1)";
     "a\nbc", 1, "(1, 2)";
@@ -19,8 +18,8 @@ const PLACES: &str = table! {
     "\r\t\u{FF}.", 3, "(1, 4)";
 };
 
-// A file, and the line and column of its first error.
-const ERRORS: &str = table! {
+/// A file, and the line and column of its first error.
+pub(crate) const ERRORS: &str = table! {
     "x = ", "(1, 5)";
     "}", "(1, 1)";
     "a = 1\ny = a -1\nprint(y)\n", "(2, 7)";
@@ -54,17 +53,10 @@ fn has_place(alloc: Global, bytes: &[u8], offset: usize, wanted: &str) -> Result
     is_shown(alloc, place_of(bytes, offset), wanted)
 }
 
-fn is_place(alloc: Global, row: &str) -> Result<bool, AllocError> {
+/// Whether an offset has the line and the column of its row.
+pub(crate) fn is_place(alloc: Global, row: &str) -> Result<bool, AllocError> {
     let bytes = bytes_of(alloc, field(row, 0))?;
     has_place(alloc, &bytes, number(row, 1), field(row, 2))
-}
-
-#[test]
-fn lines_and_columns_count_from_1(rt: HostRuntime) -> Result<(), Fail> {
-    for row in PLACES.split_terminator('\x1e') {
-        assert!(rt; is_place(rt.alloc(), row)?, "at {row}");
-    }
-    Ok(())
 }
 
 fn has_error_at(alloc: Global, bytes: &[u8], wanted: &str) -> Result<bool, AllocError> {
@@ -74,15 +66,8 @@ fn has_error_at(alloc: Global, bytes: &[u8], wanted: &str) -> Result<bool, Alloc
     }
 }
 
-fn is_place_of_error(alloc: Global, row: &str) -> Result<bool, AllocError> {
+/// Whether the first error of a file has the line and the column of its row.
+pub(crate) fn is_place_of_error(alloc: Global, row: &str) -> Result<bool, AllocError> {
     let bytes = bytes_of(alloc, field(row, 0))?;
     has_error_at(alloc, &bytes, field(row, 1))
-}
-
-#[test]
-fn errors_have_places(rt: HostRuntime) -> Result<(), Fail> {
-    for row in ERRORS.split_terminator('\x1e') {
-        assert!(rt; is_place_of_error(rt.alloc(), row)?, "at {row}");
-    }
-    Ok(())
 }

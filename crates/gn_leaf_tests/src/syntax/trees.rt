@@ -5,10 +5,9 @@ use gn_paths::Text;
 use gn_syntax::parse;
 use gn_tree::{Block, Expr, Piece, Position, Statement, Subscript};
 use std::alloc::{AllocError, Global};
-use std::test::Fail;
 
-// A file, the operator at the top of the value, and whether its left and its right operand are operators with operands.
-const GROUPED: &str = table! {
+/// A file, the operator at the top of the value, and whether its left and its right operand are operators with operands.
+pub(crate) const GROUPED: &str = table! {
     "x = a || b && c", "(Or, false, true)";
     "x = a && b || c", "(Or, true, false)";
     "x = a && b == c", "(And, false, true)";
@@ -54,24 +53,17 @@ fn has_grouping(alloc: Global, block: &Block, wanted: &str) -> Result<bool, Allo
     }
 }
 
-fn is_grouped(alloc: Global, row: &str) -> Result<bool, AllocError> {
+/// Whether operators group as the row expects.
+pub(crate) fn is_grouped(alloc: Global, row: &str) -> Result<bool, AllocError> {
     match parse(alloc, field(row, 0).as_bytes()) {
         Ok(parsed) => has_grouping(alloc, parsed.block(), field(row, 1)),
         Err(_) => Ok(false),
     }
 }
 
-#[test]
-fn operators_group_by_priority_and_to_the_left(rt: HostRuntime) -> Result<(), Fail> {
-    for row in GROUPED.split_terminator('\x1e') {
-        assert!(rt; is_grouped(rt.alloc(), row)?, "at {row}");
-    }
-    Ok(())
-}
-
-// A file, and the pieces of its string with a bar behind each: bytes as they are, and an expansion with the line and the
-// column of its `$`. Each character stands for the byte of its number.
-const STRINGS: &str = table! {
+/// A file, and the pieces of its string with a bar behind each: bytes as they are, and an expansion with the line and the
+/// column of its `$`. Each character stands for the byte of its number.
+pub(crate) const STRINGS: &str = table! {
     "x = \"\"", "";
     "x = \"a#b\"", "a#b|";
     // An escape is its second byte, any other backslash is itself.
@@ -168,16 +160,9 @@ fn has_pieces(alloc: Global, file: &[u8], wanted: &[u8]) -> Result<bool, AllocEr
     Ok(shown.as_slice() == wanted)
 }
 
-fn is_cut(alloc: Global, row: &str) -> Result<bool, AllocError> {
+/// Whether a string is cut into the pieces of its row.
+pub(crate) fn is_cut(alloc: Global, row: &str) -> Result<bool, AllocError> {
     let file = bytes_of(alloc, field(row, 0))?;
     let wanted = bytes_of(alloc, field(row, 1))?;
     has_pieces(alloc, &file, &wanted)
-}
-
-#[test]
-fn strings_are_cut_into_pieces(rt: HostRuntime) -> Result<(), Fail> {
-    for row in STRINGS.split_terminator('\x1e') {
-        assert!(rt; is_cut(rt.alloc(), row)?, "at {row}");
-    }
-    Ok(())
 }
