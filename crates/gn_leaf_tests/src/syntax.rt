@@ -5,7 +5,7 @@ pub(crate) mod expressions;
 pub(crate) mod files;
 pub(crate) mod nesting;
 pub(crate) mod places;
-pub(crate) mod sizes;
+mod sizes;
 pub(crate) mod trees;
 
 use crate::rows::is_shown;

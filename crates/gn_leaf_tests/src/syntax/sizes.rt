@@ -3,9 +3,10 @@
 use super::{has_error, push_times};
 use crate::rows::{field, number, table};
 use std::alloc::{AllocError, Global};
+use std::test::Fail;
 
-/// What stands in front, what comes again and again, how often, and what stands behind. Then the first error.
-pub(crate) const LARGE: &str = table! {
+// What stands in front, what comes again and again, how often, and what stands behind. Then the first error.
+const LARGE: &str = table! {
     "", "(", 1048576, "", "Unexpected(0)";
     "", "[", 1048576, "", "Unexpected(0)";
     "", "!", 1048576, "", "Unexpected(0)";
@@ -27,9 +28,16 @@ fn push_large(bytes: &mut Vec<u8>, row: &str) -> Result<(), AllocError> {
     push_times(bytes, field(row, 3), 1)
 }
 
-/// Whether a large file has the first error of its row, or none.
-pub(crate) fn is_read(alloc: Global, row: &str) -> Result<bool, AllocError> {
+fn is_read(alloc: Global, row: &str) -> Result<bool, AllocError> {
     let mut bytes = Vec::new(alloc);
     push_large(&mut bytes, row)?;
     has_error(alloc, &bytes, field(row, 4))
+}
+
+#[test]
+fn large_files_parse_or_have_their_first_error(rt: HostRuntime) -> Result<(), Fail> {
+    for row in LARGE.split_terminator('\x1e') {
+        assert!(rt; is_read(rt.alloc(), row)?, "at {row}");
+    }
+    Ok(())
 }
