@@ -74,10 +74,7 @@ fn find_unit<'a>(book: &'a Book<Answer>, unit: &Key) -> Option<&'a Executed<Opti
 }
 
 // The same of the unit of a number.
-fn unit_at<'a>(
-    book: &'a Book<Answer>,
-    number: KeyId,
-) -> Option<&'a Executed<Option<ImportValue>>>
+fn unit_at<'a>(book: &'a Book<Answer>, number: KeyId) -> Option<&'a Executed<Option<ImportValue>>>
     requires { number < length book.now.keys }
     ensures { option_map (λ executed. run_of unit_left executed.now) result ≡ unit_run ((state_of book.now).filed (key_at book.now number)) }
 {

@@ -21,4 +21,3 @@ returns-in-Import c = λ files rest. ap (λ (k : Key). faults_of_key (world_of f
 
 pub returns-in-Resolve : goal.returns-in-Resolve
 returns-in-Resolve c = λ files rest. ap (λ (k : Key). faults_of_key (world_of files) (key_of k)) c.in-Resolve.is
-
