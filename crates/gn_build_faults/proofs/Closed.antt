@@ -10,19 +10,22 @@ use Rattle.gn_labels.specs.Labels.{label_order, is_before}
 use Rattle.gn_dependencies.specs.Lists.{same_label as same_of_dependencies, has}
 use Rattle.gn_dependencies.specs.Laws.{Reached, itself, onward}
 use Rattle.gn_dependencies.specs.Shape.{all_deps}
-use Rattle.gn_dependencies.proofs.Same.{own}
+use Rattle.gn_dependencies.proofs.Same.{own, same}
 use Rattle.gn_graph_meant.specs.Laws.{ItemsAreEnough}
 use Rattle.gn_items.specs.declared.item.Item.{Item}
 use Rattle.gn_items.specs.Effects.{same_label, item_at}
 use Rattle.gn_labelled.specs.Graphs.{shape_of, or_false}
 use Rattle.gn_labelled.specs.Index.{place_of}
-use Rattle.gn_labelled.proofs.Behind.{label_is}
+use Rattle.gn_labelled.specs.Listed.{same_tie}
 use Rattle.gn_resolved_meant.specs.Laws.{IsClosed, IsReachedFrom, AreTheReached}
 use Rattle.gn_build_faults.specs.Reaching.{labels_in, targets_of}
 use Rattle.gn_build_faults.specs.Settling.{dependencies_at}
 use Rattle.gn_build_faults.specs.Whole.{rises_from, rises, with_mark, with_marks, has_mark, have_marks, are_closed}
 use Rattle.gn_build_faults.proofs.Listed.{others_have_nothing}
 use Rattle.gn_build_faults.proofs.Marked.{set_one, read_true, each}
+
+label_is : (a b : Label) → same_label a b ≡ true → a ≡ b
+label_is a b h = same a b (sym (same_tie a b) ∙ h)
 
 -- Label order
 

@@ -1,5 +1,5 @@
 -- Marks at the places of items that reach no cycle.
-use Rattle.std.proofs.Common.{◌≡◌, ◌⊎◌, inl, inr, ℕ, zero, suc, ◌≤◌, List, [], ◌∷◌, ◌++◌, Bool, true, false, ◌||◌, ◌&&◌, if◌then◌else◌, Option, Some, None, slice_get, slice_set, length, take, replicate, refl, sym, ◌∙◌, ap, subst, arith}
+use Rattle.std.proofs.Common.{◌≡◌, ◌⊎◌, inl, inr, ℕ, zero, suc, ◌≤◌, List, [], ◌∷◌, ◌++◌, Bool, true, false, ◌||◌, ◌&&◌, if◌then◌else◌, Option, Some, None, option_map, cond, slice_get, slice_set, length, take, replicate, refl, sym, ◌∙◌, ap, subst, arith}
 use Rattle.std.specs.List.{list_all}
 use Rattle.std.proofs.lemmas.List.Folds.{list_all-append}
 use Rattle.std.proofs.lemmas.Bool.{and_parts}
@@ -9,12 +9,21 @@ use Rattle.gn_dependencies.specs.Shape.{EndsWithin}
 use Rattle.gn_dependencies.proofs.Same.{same}
 use Rattle.gn_dependencies.proofs.Merge.{common_depth}
 use Rattle.gn_items.specs.declared.item.Item.{Item}
-use Rattle.gn_items.specs.Effects.{item_at}
+use Rattle.gn_items.specs.Effects.{same_label as is_its_label, item_at}
 use Rattle.gn_labelled.specs.Graphs.{shape_of, or_false}
 use Rattle.gn_labelled.specs.Index.{place_of, item_in}
-use Rattle.gn_labelled.proofs.Indexing.{placed}
 use Rattle.gn_cycles.specs.Settled.{AreSettled}
 use Rattle.gn_build_faults.specs.Settling.{is_marked, is_settled, dependencies_at, AreMarked}
+
+-- the item at the place of a label is the first that has it
+placed : (q : Label) (items : List Item) → item_in items (place_of q items) ≡ item_at q items
+placed q [] = refl
+placed q (x ∷ items) = by (is_its_label q x.label) (place_of q items) (placed q items)
+  where
+    by : (b : Bool) (r : Option ℕ) → item_in items r ≡ item_at q items → item_in (x ∷ items) (cond b (Some zero) (option_map suc r)) ≡ cond b (Some x) (item_at q items)
+    by true r e = refl
+    by false None e = e
+    by false (Some n) e = e
 
 pub all_of_three : (p : Label → Bool) (xs ys zs : List Label) → list_all p ((xs ++ ys) ++ zs) ≡ (list_all p xs && (list_all p ys && list_all p zs))
 all_of_three p xs ys zs = list_all-append p (xs ++ ys) zs ∙ ap (λ b. b && list_all p zs) (list_all-append p xs ys) ∙ joined (list_all p xs) (list_all p ys) (list_all p zs)
