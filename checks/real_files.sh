@@ -208,6 +208,39 @@ puts "a named pipe in a file's place" "./obj/a.ninja"
 echo >>"$file" && echo left >"$folder/puts/out/obj/.gn-new"
 puts "what a stopped run has left" "./obj/a.ninja"
 
+# Of 400 files one can't be put: those before it stand whole, none behind it does, nothing is left beside, and no text was said.
+many() {
+  project "$1"
+  mkdir -p "$folder/$1/out/obj" "$folder/$1/g2"
+  for each in {000..399}; do
+    printf 'group("g%s") {\n}\n' "$each"
+  done >"$folder/$1/BUILD.gn"
+  printf 'group("x") {\n}\n' >"$folder/$1/g2/BUILD.gn"
+  printf 'group("all") {\n  deps = [ "//g2:x" ]\n}\n' >>"$folder/$1/BUILD.gn"
+}
+many every
+run "$folder/every" gen out
+expect "many files" 0 $'Done. Made 402 targets from 3 files\n'
+
+# stops NAME FOLDER LAST: runs `gen`, which ends with status 4 behind the last file that can be put
+stops() {
+  run "$folder/$2" gen out
+  out=$out$(cd "$folder/$2/out" && find . -type f ! -empty | LC_ALL=C sort)
+  for each in $(cd "$folder/$2/out" && find . -type f ! -empty); do
+    cmp "$folder/$2/out/$each" "$folder/every/out/$each" >/dev/null 2>&1 || out="$out"$'\n'"$each isn't whole"
+  done
+  expect "$1" 4 "$(cd "$folder/every/out" && find . -type f | LC_ALL=C sort | sed "/^${3//\//\\/}\$/q")"
+}
+
+many taken && mkdir "$folder/taken/out/obj/g300.ninja"
+stops "a folder in the place of one of many files" taken ./obj/g299.ninja
+many closed_off && : >"$folder/closed_off/out/obj/g2"
+stops "an empty file in the place of a folder among many files" closed_off ./obj/g199.ninja
+rmdir "$folder/taken/out/obj/g300.ninja"
+run "$folder/taken" gen out
+out=$out$(diff -r "$folder/taken/out" "$folder/every/out")
+expect "a run behind one that stopped among its files" 0 $'Done. Made 402 targets from 3 files\n'
+
 # Permissions bind everyone but root, so these run as nobody where that can be had.
 if [ "$(id -u)" -eq 0 ] && command -v setpriv >/dev/null 2>&1; then
   project closed
