@@ -14,5 +14,6 @@ mod KnownAhead
 mod RebasedDriver
 mod AheadEnds
 mod RoundLemmas
+mod OwnLemmas
 mod FoundLemmas
 mod ExecutedLemmas

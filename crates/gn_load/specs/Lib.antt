@@ -6,4 +6,5 @@ pub mod Ends
 pub mod Plain
 pub mod Rounds
 pub mod Executed
+pub mod Own
 pub mod Found

@@ -127,8 +127,8 @@ pub(crate) fn settle(
     Ok(driver.waiting.pop_front())
 }
 
-// The path of a read.
-fn path_of(key: Key) -> Path
+/// The path of a read.
+pub(crate) fn path_of(key: Key) -> Path
     requires { (path : List ℕ) × (key_of key ≡ Read path) }
     ensures { key_of key ≡ Read result }
 {
@@ -263,8 +263,8 @@ fn need_content<S: Source>(
     }
 }
 
-// The same, and then the claim goes on.
-fn need_file<S: Source>(
+/// The first claim needs what there is at a path, which is read, and then it goes on.
+pub(crate) fn need_file<S: Source>(
     alloc: Global,
     driver: &mut Driver,
     claim: Claim,

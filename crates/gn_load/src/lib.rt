@@ -6,6 +6,7 @@ mod current;
 mod driver;
 mod executed;
 mod found;
+mod own_file;
 mod plain;
 mod ready;
 mod round;
