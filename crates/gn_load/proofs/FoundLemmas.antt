@@ -5,6 +5,8 @@ use Rattle.gn_outside.specs.Tree.{Tree, read_of}
 use Rattle.gn_outside.specs.States.{SourceState}
 use Rattle.gn_outside.specs.Lists.{Each}
 use Rattle.gn_closure.specs.Closure.{In}
+use Rattle.gn_runs.specs.Runs.{content_of}
+use Rattle.gn_executions.specs.Units.{own_place}
 use Rattle.gn_projects.specs.Files.{content_in}
 use Rattle.gn_core.specs.Machine.{read_limit}
 use Rattle.gn_items.specs.declared.key.Key.{Key as Named}
@@ -21,14 +23,11 @@ use Rattle.gn_book.specs.Next.{IsReadyNumber}
 use Rattle.gn_book.specs.Tasks.{is_task}
 use Rattle.gn_projects.specs.Loaded.{is_build_file}
 use Rattle.gn_builds.specs.Driving.{IsOfLayer}
-use Rattle.gn_perform.specs.Performing.{IsPerformedOver}
-use Rattle.gn_perform.specs.declared.work.Performed.{Performed}
-use Rattle.gn_perform.specs.declared.work.Performed.TheVariants.{Answered, Needs}
 use Rattle.gn_answers.specs.declared.answer.FileContent.{FileContent}
 use Rattle.gn_builds.specs.Working.{IsInNeed}
-use Rattle.gn_perform.specs.Kept.{asked_so_far, asked_for}
-use Rattle.gn_load.specs.Current.{layer_now, base_now, IsCurrent}
+use Rattle.gn_load.specs.Current.{layer_now}
 use Rattle.gn_load.specs.Turns.{Goes}
+use Rattle.gn_load.specs.Own.{NeedsOwn}
 use Rattle.gn_load.specs.Rebased.{IsRebased}
 use Rattle.gn_load.specs.Ahead.{IsStopAhead}
 use Rattle.gn_load.specs.Rounds.{IsWanted, HasFound, FindsFiles}
@@ -40,7 +39,6 @@ use Rattle.gn_load.specs.declared.driver.Stop.TheVariants.{Failed, Memory}
 use Rattle.gn_load.proofs.RebasedDriver.{rebased_memory, asked_ahead, not_numbered, ahead_fails, ahead_lost, ahead_then_lost, ahead_read}
 use Rattle.gn_prepared.specs.declared.wanted.Wanted.{Wanted}
 use Rattle.gn_load.specs.declared.driver.Driver.{Driver}
-use Rattle.gn_load.proofs.CurrentLemmas.{base_for_key}
 
 each_more : {X : Type 0} (P : X → Type 0) (xs : List X) (x : X) → Each P xs → P x → Each P (xs ++ x ∷ [])
 each_more P [] x each here = (here, tt)
@@ -67,19 +65,16 @@ open_ready known before now d goes n number file unfiled = record {
     none (Some seat) e = absurd ((goes.going.driven.stacked.alone (key_at d.book n) seat e).1)
 
 -- what the work needs first
-pub first_found : (d : Driver) (k : Key) → IsCurrent d.base (state_of d.book).filed → IsOfLayer (layer_now d.base) k → (done : Performed) → IsPerformedOver (base_now d.base) (state_of d.book).filed k done
-    → (found : Option (List ℕ)) → NeedsUnknown d.known.entries done found → FindsPath d k found
-first_found d k current layer done performed None needs = tt
-first_found d k current layer (Answered filed) performed (Some path) needs = absurd needs.0
-first_found d k current layer (Needs on place kept) performed (Some path) needs =
-    let is = performed d.base.start (base_for_key d.base (state_of d.book).filed k current layer) in
-    record {
-      layer = layer;
-      place = place;
-      asked = asked_for (key_of on) (asked_so_far kept);
-      need = subst (λ (q : Key). IsInNeed d.base.start (state_of d.book).filed k q place (asked_for (key_of on) (asked_so_far kept))) needs.0 is.0;
-      none = needs.1;
-    }
+pub first_found : (d : Driver) (k : Key) → IsOfLayer (layer_now d.base) k → (needed : Option (List ℕ)) → NeedsOwn (state_of d.book).filed k needed
+    → (found : Option (List ℕ)) → NeedsUnknown d.known.entries needed found → FindsPath d k found
+first_found d k layer needed own None needs = tt
+first_found d k layer needed own (Some path) needs = record {
+  layer = layer;
+  place = own_place path;
+  asked = content_of path ∷ [];
+  need = (subst (NeedsOwn (state_of d.book).filed k) needs.0 own) d.base.start;
+  none = needs.1;
+}
 
 -- The file of a build file is read ahead
 module _ (known : List (List ℕ)) (before now next : SourceState) (old : Driver) (total n : ℕ) (name : Named) (path : List ℕ) (is : IsRebased known before now old [] total) (numbers : UnitsHaveNumbers old.book) (wanted : IsWantedAt old n name path) where

@@ -11,8 +11,6 @@ use Rattle.gn_book.specs.Next.{IsReadyNumber}
 use Rattle.gn_items.specs.declared.key.Key.{Key as Named}
 use Rattle.gn_builds.specs.Working.{IsInNeed}
 use Rattle.gn_builds.specs.Driving.{IsOfLayer}
-use Rattle.gn_perform.specs.declared.work.Performed.{Performed}
-use Rattle.gn_perform.specs.declared.work.Performed.TheVariants.{Answered, Needs}
 use Rattle.gn_answers.specs.declared.answer.FileContent.{FileContent}
 use Rattle.gn_load.specs.Current.{layer_now}
 use Rattle.gn_load.specs.Ahead.{IsStopAhead}
@@ -23,15 +21,10 @@ use Rattle.gn_load.specs.declared.driver.Driver.{Driver}
 use Rattle.gn_load.specs.declared.driver.Stop.{Stop}
 use Rattle.gn_load.specs.declared.found.Found.{Found}
 
--- the work needs what there is at this path
-abbrev pub NeedsRead : Performed → List ℕ → Type 0
-NeedsRead (Answered filed) path = ⊥
-NeedsRead (Needs on place kept) path = key_of on ≡ Read path
-
--- and nothing is known of it
-abbrev pub NeedsUnknown : List (List ℕ × FileContent) → Performed → Option (List ℕ) → Type 0
-NeedsUnknown known done None = Unit {0}
-NeedsUnknown known done (Some path) = NeedsRead done path × (at_name path known ≡ None)
+-- this path is needed, and nothing is known of it
+abbrev pub NeedsUnknown : List (List ℕ × FileContent) → Option (List ℕ) → Option (List ℕ) → Type 0
+NeedsUnknown known needed None = Unit {0}
+NeedsUnknown known needed (Some path) = (needed ≡ Some path) × (at_name path known ≡ None)
 
 -- the work on a key of the layer of the driver's base needs this path first, of which nothing is known
 pub record IsFirstPath (d : Driver) (k : Key) (path : List ℕ) : Type 0 where

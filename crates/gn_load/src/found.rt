@@ -1,11 +1,10 @@
 // Build files that may be claimed are read ahead.
 
-ghost use Rattle.std.specs.Prelude.{◌≡◌, ◌<◌, option_map, ◌≤◌, ◌+◌, ◌∷◌, ◌++◌, ℕ, List, [], Some, None, IfOk, IfSome, OnOk, length, true};
+ghost use Rattle.std.specs.Prelude.{◌≡◌, ◌<◌, option_map, ◌≤◌, ◌+◌, ◌∷◌, ◌++◌, ℕ, List, [], Some, None, IfOk, OnOk, length, true};
 ghost use Rattle.gn_outside.specs.Tree.{Tree, read_of};
 ghost use Rattle.gn_outside.specs.States.{SourceState};
 ghost use Rattle.gn_outside.specs.Lists.{Each};
-ghost use Rattle.gn_values.specs.Tables.{at_name, with_name};
-ghost use Rattle.gn_core.specs.Keys.{Read};
+ghost use Rattle.gn_values.specs.Tables.{with_name};
 ghost use Rattle.gn_core.specs.Machine.{read_limit};
 ghost use Rattle.gn_book.specs.Graphs.{UnitsHaveNumbers};
 ghost use Rattle.gn_book.specs.Keys.{key_of};
@@ -14,20 +13,20 @@ ghost use Rattle.gn_book.specs.Next.{IsReadyNumber};
 ghost use Rattle.gn_projects.specs.Loaded.{is_build_file};
 ghost use Rattle.gn_builds.specs.Driving.{IsOfLayer};
 ghost use Rattle.gn_answers.specs.Answers.{content_view};
-ghost use Rattle.gn_load.specs.Current.{IsCurrent, layer_now};
+ghost use Rattle.gn_load.specs.Current.{layer_now};
 ghost use Rattle.gn_load.specs.Turns.{Goes};
 ghost use Rattle.gn_load.specs.Rebased.{IsRebased};
 ghost use Rattle.gn_load.specs.Found.{NeedsUnknown, FindsPath, WantsAt, IsWantedAt, KeepsRead, ReadsOne, FindsAt};
 ghost use Rattle.gn_load.specs.Rounds.{IsWanted, FindsFiles};
 
 use crate::driver::{Driver, MAX_PATHS, Stop};
+use crate::own_file::own_need;
 use gn_answers::{FileContent, PerformStop, read_content};
 use gn_bases::Known;
 use gn_book::KeyId;
 use gn_items::{Key, When};
 use gn_outside::Source;
 use gn_paths::Path;
-use gn_perform::{Performed, perform};
 use gn_prepared::Wanted;
 use std::alloc::{AllocError, Global};
 
@@ -78,52 +77,35 @@ pub(crate) fn is_open(driver: &Driver, number: KeyId) -> bool
     }
 }
 
-// The path of a read of which nothing is known.
-fn unknown_read(known: &Known, on: Key) -> Option<Path>
-    ensures { IfSome result (λ path. (key_of on ≡ Read path) × (at_name path known.now.entries ≡ None)) }
+// A path, if nothing is known of it.
+fn unknown_read(known: &Known, path: Path) -> Option<Path>
+    ensures { NeedsUnknown known.now.entries (Some path) result }
 {
-    match on {
-        Key::Read(path) => {
-            if known.contains_key(&path) {
-                None
-            } else {
-                Some(path)
-            }
-        }
-        Key::Import(..) => None,
-        Key::Setup(_) => None,
-        Key::Load(..) => None,
-        Key::Resolve(_) => None,
+    if known.contains_key(&path) {
+        drop(path);
+        None
+    } else {
+        Some(path)
     }
 }
 
-// The path that the work needs first, if nothing is known of it.
-fn unknown_need(known: &Known, done: Performed) -> Option<Path>
-    ensures { NeedsUnknown known.now.entries done result }
+// The path that is needed, if nothing is known of it.
+fn unknown_need(known: &Known, needed: Option<Path>) -> Option<Path>
+    ensures { NeedsUnknown known.now.entries needed result }
 {
-    match done {
-        Performed::Needs(on, _, _) => unknown_read(known, on),
-        Performed::Answered(_) => None,
+    match needed {
+        Some(path) => unknown_read(known, path),
+        None => None,
     }
 }
 
-// The path that the work on a build file needs first, if nothing is known of it. It reads nothing.
-fn first_path<S: Source>(
-    alloc: Global,
-    driver: &Driver,
-    source: &mut S,
-    key: &Key,
-) -> Result<Option<Path>, AllocError>
-    requires current { IsCurrent driver.now.base (state_of driver.now.book).filed }
+// The path that the work on a build file needs first, if nothing is filed there and nothing is known of it.
+fn first_path(alloc: Global, driver: &Driver, key: &Key) -> Result<Option<Path>, AllocError>
     requires layer { IsOfLayer (layer_now driver.now.base) (key_of key.now) }
-    requires file { is_build_file (key_of key.now) ≡ true }
     ensures path { IfOk result (FindsPath driver.now (key_of key.now)) }
-    ensures source { S.state source.new ≡ S.state source.old }
 {
-    match perform(alloc, key, driver.base.base(), &driver.book, source, None) {
-        Ok(done) => Ok(unknown_need(&driver.known, done)),
-        Err(_) => Err(AllocError),
-    }
+    let needed = own_need(alloc, &driver.book, key)?;
+    Ok(unknown_need(&driver.known, needed))
 }
 
 // Whether a key is a build file of the layer of the driver's base.
@@ -173,7 +155,7 @@ fn wanted_at<S: Source>(
 {
     let key = driver.book.key(number);
     if is_open_at(driver, number) && is_of_layer(driver, key) {
-        let path = first_path(alloc, driver, source, key)?;
+        let path = first_path(alloc, driver, key)?;
         beside_key(alloc, key, path)
     } else {
         Ok(None)
