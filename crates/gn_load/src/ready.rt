@@ -9,10 +9,12 @@ ghost use Rattle.gn_book.specs.Logs.{state_of};
 ghost use Rattle.gn_builds.specs.Stacks.{MayWait};
 ghost use Rattle.gn_builds.specs.Working.{IsRightOver};
 ghost use Rattle.gn_answers.specs.Answers.{content_view, meaning_of};
+ghost use Rattle.gn_load.specs.Own.{NeedsFirst};
 ghost use Rattle.gn_load.specs.Turns.{Goes, IsTurn, IsFinish};
 ghost use Rattle.gn_load.specs.Rounds.{WillBeRight};
 
-use crate::driver::{Driver, Stop, finish, lifted, settle, turn};
+use crate::driver::{Driver, Stop, finish, lifted, need_file, settle, turn};
+use crate::own_file::{own_need, own_place};
 use gn_answers::{Answer, FileContent, Filed, find};
 use gn_book::{Book, Claim, KeyId};
 use gn_items::Key;
@@ -140,8 +142,8 @@ fn finish_behind<S: Source>(
     }
 }
 
-// The first turn of the work on a unit.
-fn first_turn<S: Source>(
+// The first turn of the work on a unit, which finds out what that needs.
+fn plain_turn<S: Source>(
     alloc: Global,
     driver: &mut Driver,
     claim: Claim,
@@ -154,6 +156,45 @@ fn first_turn<S: Source>(
 {
     let mut rests = VecDeque::new(alloc);
     turn(alloc, driver, claim, source, &mut rests)
+}
+
+// The first turn of the work on a unit, which needs what there is at a path first.
+fn own_turn<S: Source>(
+    alloc: Global,
+    driver: &mut Driver,
+    claim: Claim,
+    source: &mut S,
+    path: Path,
+) -> Result<Option<Claim>, Stop>
+    requires goes { (known : List (List ℕ)) × (before : SourceState) × Goes known before (S.state source.old) driver.old (claim ∷ driver.old.waiting.items) }
+    requires work { MayWait (key_of claim.key) }
+    requires needed { NeedsFirst (state_of driver.old.book).filed (key_of claim.key) path }
+    ensures { (known : List (List ℕ)) (before : SourceState) → Goes known before (S.state source.old) driver.old (claim ∷ driver.old.waiting.items) →
+        IsTurn known before (S.state source.new) driver.old driver.new result }
+{
+    match own_place(alloc, &path) {
+        Ok(place) => need_file(alloc, driver, claim, source, path, place),
+        Err(_) => Err(Stop::Memory),
+    }
+}
+
+// The first turn of the work on a unit. A build file is known to need its own file.
+fn first_turn<S: Source>(
+    alloc: Global,
+    driver: &mut Driver,
+    claim: Claim,
+    source: &mut S,
+) -> Result<Option<Claim>, Stop>
+    requires goes { (known : List (List ℕ)) × (before : SourceState) × Goes known before (S.state source.old) driver.old (claim ∷ driver.old.waiting.items) }
+    requires work { MayWait (key_of claim.key) }
+    ensures { (known : List (List ℕ)) (before : SourceState) → Goes known before (S.state source.old) driver.old (claim ∷ driver.old.waiting.items) →
+        IsTurn known before (S.state source.new) driver.old driver.new result }
+{
+    match own_need(alloc, &driver.book, &claim.key) {
+        Ok(Some(path)) => own_turn(alloc, driver, claim, source, path),
+        Ok(None) => plain_turn(alloc, driver, claim, source),
+        Err(_) => Err(Stop::Memory),
+    }
 }
 
 /// The work on a build file that was executed ahead, and on all that it needs.
