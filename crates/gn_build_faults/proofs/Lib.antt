@@ -5,3 +5,4 @@ pub mod Closed
 pub mod Faultless
 pub mod Crossing
 pub mod Telling
+pub mod Seen

@@ -1,5 +1,6 @@
 -- Outputs that are made twice.
-use Rattle.std.specs.Prelude.{ℕ, List, [], ◌∷◌, Option, Some, None, Result, Ok, Err, if◌then◌else◌}
+use Rattle.std.specs.Prelude.{ℕ, List, [], ◌∷◌, Option, Some, None, Result, Ok, Err, map, if◌then◌else◌}
+use Rattle.std.specs.Borrow.{Bor}
 use Rattle.std.specs.Ordering.{nat_cmp, is_lt}
 use Rattle.std.specs.Cmp.Lexicographic.{slice_cmp}
 use Rattle.gn_paths.specs.declared.error.PathFault.{PathFault}
@@ -17,6 +18,10 @@ use Rattle.gn_build_faults.specs.Told.{fault_with}
 abbrev pub made_around : Around → Option Item → List (List ℕ)
 made_around a None = []
 made_around a (Some item) = made_at a item
+
+-- the texts behind references
+abbrev pub lent_texts : List (Bor (List ℕ)) → List (List ℕ)
+lent_texts texts = map (λ (text : Bor (List ℕ)). text.now) texts
 
 -- texts with more texts, each once
 abbrev pub with_each : List (List ℕ) → List (List ℕ) → List (List ℕ)

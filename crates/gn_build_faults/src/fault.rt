@@ -3,7 +3,7 @@
 ghost use Rattle.std.specs.Prelude.{◌≡◌, [], Some, IfOk, OnOk, map, option_map};
 ghost use Rattle.gn_records.specs.Around.{around};
 ghost use Rattle.gn_toolchains.specs.Frames.{surroundings as given, known_of};
-ghost use Rattle.gn_build_faults.specs.Outputs.{with_each, output_fault as output_meant};
+ghost use Rattle.gn_build_faults.specs.Outputs.{lent_texts, with_each, output_fault as output_meant};
 ghost use Rattle.gn_build_faults.specs.Faults.{first_of, fault_among, target_fault};
 ghost use Rattle.gn_build_faults.specs.Settling.{AreMarked};
 ghost use Rattle.gn_build_faults.specs.Examined.{examined_state, fault_with_outputs, with_examined, fault_of_examined};
@@ -20,6 +20,7 @@ use gn_records::Context;
 use gn_toolchains::{Frames, Surroundings};
 use indexmap::IndexSet;
 use std::alloc::{AllocError, Global};
+use std::mem::forget;
 use std::thread::Threads;
 
 // A copy of a fault, if there is one.
@@ -33,16 +34,17 @@ fn copied(alloc: Global, fault: Option<&Fault>) -> Result<Option<Fault>, AllocEr
 }
 
 // The first fault of a target with what it has by itself, where something is known around it. Its outputs are seen.
-fn fault_around(
+fn fault_around<'a>(
     alloc: Global,
     default: &Text,
     items: &ItemIndex<'_>,
     context: &Context<'_>,
-    seen: &mut IndexSet<Text>,
-    found: &Examined<'_>,
+    seen: &mut IndexSet<&'a Text>,
+    found: &'a Examined<'_>,
 ) -> Result<Option<Fault>, AllocError>
-    ensures fault { IfOk result (λ fault. fault ≡ fault_with_outputs default.now items.now (Some (around context.now)) seen.old.keys (examined_state found.now)) }
-    ensures seen { OnOk result (seen.new.keys ≡ with_each seen.old.keys found.now.outputs) }
+    ensures fault { IfOk result (λ fault. fault
+        ≡ fault_with_outputs default.now items.now (Some (around context.now)) (lent_texts seen.old.keys) (examined_state found.now)) }
+    ensures seen { OnOk result (lent_texts seen.new.keys ≡ with_each (lent_texts seen.old.keys) found.now.outputs) }
 {
     let twice = output_fault(
         alloc,
@@ -58,16 +60,18 @@ fn fault_around(
 }
 
 // The same, where something is known around it.
-fn fault_at(
+fn fault_at<'a>(
     alloc: Global,
     default: &Text,
     items: &ItemIndex<'_>,
     context: Option<Context<'_>>,
-    seen: &mut IndexSet<Text>,
-    found: &Examined<'_>,
+    seen: &mut IndexSet<&'a Text>,
+    found: &'a Examined<'_>,
 ) -> Result<Option<Fault>, AllocError>
-    ensures fault { IfOk result (λ fault. fault ≡ fault_with_outputs default.now items.now (option_map around context.entry) seen.old.keys (examined_state found.now)) }
-    ensures seen { OnOk result (seen.new.keys ≡ with_examined (option_map around context.entry) seen.old.keys (examined_state found.now)) }
+    ensures fault { IfOk result (λ fault. fault
+        ≡ fault_with_outputs default.now items.now (option_map around context.entry) (lent_texts seen.old.keys) (examined_state found.now)) }
+    ensures seen { OnOk result (lent_texts seen.new.keys
+        ≡ with_examined (option_map around context.entry) (lent_texts seen.old.keys) (examined_state found.now)) }
 {
     match context {
         None => Ok(None),
@@ -76,16 +80,18 @@ fn fault_at(
 }
 
 // The same by the frames of toolchains.
-fn framed_fault(
+fn framed_fault<'a>(
     alloc: Global,
     default: &Text,
     items: &ItemIndex<'_>,
     frames: &Frames<'_>,
-    seen: &mut IndexSet<Text>,
-    found: &Examined<'_>,
+    seen: &mut IndexSet<&'a Text>,
+    found: &'a Examined<'_>,
 ) -> Result<Option<Fault>, AllocError>
-    ensures fault { IfOk result (λ fault. fault ≡ fault_with_outputs default.now items.now (known_of frames.now found.now.target.now.toolchain) seen.old.keys (examined_state found.now)) }
-    ensures seen { OnOk result (seen.new.keys ≡ with_examined (known_of frames.now found.now.target.now.toolchain) seen.old.keys (examined_state found.now)) }
+    ensures fault { IfOk result (λ fault. fault
+        ≡ fault_with_outputs default.now items.now (known_of frames.now found.now.target.now.toolchain) (lent_texts seen.old.keys) (examined_state found.now)) }
+    ensures seen { OnOk result (lent_texts seen.new.keys
+        ≡ with_examined (known_of frames.now found.now.target.now.toolchain) (lent_texts seen.old.keys) (examined_state found.now)) }
 {
     let context = frames.context(&found.target.toolchain);
     fault_at(alloc, default, items, context, seen, found)
@@ -93,15 +99,15 @@ fn framed_fault(
 
 // The first fault of the first of these targets that has one, with what each has by itself, by the frames of toolchains, where these
 // outputs were seen.
-fn fault_behind(
+fn fault_behind<'a>(
     alloc: Global,
     default: &Text,
     items: &ItemIndex<'_>,
     frames: &Frames<'_>,
-    seen: &mut IndexSet<Text>,
-    examined: &[Examined<'_>],
+    seen: &mut IndexSet<&'a Text>,
+    examined: &'a [Examined<'_>],
 ) -> Result<Option<Fault>, AllocError>
-    ensures { IfOk result (λ fault. fault ≡ fault_of_examined default.now items.now (known_of frames.now) seen.old.keys (map examined_state examined.now)) }
+    ensures { IfOk result (λ fault. fault ≡ fault_of_examined default.now items.now (known_of frames.now) (lent_texts seen.old.keys) (map examined_state examined.now)) }
 {
     for found in examined {
         if let Some(fault) = framed_fault(alloc, default, items, frames, seen, found)? {
@@ -127,7 +133,8 @@ fn fault_of_examined(
     fault
 }
 
-// The first fault of the first of these targets that has one, by the frames of toolchains and by which items reach no cycle.
+// The first fault of the first of these targets that has one, by the frames of toolchains and by which items reach no cycle. What each
+// target has by itself isn't let go: to do so piece by piece takes its time, and a run keeps its memory until the process ends.
 fn fault_among<R: Threads + Sync>(
     rt: &R,
     alloc: Global,
@@ -142,7 +149,7 @@ fn fault_among<R: Threads + Sync>(
 {
     let examined = examine_all(rt, alloc, default, items, settled, frames, targets)?;
     let fault = fault_of_examined(alloc, default, items, frames, examined.as_slice());
-    drop(examined);
+    forget(examined);
     fault
 }
 

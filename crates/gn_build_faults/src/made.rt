@@ -2,12 +2,12 @@
 
 ghost use Rattle.std.specs.Prelude.{◌≡◌, [], IfOk, OnOk, option_map};
 ghost use Rattle.gn_records.specs.Around.{around};
-ghost use Rattle.gn_toolchains.specs.Frames.{surroundings as given, known_of};
+ghost use Rattle.gn_toolchains.specs.Frames.{surroundings as given, with_text, known_of};
 ghost use Rattle.gn_build_faults.specs.Outputs.{with_each};
 ghost use Rattle.gn_build_faults.specs.Faults.{with_outputs};
 ghost use Rattle.gn_build_faults.specs.Made.{outputs_among, made_by};
 
-use crate::outputs::{made_around, see};
+use crate::outputs::made_around;
 use gn_labelled::ItemIndex;
 use gn_labels::Label;
 use gn_paths::Text;
@@ -16,12 +16,21 @@ use gn_toolchains::{Frames, Surroundings};
 use indexmap::IndexSet;
 use std::alloc::{AllocError, Global};
 
+// Puts a copy of an output with others, unless it is there.
+fn add_text(alloc: Global, made: &mut IndexSet<Text>, output: &Text) -> Result<(), AllocError>
+    ensures { OnOk result (made.new.keys ≡ with_text made.old.keys output.now) }
+{
+    let text = output.copy(alloc)?;
+    made.insert(text)?;
+    Ok(())
+}
+
 // Puts outputs with others, each once.
 fn add_texts(alloc: Global, made: &mut IndexSet<Text>, outputs: &[Text]) -> Result<(), AllocError>
     ensures { OnOk result (made.new.keys ≡ with_each made.old.keys outputs.now) }
 {
     for output in outputs {
-        see(alloc, made, output)?;
+        add_text(alloc, made, output)?;
     }
     Ok(())
 }

@@ -6,7 +6,7 @@ ghost use Rattle.gn_faults.specs.declared.code.Code.TheVariants.{SameOutput};
 ghost use Rattle.gn_records.specs.Around.{around};
 ghost use Rattle.gn_toolchains.specs.Frames.{has_text, with_text};
 ghost use Rattle.gn_build_faults.specs.Told.{fault_with as meant};
-ghost use Rattle.gn_build_faults.specs.Outputs.{made_around, with_each, made_twice, shown, lesser_shown, least_shown, twice_told, output_fault};
+ghost use Rattle.gn_build_faults.specs.Outputs.{lent_texts, made_around, with_each, made_twice, shown, lesser_shown, least_shown, twice_told, output_fault};
 
 use crate::told::fault_with;
 use gn_faults::{Code, Fault};
@@ -33,17 +33,12 @@ pub(crate) fn made_around(
     }
 }
 
-/// Puts an output with those that were seen. Whether it was seen before.
-pub(crate) fn see(
-    alloc: Global,
-    seen: &mut IndexSet<Text>,
-    output: &Text,
-) -> Result<bool, AllocError>
-    ensures seen { OnOk result (seen.new.keys ≡ with_text seen.old.keys output.now) }
-    ensures before { IfOk result (λ b. b ≡ has_text seen.old.keys output.now) }
+// Puts an output, which is lent, with those that were seen. Whether it was seen before.
+fn see<'a>(seen: &mut IndexSet<&'a Text>, output: &'a Text) -> Result<bool, AllocError>
+    ensures seen { OnOk result (lent_texts seen.new.keys ≡ with_text (lent_texts seen.old.keys) output.now) }
+    ensures before { IfOk result (λ b. b ≡ has_text (lent_texts seen.old.keys) output.now) }
 {
-    let text = output.copy(alloc)?;
-    let is_new = seen.insert(text)?;
+    let is_new = seen.insert(output)?;
     Ok(!is_new)
 }
 
@@ -57,30 +52,31 @@ fn push_copy(alloc: Global, texts: &mut Vec<Text>, text: &Text) -> Result<(), Al
 }
 
 // Sees an output, and puts it behind those that are made twice where it was seen before.
-fn see_one(
+fn see_one<'a>(
     alloc: Global,
-    seen: &mut IndexSet<Text>,
+    seen: &mut IndexSet<&'a Text>,
     twice: &mut Vec<Text>,
-    output: &Text,
+    output: &'a Text,
 ) -> Result<(), AllocError>
-    ensures seen { OnOk result (seen.new.keys ≡ with_text seen.old.keys output.now) }
-    ensures twice { OnOk result (twice.new.items ≡ (if has_text seen.old.keys output.now then twice.old.items ++ output.now ∷ [] else twice.old.items)) }
+    ensures seen { OnOk result (lent_texts seen.new.keys ≡ with_text (lent_texts seen.old.keys) output.now) }
+    ensures twice { OnOk result (twice.new.items
+        ≡ (if has_text (lent_texts seen.old.keys) output.now then twice.old.items ++ output.now ∷ [] else twice.old.items)) }
 {
-    if see(alloc, seen, output)? {
+    if see(seen, output)? {
         return push_copy(alloc, twice, output);
     }
     Ok(())
 }
 
 // Sees outputs, one after the other.
-fn see_all(
+fn see_all<'a>(
     alloc: Global,
-    seen: &mut IndexSet<Text>,
+    seen: &mut IndexSet<&'a Text>,
     twice: &mut Vec<Text>,
-    outputs: &[Text],
+    outputs: &'a [Text],
 ) -> Result<(), AllocError>
-    ensures seen { OnOk result (seen.new.keys ≡ with_each seen.old.keys outputs.now) }
-    ensures twice { OnOk result (twice.new.items ≡ twice.old.items ++ made_twice seen.old.keys outputs.now) }
+    ensures seen { OnOk result (lent_texts seen.new.keys ≡ with_each (lent_texts seen.old.keys) outputs.now) }
+    ensures twice { OnOk result (twice.new.items ≡ twice.old.items ++ made_twice (lent_texts seen.old.keys) outputs.now) }
 {
     for output in outputs {
         see_one(alloc, seen, twice, output)?;
@@ -124,14 +120,14 @@ fn least_shown(alloc: Global, build: &Path, outputs: &[Text]) -> Result<Option<T
 }
 
 // Sees outputs, and finds the first of those that are made twice.
-fn least_twice(
+fn least_twice<'a>(
     alloc: Global,
     build: &Path,
-    seen: &mut IndexSet<Text>,
-    outputs: &[Text],
+    seen: &mut IndexSet<&'a Text>,
+    outputs: &'a [Text],
 ) -> Result<Option<Text>, AllocError>
-    ensures least { IfOk result (λ least. least ≡ least_shown build.now None (made_twice seen.old.keys outputs.now)) }
-    ensures seen { OnOk result (seen.new.keys ≡ with_each seen.old.keys outputs.now) }
+    ensures least { IfOk result (λ least. least ≡ least_shown build.now None (made_twice (lent_texts seen.old.keys) outputs.now)) }
+    ensures seen { OnOk result (lent_texts seen.new.keys ≡ with_each (lent_texts seen.old.keys) outputs.now) }
 {
     let mut twice = Vec::new(alloc);
     see_all(alloc, seen, &mut twice, outputs)?;
@@ -177,19 +173,19 @@ fn twice_told(
     }
 }
 
-/// Sees the outputs of a target, and tells the first of those that are made twice.
+/// Sees the outputs of a target, which are lent, and tells the first of those that are made twice.
 #[tactic(auto, unfolding(crate::specs::Outputs::output_fault))]
-pub(crate) fn output_fault(
+pub(crate) fn output_fault<'a>(
     alloc: Global,
     default: &Text,
     items: &ItemIndex<'_>,
     build: &Path,
-    seen: &mut IndexSet<Text>,
-    outputs: &[Text],
+    seen: &mut IndexSet<&'a Text>,
+    outputs: &'a [Text],
     label: &Label,
 ) -> Result<Option<Fault>, AllocError>
-    ensures fault { IfOk result (λ fault. fault ≡ output_fault default.now items.now build.now seen.old.keys outputs.now label.now) }
-    ensures seen { OnOk result (seen.new.keys ≡ with_each seen.old.keys outputs.now) }
+    ensures fault { IfOk result (λ fault. fault ≡ output_fault default.now items.now build.now (lent_texts seen.old.keys) outputs.now label.now) }
+    ensures seen { OnOk result (lent_texts seen.new.keys ≡ with_each (lent_texts seen.old.keys) outputs.now) }
 {
     let output = least_twice(alloc, build, seen, outputs)?;
     twice_told(alloc, default, items, label, output)
