@@ -16,7 +16,7 @@ use Rattle.gn_labelled.specs.contracts.index.ItemIndex.TheInside as TheIndex
 use Rattle.gn_toolchains.specs.contracts.frames.Frames as Frames
 use Rattle.gn_threads.proofs.Captured.{captured_send, captured_sync}
 use Rattle.gn_build_faults.specs.contracts.settling.SettledItems as SettledItems
-use Rattle.gn_build_faults.specs.Captures.{captures}
+use Rattle.gn_build_faults.specs.Captures.{captures, linking, finding}
 
 pub label : IsSync Label.the_row
 label = search (sendable, crosses) depth 40 fits 10000
@@ -38,7 +38,7 @@ module _ (fields : IsSync Fields.the_row) where
   tools : IsSync Tools.the_row
   tools = view_sync _ _ _ _ _ inside_tools
 
-  item : IsSync Item.the_row
+  pub item : IsSync Item.the_row
   item = search (tools, sendable, crosses) depth 40 fits 10000
 
   inside_index : (a : NamedLft) → IsSync (TheIndex.the_row a)
@@ -59,3 +59,15 @@ module _ (fields : IsSync Fields.the_row) where
   captures_sync name a d i l s f g =
       captured_sync name (captures a d i l s f g)
       (search (sendable, crosses) depth 30, (shr_sync _ _ _ text, (shr_sync _ _ _ (index l), (shr_sync _ _ _ settled, (shr_sync _ _ _ (frames g), tt)))))
+
+  pub linking_send : (name : Sym) (alloc items lent : NamedLft) → IsSend (TupleAt name (linking alloc items lent))
+  linking_send name a i l = captured_send name (linking a i l) (search (sendable, crosses) depth 30, (shr_send _ _ _ (index l), tt))
+
+  pub linking_sync : (name : Sym) (alloc items lent : NamedLft) → IsSync (TupleAt name (linking alloc items lent))
+  linking_sync name a i l = captured_sync name (linking a i l) (search (sendable, crosses) depth 30, (shr_sync _ _ _ (index l), tt))
+
+  pub finding_send : (name : Sym) (items lent : NamedLft) → IsSend (TupleAt name (finding items lent))
+  finding_send name i l = captured_send name (finding i l) (shr_send _ _ _ (index l), tt)
+
+  pub finding_sync : (name : Sym) (items lent : NamedLft) → IsSync (TupleAt name (finding items lent))
+  finding_sync name i l = captured_sync name (finding i l) (shr_sync _ _ _ (index l), tt)

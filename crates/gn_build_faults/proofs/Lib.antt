@@ -6,3 +6,4 @@ pub mod Faultless
 pub mod Crossing
 pub mod Telling
 pub mod Seen
+pub mod Linked

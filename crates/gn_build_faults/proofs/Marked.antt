@@ -16,7 +16,7 @@ use Rattle.gn_cycles.specs.Settled.{AreSettled}
 use Rattle.gn_build_faults.specs.Settling.{is_marked, is_settled, dependencies_at, AreMarked}
 
 -- the item at the place of a label is the first that has it
-placed : (q : Label) (items : List Item) → item_in items (place_of q items) ≡ item_at q items
+pub placed : (q : Label) (items : List Item) → item_in items (place_of q items) ≡ item_at q items
 placed q [] = refl
 placed q (x ∷ items) = by (is_its_label q x.label) (place_of q items) (placed q items)
   where

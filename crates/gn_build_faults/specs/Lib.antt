@@ -11,3 +11,4 @@ pub mod Examined
 pub mod Settling
 pub mod Whole
 pub mod Captures
+pub mod Links

@@ -8,6 +8,7 @@ use Rattle.gn_items.specs.Effects.{item_at}
 use Rattle.gn_labelled.specs.Graphs.{or_false}
 use Rattle.gn_labelled.specs.Index.{place_of}
 use Rattle.gn_build_faults.specs.Settling.{dependencies_at}
+use Rattle.gn_build_faults.specs.Links.{links_at}
 
 -- each label comes before the next one in label order
 abbrev pub rises_from : (default : List ℕ) → Label → List Label → Bool
@@ -39,6 +40,15 @@ have_marks items marks labels = list_all (λ d. has_mark marks (place_of d items
 -- whether all dependencies of the labels have
 abbrev pub are_closed : List Item → List Bool → List Label → Bool
 are_closed items marks labels = list_all (λ t. have_marks items marks (dependencies_at (item_at t items))) labels
+
+-- marks at places
+abbrev pub with_places : List Bool → List (Option ℕ) → List Bool
+with_places marks [] = marks
+with_places marks (place ∷ places) = with_places (with_mark marks place) places
+
+-- whether all dependencies of the items at places have marks, by the places of the dependencies of all items
+abbrev pub are_linked : List (List (Option ℕ)) → List Bool → List (Option ℕ) → Bool
+are_linked links marks places = list_all (λ place. list_all (has_mark marks) (links_at links place)) places
 
 -- the targets, by those that are generated, and by others where these aren't all of them
 abbrev pub those_or : List Label → Option (List Label) → List Label

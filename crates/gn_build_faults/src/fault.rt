@@ -11,7 +11,7 @@ ghost use Rattle.gn_build_faults.specs.Examined.{examined_state, fault_with_outp
 use crate::examined::{Examined, examine_all};
 use crate::first::first_of;
 use crate::outputs::output_fault;
-use crate::settling::{SettledItems, settled};
+use crate::settling::SettledItems;
 use gn_faults::Fault;
 use gn_labelled::ItemIndex;
 use gn_labels::Label;
@@ -153,25 +153,8 @@ fn fault_among<R: Threads + Sync>(
     fault
 }
 
-// The same by the items.
-fn fault_framed<R: Threads + Sync>(
-    rt: &R,
-    alloc: Global,
-    default: &Text,
-    items: &ItemIndex<'_>,
-    frames: &Frames<'_>,
-    targets: &[Label],
-) -> Result<Option<Fault>, AllocError>
-    ensures { IfOk result (λ fault. fault ≡ fault_among default.now items.now (known_of frames.now) [] targets.now) }
-{
-    let settled = settled(alloc, items, targets)?;
-    let fault = fault_among(rt, alloc, default, items, &settled, frames, targets);
-    drop(settled);
-    fault
-}
-
-/// The fault that is told of targets, by what never changes in the build, the items that it defines and these targets in label order: the
-/// first fault of the first of them that has one. A target's faults go by code: texts of tools that are no paths, labels that it names
+/// The fault that is told of targets, by what never changes in the build, the items that it defines, which of them reach no cycle, and
+/// these targets in label order: the first fault of the first of them that has one. A target's faults go by code: texts of tools that are no paths, labels that it names
 /// and no item has, tools that it needs and its toolchain lacks, the other faults of the graph, and outputs that it makes and a
 /// target before it makes too. None comes exactly where none of them has a fault.
 pub(crate) fn target_fault<'a, R: Threads + Sync>(
@@ -179,12 +162,22 @@ pub(crate) fn target_fault<'a, R: Threads + Sync>(
     alloc: Global,
     surroundings: Surroundings<'a>,
     items: &ItemIndex<'_>,
+    settled: &SettledItems,
     targets: &[Label],
 ) -> Result<Option<Fault>, AllocError>
+    requires { AreMarked items.now settled.now.marks.items }
     ensures { IfOk result (λ fault. fault ≡ target_fault (given surroundings.entry) items.now targets.now) }
 {
     let frames = Frames::of(alloc, surroundings, items.items(), targets)?;
-    let fault = fault_framed(rt, alloc, surroundings.default, items, &frames, targets);
+    let fault = fault_among(
+        rt,
+        alloc,
+        surroundings.default,
+        items,
+        settled,
+        &frames,
+        targets,
+    );
     drop(frames);
     fault
 }

@@ -1,15 +1,18 @@
 // The fault that is told of the labels of a build: of targets, and of the toolchains that they use.
 
-ghost use Rattle.std.specs.Prelude.{◌≡◌, ◌++◌, ◌∷◌, [], IfOk, OnOk, option_map};
+ghost use Rattle.std.specs.Prelude.{◌≡◌, ◌++◌, ◌∷◌, [], true, IfOk, OnOk, option_map};
 ghost use Rattle.gn_toolchains.specs.Frames.{surroundings as given};
 ghost use Rattle.gn_build_faults.specs.Faults.{target_fault};
 ghost use Rattle.gn_build_faults.specs.Labels.{those_before, beside_toolchain, fault_of_labels};
 ghost use Rattle.gn_build_faults.specs.Reaching.{targets_of};
 ghost use Rattle.gn_build_faults.specs.Whole.{those_or};
+ghost use Rattle.gn_build_faults.specs.Settling.{AreMarked};
 
 use crate::fault::target_fault;
 use crate::first::first_of;
+use crate::foreseen::{Foreseen, foresee, settled_labels};
 use crate::reaching::other_targets;
+use crate::settling::SettledItems;
 use gn_faults::Fault;
 use gn_labelled::ItemIndex;
 use gn_labels::Label;
@@ -70,14 +73,16 @@ fn fault_before<'a, R: Threads + Sync>(
     alloc: Global,
     surroundings: Surroundings<'a>,
     items: &'a ItemIndex<'_>,
+    settled: &SettledItems,
     targets: &[Label],
     label: &Label,
 ) -> Result<Option<Fault>, AllocError>
+    requires { AreMarked items.now settled.now.marks.items }
     ensures { IfOk result (λ fault. fault ≡ target_fault (given surroundings.entry) items.now
         (those_before (given surroundings.entry).default label.now targets.now)) }
 {
     let before = those_before(alloc, surroundings.default, label, targets)?;
-    let fault = target_fault(rt, alloc, surroundings, items, before.as_slice());
+    let fault = target_fault(rt, alloc, surroundings, items, settled, before.as_slice());
     drop(before);
     fault
 }
@@ -88,13 +93,15 @@ fn up_to<'a, R: Threads + Sync>(
     alloc: Global,
     surroundings: Surroundings<'a>,
     items: &'a ItemIndex<'_>,
+    settled: &SettledItems,
     targets: &[Label],
     told: ToolchainFault,
 ) -> Result<Option<Fault>, AllocError>
+    requires { AreMarked items.now settled.now.marks.items }
     ensures { IfOk result (λ fault. fault ≡ beside_toolchain (given surroundings.entry) items.now targets.now (Some told)) }
 {
     let ToolchainFault { label, fault } = told;
-    let first = fault_before(rt, alloc, surroundings, items, targets, &label);
+    let first = fault_before(rt, alloc, surroundings, items, settled, targets, &label);
     drop(label);
     match first {
         Ok(first) => Ok(first_of(first, Some(fault))),
@@ -111,22 +118,40 @@ fn beside_toolchain<'a, R: Threads + Sync>(
     alloc: Global,
     surroundings: Surroundings<'a>,
     items: &'a ItemIndex<'_>,
+    settled: &SettledItems,
     targets: &[Label],
     told: Option<ToolchainFault>,
 ) -> Result<Option<Fault>, AllocError>
+    requires { AreMarked items.now settled.now.marks.items }
     ensures { IfOk result (λ fault. fault ≡ beside_toolchain (given surroundings.entry) items.now targets.now told) }
 {
     match told {
-        None => target_fault(rt, alloc, surroundings, items, targets),
-        Some(told) => up_to(rt, alloc, surroundings, items, targets, told),
+        None => target_fault(rt, alloc, surroundings, items, settled, targets),
+        Some(told) => up_to(rt, alloc, surroundings, items, settled, targets, told),
     }
+}
+
+// The fault that is told of these targets, in label order, and of the toolchains that they use, by which items reach no cycle.
+#[tactic(auto, unfolding(crate::specs::Labels::fault_of_labels))]
+fn fault_of_settled<'a, R: Threads + Sync>(
+    rt: &R,
+    alloc: Global,
+    surroundings: Surroundings<'a>,
+    items: &'a ItemIndex<'_>,
+    settled: &SettledItems,
+    targets: &[Label],
+) -> Result<Option<Fault>, AllocError>
+    requires { AreMarked items.now settled.now.marks.items }
+    ensures { IfOk result (λ fault. fault ≡ fault_of_labels (given surroundings.entry) items.now targets.now) }
+{
+    let told = toolchain_fault(alloc, surroundings, items, targets)?;
+    beside_toolchain(rt, alloc, surroundings, items, settled, targets, told)
 }
 
 /// The fault that is told of these targets, in label order, and of the toolchains that they use, by what never changes in the build and
 /// the items that it defines: the first fault of the first label that has one. Of a target that is told goes by code: texts of tools that
 /// are no paths, labels that it names and no item has, tools that it needs and its toolchain lacks, the other faults of the graph, and
 /// outputs that a target before it makes too; of a toolchain, pools of its tools, and then its name. None comes exactly where there is none.
-#[tactic(auto, unfolding(crate::specs::Labels::fault_of_labels))]
 pub fn fault_of_labels<'a, R: Threads + Sync>(
     rt: &R,
     alloc: Global,
@@ -136,8 +161,10 @@ pub fn fault_of_labels<'a, R: Threads + Sync>(
 ) -> Result<Option<Fault>, AllocError>
     ensures { IfOk result (λ fault. fault ≡ fault_of_labels (given surroundings.entry) items.now targets.now) }
 {
-    let told = toolchain_fault(alloc, surroundings, items, targets)?;
-    beside_toolchain(rt, alloc, surroundings, items, targets, told)
+    let settled = settled_labels(rt, alloc, items, targets)?;
+    let fault = fault_of_settled(rt, alloc, surroundings, items, &settled, targets);
+    drop(settled);
+    fault
 }
 
 // The targets, by those that are generated and by others where these aren't all of them.
@@ -148,6 +175,32 @@ fn those_or<'a>(generated: &'a [Label], others: &'a Option<Vec<Label>>) -> &'a [
         None => generated,
         Some(targets) => targets.as_slice(),
     }
+}
+
+// The fault that is told of the targets that are generated and of all that dependencies lead to from them, by what is foreseen of them.
+fn fault_foreseen<'a, R: Threads + Sync>(
+    rt: &R,
+    alloc: Global,
+    surroundings: Surroundings<'a>,
+    items: &'a ItemIndex<'_>,
+    foreseen: &Foreseen,
+    generated: &[Label],
+) -> Result<Option<Fault>, AllocError>
+    requires whole { foreseen.now.is_whole ≡ true → generated.now ≡ targets_of (given surroundings).default items.now generated.now }
+    requires settled { AreMarked items.now foreseen.now.settled.marks.items }
+    ensures { IfOk result (λ fault. fault ≡ fault_of_labels (given surroundings.entry) items.now (targets_of (given surroundings.entry).default items.now generated.now)) }
+{
+    let others = other_targets(
+        alloc,
+        surroundings.default,
+        items,
+        foreseen.is_whole,
+        generated,
+    )?;
+    let targets = those_or(generated, &others);
+    let fault = fault_of_settled(rt, alloc, surroundings, items, &foreseen.settled, targets);
+    drop(others);
+    fault
 }
 
 /// The fault that is told of the targets that are generated and of all that dependencies lead to from them, as it is told of labels, by
@@ -161,9 +214,8 @@ pub fn fault_of_generated<'a, R: Threads + Sync>(
 ) -> Result<Option<Fault>, AllocError>
     ensures { IfOk result (λ fault. fault ≡ fault_of_labels (given surroundings.entry) items.now (targets_of (given surroundings.entry).default items.now generated.now)) }
 {
-    let others = other_targets(alloc, surroundings.default, items, generated)?;
-    let targets = those_or(generated, &others);
-    let fault = fault_of_labels(rt, alloc, surroundings, items, targets);
-    drop(others);
+    let foreseen = foresee(rt, alloc, surroundings.default, items, generated)?;
+    let fault = fault_foreseen(rt, alloc, surroundings, items, &foreseen, generated);
+    drop(foreseen);
     fault
 }

@@ -4,9 +4,12 @@
 mod examined;
 mod fault;
 mod first;
+mod foreseen;
 mod labels;
 mod laws;
+mod links;
 mod made;
+mod order;
 mod outputs;
 mod paths;
 mod reaching;

@@ -1,10 +1,9 @@
 // The targets of which faults are told.
 
-ghost use Rattle.std.specs.Prelude.{◌≡◌, IfOk, option_map};
+ghost use Rattle.std.specs.Prelude.{◌≡◌, true, IfOk, option_map};
 ghost use Rattle.gn_build_faults.specs.Reaching.{targets_of};
 ghost use Rattle.gn_build_faults.specs.Whole.{those_or};
 
-use crate::whole::is_whole;
 use gn_graph_meant::the_labels_of_items_are_enough;
 use gn_labelled::{ItemIndex, LentGraph};
 use gn_labels::Label;
@@ -27,17 +26,19 @@ pub fn targets_of(
     reached(alloc, generated, &graph)
 }
 
-/// The same, where they are others than those that are generated; None where those are all of them, as it is mostly, and stand in
-/// label order. Then nothing is copied.
+/// The same, where it isn't known that they are those that are generated; None where those are all of them, as it is mostly, and stand
+/// in label order. Then nothing is copied.
 pub(crate) fn other_targets(
     alloc: Global,
     default: &Text,
     items: &ItemIndex<'_>,
+    is_whole: bool,
     generated: &[Label],
 ) -> Result<Option<Vec<Label>>, AllocError>
+    requires { is_whole ≡ true → generated.now ≡ targets_of default.now items.now generated.now }
     ensures { IfOk result (λ others. those_or generated.now (option_map (λ targets. targets.items) others) ≡ targets_of default.now items.now generated.now) }
 {
-    if is_whole(alloc, default, items, generated)? {
+    if is_whole {
         return Ok(None);
     }
     let targets = targets_of(alloc, default, items, generated)?;

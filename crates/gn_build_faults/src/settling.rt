@@ -1,16 +1,18 @@
 // Which items reach no cycle, by an order in which dependencies stand first.
 
-ghost use Rattle.std.specs.Prelude.{◌≡◌, ◌∷◌, [], ℕ, true, false, replicate, slice_set, IfOk, option_map};
+ghost use Rattle.std.specs.Prelude.{◌≡◌, ◌∷◌, [], ℕ, List, Some, true, false, replicate, slice_set, IfOk};
 ghost use Rattle.std.specs.List.{list_all};
 ghost use Rattle.gn_cycles.specs.Settled.{AreSettled};
+ghost use Rattle.gn_items.specs.declared.item.Item.{Item};
 ghost use Rattle.gn_labelled.specs.Graphs.{shape_of};
-ghost use Rattle.gn_build_faults.specs.Settling.{is_marked, is_settled, dependencies_at, AreMarked};
+ghost use Rattle.gn_build_faults.specs.Settling.{is_marked, is_settled, AreMarked};
+ghost use Rattle.gn_build_faults.specs.Links.{AreLinks, links_in, links_at as linked_places};
 
+use crate::links::{Links, links_at};
+use crate::order::dependencies_first;
 use gn_chains::Firsts;
-use gn_items::Item;
-use gn_labelled::{ItemIndex, dependencies_first};
+use gn_labelled::ItemIndex;
 use gn_labels::Label;
-use gn_rows::Variable;
 use std::alloc::{AllocError, Global};
 
 /// Which items are known to reach no cycle, by marks at their places.
@@ -40,26 +42,13 @@ fn is_settled(items: &ItemIndex<'_>, marks: &[bool], label: &Label) -> bool
     is_marked(marks, items.place(label))
 }
 
-// Whether those of all of the labels are.
-fn are_settled(items: &ItemIndex<'_>, marks: &[bool], labels: &[Label]) -> bool
-    ensures { result ≡ list_all (λ d. is_settled items.now marks.now d) labels.now }
+// Whether those of all dependencies of the item at a place are.
+fn has_settled(links: &[Links], marks: &[bool], place: usize) -> bool
+    ensures { result ≡ list_all (is_marked marks.now) (linked_places (links_in links.now) (Some place)) }
 {
-    labels.iter().all(|label| is_settled(items, marks, label))
-}
-
-// Whether those of all dependencies of an item are.
-#[tactic(auto, using(crate::proofs::Marked::all_of_three))]
-fn has_settled(items: &ItemIndex<'_>, marks: &[bool], item: Option<&Item>) -> bool
-    ensures { result ≡ list_all (λ d. is_settled items.now marks.now d) (dependencies_at (option_map (λ i. i.now) item.entry)) }
-{
-    match item {
-        None => true,
-        Some(item) => {
-            are_settled(items, marks, item.fields.labels(Variable::PublicDeps))
-                && are_settled(items, marks, item.fields.labels(Variable::Deps))
-                && are_settled(items, marks, item.fields.labels(Variable::DataDeps))
-        }
-    }
+    links_at(links, Some(place))
+        .iter()
+        .all(|place| is_marked(marks, *place))
 }
 
 /// Marks a place, if there is one.
@@ -72,23 +61,20 @@ pub(crate) fn mark(marks: &mut [bool], place: usize)
 }
 
 // Marks the item at a place, if all its dependencies are marked.
-fn settle(items: &ItemIndex<'_>, marks: &mut [bool], place: usize)
-    requires { AreMarked items.now marks.old }
-    ensures { AreMarked items.now marks.new }
+fn settle(links: &[Links], marks: &mut [bool], place: usize)
+    ensures { (items : List Item) → AreLinks items links.now → AreMarked items marks.old → AreMarked items marks.new }
 {
-    let item = items.at(Some(place));
-    if has_settled(items, &*marks, item) {
+    if has_settled(links, &*marks, place) {
         mark(marks, place);
     }
 }
 
 // Marks the items at places, one after the other.
-fn settle_all(items: &ItemIndex<'_>, marks: &mut [bool], order: &[usize])
-    requires { AreMarked items.now marks.old }
-    ensures { AreMarked items.now marks.new }
+fn settle_all(links: &[Links], marks: &mut [bool], order: &[usize])
+    ensures { (items : List Item) → AreLinks items links.now → AreMarked items marks.old → AreMarked items marks.new }
 {
     for place in order {
-        settle(items, marks, *place);
+        settle(links, marks, *place);
     }
 }
 
@@ -102,17 +88,20 @@ pub(crate) fn no_marks(alloc: Global, items: &ItemIndex<'_>) -> Result<Vec<bool>
     Ok(marks)
 }
 
-/// Which items are known to reach no cycle: of targets and of what they depend on all that reach none.
+/// Which items are known to reach no cycle, by the places of their dependencies: of the items at places and of what they depend on
+/// all that reach none.
 pub(crate) fn settled(
     alloc: Global,
     items: &ItemIndex<'_>,
-    targets: &[Label],
+    links: &[Links],
+    places: &[Option<usize>],
 ) -> Result<SettledItems, AllocError>
+    requires { AreLinks items.now links.now }
     ensures { IfOk result (λ settled. AreMarked items.now settled.marks.items) }
 {
-    let order = dependencies_first(alloc, items, targets)?;
+    let order = dependencies_first(alloc, links, places)?;
     let mut marks = no_marks(alloc, items)?;
-    settle_all(items, marks.as_mut_slice(), order.as_slice());
+    settle_all(links, marks.as_mut_slice(), order.as_slice());
     Ok(SettledItems { marks })
 }
 

@@ -1,20 +1,19 @@
 // Whether the targets that are generated have all their dependencies among them.
 
-ghost use Rattle.std.specs.Prelude.{◌≡◌, ℕ, true, false, replicate, IfOk, option_map};
+ghost use Rattle.std.specs.Prelude.{◌≡◌, ℕ, List, true, false, replicate, IfOk};
 ghost use Rattle.std.specs.List.{list_all};
-ghost use Rattle.gn_items.specs.Effects.{item_at};
+ghost use Rattle.gn_items.specs.declared.item.Item.{Item};
+ghost use Rattle.gn_build_faults.specs.Links.{AreLinks, places_of, links_in, links_at as linked_places};
 ghost use Rattle.gn_build_faults.specs.Reaching.{targets_of};
-ghost use Rattle.gn_build_faults.specs.Settling.{dependencies_at};
-ghost use Rattle.gn_build_faults.specs.Whole.{rises_from, rises, with_mark, with_marks, has_mark, have_marks, are_closed};
+ghost use Rattle.gn_build_faults.specs.Whole.{rises_from, rises, with_mark, with_places, has_mark, are_linked};
 
+use crate::links::{Links, links_at};
 use crate::settling::{mark, no_marks};
 use gn_graph_meant::the_labels_of_items_are_enough;
-use gn_items::Item;
 use gn_labelled::ItemIndex;
 use gn_labels::{Label, label_order_is_transitive};
 use gn_paths::Text;
 use gn_resolved_meant::reached_targets_are_closed;
-use gn_rows::Variable;
 use std::alloc::{AllocError, Global};
 
 // Whether a label and those behind it come one before the other in label order.
@@ -50,12 +49,12 @@ fn mark_at(marks: &mut [bool], place: Option<usize>)
     }
 }
 
-// Marks the places of the items of labels.
-fn mark_all(items: &ItemIndex<'_>, marks: &mut [bool], labels: &[Label])
-    ensures { marks.new ≡ with_marks items.now marks.old labels.now }
+// Marks places.
+fn mark_all(marks: &mut [bool], places: &[Option<usize>])
+    ensures { marks.new ≡ with_places marks.old places.now }
 {
-    for label in labels {
-        mark_at(marks, items.place(label));
+    for place in places {
+        mark_at(marks, *place);
     }
 }
 
@@ -72,74 +71,66 @@ fn has_mark(marks: &[bool], place: Option<usize>) -> bool
     }
 }
 
-// Whether all of the labels have items that are marked.
-fn have_marks(items: &ItemIndex<'_>, marks: &[bool], labels: &[Label]) -> bool
-    ensures { result ≡ have_marks items.now marks.now labels.now }
+// Whether all of the places have items that are marked.
+fn have_marks(marks: &[bool], places: &[Option<usize>]) -> bool
+    ensures { result ≡ list_all (has_mark marks.now) places.now }
 {
-    labels
-        .iter()
-        .all(|label| has_mark(marks, items.place(label)))
+    places.iter().all(|place| has_mark(marks, *place))
 }
 
-// Whether all dependencies of an item have.
-#[tactic(auto, using(crate::proofs::Marked::all_of_three))]
-fn is_closed(items: &ItemIndex<'_>, marks: &[bool], item: Option<&Item>) -> bool
-    ensures { result ≡ have_marks items.now marks.now (dependencies_at (option_map (λ i. i.now) item.entry)) }
+// Whether all dependencies of the item at a place have.
+fn is_linked(links: &[Links], marks: &[bool], place: Option<usize>) -> bool
+    ensures { result ≡ list_all (has_mark marks.now) (linked_places (links_in links.now) place) }
 {
-    match item {
-        None => true,
-        Some(item) => {
-            have_marks(items, marks, item.fields.labels(Variable::PublicDeps))
-                && have_marks(items, marks, item.fields.labels(Variable::Deps))
-                && have_marks(items, marks, item.fields.labels(Variable::DataDeps))
-        }
-    }
+    have_marks(marks, links_at(links, place))
 }
 
-// Whether all dependencies of the item of a label have.
-fn is_label_closed(items: &ItemIndex<'_>, marks: &[bool], label: &Label) -> bool
-    ensures { result ≡ have_marks items.now marks.now (dependencies_at (item_at label.now items.now)) }
+// Whether all dependencies of the items at places have.
+fn are_linked(links: &[Links], marks: &[bool], places: &[Option<usize>]) -> bool
+    ensures { result ≡ are_linked (links_in links.now) marks.now places.now }
 {
-    is_closed(items, marks, items.item(label))
+    places.iter().all(|place| is_linked(links, marks, *place))
 }
 
-// Whether all dependencies of the labels have.
-fn are_closed(items: &ItemIndex<'_>, marks: &[bool], labels: &[Label]) -> bool
-    ensures { result ≡ are_closed items.now marks.now labels.now }
+// Whether the items at places have all their dependencies among them, where nothing is marked.
+fn is_closed_by(links: &[Links], marks: &mut [bool], places: &[Option<usize>]) -> bool
+    ensures { result ≡ are_linked (links_in links.now) (with_places marks.old places.now) places.now }
 {
-    labels
-        .iter()
-        .all(|label| is_label_closed(items, marks, label))
+    mark_all(marks, places);
+    are_linked(links, &*marks, places)
 }
 
-// Whether labels have all their dependencies among them, where nothing is marked.
-fn is_closed_by(items: &ItemIndex<'_>, marks: &mut [bool], labels: &[Label]) -> bool
-    ensures { result ≡ are_closed items.now (with_marks items.now marks.old labels.now) labels.now }
-{
-    mark_all(items, marks, labels);
-    are_closed(items, &*marks, labels)
-}
-
-// The same, where they also stand in label order: then they are all that are reached from them.
-fn is_whole_by(default: &Text, items: &ItemIndex<'_>, marks: &mut [bool], labels: &[Label]) -> bool
-    ensures { (k : ℕ) → marks.old ≡ replicate k false → result ≡ true → labels.now ≡ targets_of default.now items.now labels.now }
+// The same of labels, where they also stand in label order: then they are all that are reached from them.
+fn is_whole_by(
+    default: &Text,
+    links: &[Links],
+    places: &[Option<usize>],
+    marks: &mut [bool],
+    labels: &[Label],
+) -> bool
+    ensures { (items : List Item) (k : ℕ) → AreLinks items links.now → places.now ≡ places_of items labels.now → marks.old ≡ replicate k false
+        → result ≡ true → labels.now ≡ targets_of default.now items labels.now }
 {
     label_order_is_transitive();
     the_labels_of_items_are_enough();
     reached_targets_are_closed();
-    rises(default, labels) && is_closed_by(items, marks, labels)
+    rises(default, labels) && is_closed_by(links, marks, places)
 }
 
-/// Whether it is known that the targets that are generated are all the targets of which faults are told: where they stand in label order
-/// and have all their dependencies among them.
+/// Whether it is known that the targets that are generated, which stand at these places, are all the targets of which faults are told:
+/// where they stand in label order and have all their dependencies among them.
 pub(crate) fn is_whole(
     alloc: Global,
     default: &Text,
     items: &ItemIndex<'_>,
+    links: &[Links],
+    places: &[Option<usize>],
     generated: &[Label],
 ) -> Result<bool, AllocError>
+    requires links { AreLinks items.now links.now }
+    requires places { places.now ≡ places_of items.now generated.now }
     ensures { IfOk result (λ whole. whole ≡ true → generated.now ≡ targets_of default.now items.now generated.now) }
 {
     let mut marks = no_marks(alloc, items)?;
-    Ok(is_whole_by(default, items, marks.as_mut_slice(), generated))
+    Ok(is_whole_by(default, links, places, marks.as_mut_slice(), generated))
 }

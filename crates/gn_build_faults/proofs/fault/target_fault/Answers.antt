@@ -10,6 +10,6 @@ returns g c =
     let s = given c.args.surroundings in
     let items = c.args.items.now in
     let over = subst (λ (xs : List Item). IsOver s xs c.args.targets.now c.in_ok-frames.frames) c.items.ensures c.in_ok-frames.ensures in
-    if_ok c.fault_framed-fault.result
+    if_ok c.fault_among-fault.result
     (λ told is. is ∙ told_of s items items c.args.targets.now c.in_ok-frames.frames refl over)
-    c.fault_framed-fault.ensures
+    c.fault_among-fault.ensures

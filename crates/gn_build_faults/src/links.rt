@@ -1,0 +1,126 @@
+// Where the items stand that labels name, for which several threads look.
+
+ghost use Rattle.std.specs.Prelude.{◌≡◌, ◌++◌, Some, IfOk, OnOk, map};
+ghost use Rattle.gn_labelled.specs.Index.{place_of};
+ghost use Rattle.gn_build_faults.specs.Settling.{dependencies_at};
+ghost use Rattle.gn_build_faults.specs.Links.{AreLinks, places_of, links_at, links_in};
+
+use crate::shared::items_are_shared;
+use gn_items::Item;
+use gn_labelled::ItemIndex;
+use gn_labels::Label;
+use gn_rows::Variable;
+use rayon::prelude::*;
+use std::alloc::{AllocError, Global};
+use std::thread::Threads;
+
+// How many items, or labels, are worth a thread of their own.
+const LEAST_ITEMS: usize = 256;
+
+/// Where the items stand that an item depends on: public, private, of data. What no item has stands nowhere.
+#[derive(Drop)]
+pub(crate) struct Links {
+    /// Their places.
+    pub(crate) places: Vec<Option<usize>>,
+}
+
+// Puts the places of labels behind others.
+fn add_places(
+    items: &ItemIndex<'_>,
+    places: &mut Vec<Option<usize>>,
+    labels: &[Label],
+) -> Result<(), AllocError>
+    ensures { OnOk result (places.new.items ≡ places.old.items ++ places_of items.now labels.now) }
+{
+    for label in labels {
+        places.push(items.place(label))?;
+    }
+    Ok(())
+}
+
+// Puts the places of the dependencies of an item behind others.
+#[tactic(auto, using(crate::proofs::Linked::of_three))]
+fn add_dependencies(
+    items: &ItemIndex<'_>,
+    places: &mut Vec<Option<usize>>,
+    item: &Item,
+) -> Result<(), AllocError>
+    ensures { OnOk result (places.new.items ≡ places.old.items ++ places_of items.now (dependencies_at (Some item.now))) }
+{
+    add_places(items, places, item.fields.labels(Variable::PublicDeps))?;
+    add_places(items, places, item.fields.labels(Variable::Deps))?;
+    add_places(items, places, item.fields.labels(Variable::DataDeps))
+}
+
+// The places of the dependencies of an item.
+fn item_links(alloc: Global, items: &ItemIndex<'_>, item: &Item) -> Result<Links, AllocError>
+    ensures { IfOk result (λ links. links.places.items ≡ places_of items.now (dependencies_at (Some item.now))) }
+{
+    let mut places = Vec::new(alloc);
+    add_dependencies(items, &mut places, item)?;
+    Ok(Links { places })
+}
+
+/// The places of the dependencies of each item. Several threads look for them, each for those of some items.
+pub(crate) fn all_links<R: Threads + Sync>(
+    rt: &R,
+    alloc: Global,
+    items: &ItemIndex<'_>,
+) -> Result<Vec<Links>, AllocError>
+    ensures { IfOk result (λ links. AreLinks items.now links.items) }
+{
+    items_are_shared();
+    let links: Result<Vec<Links>, AllocError> = items
+        .items()
+        .par_iter()
+        .with_min_len(LEAST_ITEMS)
+        .map(
+            |item: &&Item| -> Result<Links, AllocError>
+                ensures { IfOk result (λ links. links.places.items ≡ places_of items.entry.now (dependencies_at (Some item.now.now))) }
+            { item_links(alloc, items, item) },
+        )
+        .collect(rt, alloc)?;
+    links
+}
+
+// The place of a label. It takes no memory.
+fn found(items: &ItemIndex<'_>, label: &Label) -> Result<Option<usize>, AllocError>
+    ensures { IfOk result (λ place. place ≡ place_of label.now items.now) }
+{
+    Ok(items.place(label))
+}
+
+/// The places of labels. Several threads look for them, each for those of some labels.
+pub(crate) fn places_of<R: Threads + Sync>(
+    rt: &R,
+    alloc: Global,
+    items: &ItemIndex<'_>,
+    labels: &[Label],
+) -> Result<Vec<Option<usize>>, AllocError>
+    ensures { IfOk result (λ places. places.items ≡ places_of items.now labels.now) }
+{
+    items_are_shared();
+    let places: Result<Vec<Option<usize>>, AllocError> = labels
+        .par_iter()
+        .with_min_len(LEAST_ITEMS)
+        .map(
+            |label: &Label| -> Result<Option<usize>, AllocError>
+                ensures { IfOk result (λ place. place ≡ place_of label.now items.entry.now) }
+            { found(items, label) },
+        )
+        .collect(rt, alloc)?;
+    places
+}
+
+/// The places of the dependencies of the item at a place; none where there is no item.
+pub(crate) fn links_at(links: &[Links], place: Option<usize>) -> &[Option<usize>]
+    ensures { result.now ≡ links_at (links_in links.now) place }
+{
+    let Some(place) = place else {
+        return &[];
+    };
+    match links.get(place) {
+        None => &[],
+        Some(links) => links.places.as_slice(),
+    }
+}
