@@ -1,6 +1,6 @@
 -- What is said of items by their places.
-use Rattle.std.proofs.Common.{◌≡◌, ℕ, List, [], ◌∷◌, ◌++◌, Bool, ◌&&◌, Option, Some, None, option_map, map, slice_get, Bor, refl, sym, ◌∙◌, ap, append_assoc}
-use Rattle.std.specs.List.{list_all}
+use Rattle.std.proofs.Common.{◌≡◌, ◌+◌, ℕ, zero, suc, length, arith, List, [], ◌∷◌, ◌++◌, Bool, ◌&&◌, Option, Some, None, option_map, map, slice_get, Bor, refl, sym, ◌∙◌, ap, append_assoc}
+use Rattle.std.specs.List.{list_all, range_with_len}
 use Rattle.std.proofs.lemmas.List.{map-append}
 use Rattle.std.proofs.lemmas.List.Folds.{list_all-map}
 use Rattle.std.proofs.lemmas.Option.{slice_get-map}
@@ -13,10 +13,20 @@ use Rattle.gn_build_faults.specs.Links.{places_of, item_links, or_none, links_at
 use Rattle.gn_build_faults.specs.Whole.{with_mark, with_marks, with_places, has_mark, have_marks, are_closed, are_linked}
 use Rattle.gn_build_faults.proofs.Marked.{placed}
 
--- what is made of items behind references
-pub map_lent : {Y : Type 0} (f : Item → Y) (items : List (Bor Item)) → map (λ (item : Bor Item). f item.now) items ≡ map f (lent items)
-map_lent f [] = refl
-map_lent f (x ∷ items) = ap (λ ys. f x.now ∷ ys) (map_lent f items)
+-- references are as many as what is behind them
+pub lent_length : (items : List (Bor Item)) → length items ≡ length (lent items)
+lent_length [] = refl
+lent_length (x ∷ items) = ap suc (lent_length items)
+
+-- what is made of the numbers from the next one on
+shifted : {Y : Type 0} (f : ℕ → Y) (a n : ℕ) → map f (range_with_len (a + 1) n) ≡ map (λ k. f (suc k)) (range_with_len a n)
+shifted f a zero = refl
+shifted f a (suc n) = let one : a + 1 ≡ suc a = omega arith in (λ i. f (one i) ∷ shifted f (a + 1) n i)
+
+-- what is made of the items at all places
+pub ranged : {Y : Type 0} (f : Option Item → Y) (items : List Item) → map (λ n. f (slice_get items n)) (range_with_len 0 (length items)) ≡ map (λ x. f (Some x)) items
+ranged f [] = refl
+ranged f (x ∷ items) = ap (λ ys. f (Some x) ∷ ys) (shifted (λ n. f (slice_get (x ∷ items) n)) 0 (length items) ∙ ranged f items)
 
 pub map_same : {X : Type 0} (xs : List X) → map (λ (x : X). x) xs ≡ xs
 map_same [] = refl
@@ -28,9 +38,8 @@ module _ (items : List Item) where
       → ((before ++ places_of items xs) ++ places_of items ys) ++ places_of items zs ≡ before ++ places_of items ((xs ++ ys) ++ zs)
   of_three before xs ys zs =
       let place = λ (l : Label). place_of l items in
-      sym (ap (λ ps. before ++ ps) (map-append place (xs ++ ys) zs ∙ ap (λ ps. ps ++ map place zs) (map-append place xs ys))
-      ∙ append_assoc before (map place xs ++ map place ys) (map place zs)
-      ∙ ap (λ ps. ps ++ map place zs) (append_assoc before (map place xs) (map place ys)))
+      ap (λ ps. ps ++ map place zs) (append_assoc before (map place xs) (map place ys)) ∙ append_assoc before (map place xs ++ map place ys) (map place zs)
+      ∙ sym (ap (λ ps. before ++ ps) (map-append place (xs ++ ys) zs ∙ ap (λ ps. ps ++ map place zs) (map-append place xs ys)))
 
   -- the links at a place are those of its item
   pub linked : (place : Option ℕ) → links_at (map (item_links items) items) place ≡ places_of items (dependencies_at (item_in items place))

@@ -11,7 +11,7 @@ ghost use Rattle.gn_build_faults.specs.Settling.{AreMarked};
 use crate::fault::target_fault;
 use crate::first::first_of;
 use crate::foreseen::{Foreseen, foresee, settled_labels};
-use crate::reaching::other_targets;
+use crate::reaching::targets_unless_whole;
 use crate::settling::SettledItems;
 use gn_faults::Fault;
 use gn_labelled::ItemIndex;
@@ -190,7 +190,7 @@ fn fault_foreseen<'a, R: Threads + Sync>(
     requires settled { AreMarked items.now foreseen.now.settled.marks.items }
     ensures { IfOk result (λ fault. fault ≡ fault_of_labels (given surroundings.entry) items.now (targets_of (given surroundings.entry).default items.now generated.now)) }
 {
-    let others = other_targets(
+    let others = targets_unless_whole(
         alloc,
         surroundings.default,
         items,

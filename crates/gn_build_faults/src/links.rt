@@ -1,7 +1,7 @@
 // Where the items stand that labels name, for which several threads look.
 
-ghost use Rattle.std.specs.Prelude.{◌≡◌, ◌++◌, Some, IfOk, OnOk, map};
-ghost use Rattle.gn_labelled.specs.Index.{place_of};
+ghost use Rattle.std.specs.Prelude.{◌≡◌, ◌++◌, Some, IfOk, OnOk, option_map};
+ghost use Rattle.gn_labelled.specs.Index.{place_of, item_in};
 ghost use Rattle.gn_build_faults.specs.Settling.{dependencies_at};
 ghost use Rattle.gn_build_faults.specs.Links.{AreLinks, places_of, links_at, links_in};
 
@@ -61,6 +61,30 @@ fn item_links(alloc: Global, items: &ItemIndex<'_>, item: &Item) -> Result<Links
     Ok(Links { places })
 }
 
+// The places of the dependencies of an item, if there is one.
+fn links_of(
+    alloc: Global,
+    items: &ItemIndex<'_>,
+    item: Option<&Item>,
+) -> Result<Links, AllocError>
+    ensures { IfOk result (λ links. links.places.items ≡ places_of items.now (dependencies_at (option_map (λ i. i.now) item.entry))) }
+{
+    match item {
+        None => Ok(Links {
+            places: Vec::new(alloc),
+        }),
+        Some(item) => item_links(alloc, items, item),
+    }
+}
+
+// The places of the dependencies of the item at a place.
+fn links_from(alloc: Global, items: &ItemIndex<'_>, place: usize) -> Result<Links, AllocError>
+    ensures { IfOk result (λ links. links.places.items ≡ places_of items.now (dependencies_at (item_in items.now (Some place)))) }
+{
+    let item = items.at(Some(place));
+    links_of(alloc, items, item)
+}
+
 /// The places of the dependencies of each item. Several threads look for them, each for those of some items.
 pub(crate) fn all_links<R: Threads + Sync>(
     rt: &R,
@@ -70,14 +94,13 @@ pub(crate) fn all_links<R: Threads + Sync>(
     ensures { IfOk result (λ links. AreLinks items.now links.items) }
 {
     items_are_shared();
-    let links: Result<Vec<Links>, AllocError> = items
-        .items()
-        .par_iter()
+    let links: Result<Vec<Links>, AllocError> = (0..items.items().len())
+        .into_par_iter()
         .with_min_len(LEAST_ITEMS)
         .map(
-            |item: &&Item| -> Result<Links, AllocError>
-                ensures { IfOk result (λ links. links.places.items ≡ places_of items.entry.now (dependencies_at (Some item.now.now))) }
-            { item_links(alloc, items, item) },
+            |place: usize| -> Result<Links, AllocError>
+                ensures { IfOk result (λ links. links.places.items ≡ places_of items.entry.now (dependencies_at (item_in items.entry.now (Some place)))) }
+            { links_from(alloc, items, place) },
         )
         .collect(rt, alloc)?;
     links

@@ -7,4 +7,4 @@ use Rattle.gn_build_faults.proofs.fault.fault_behind.Given as goal
 abbrev pub invariant-loop-found : goal.invariant-loop-found
 invariant-loop-found l =
     fault_of_examined l.default l.items (known_of l.frames) (lent_texts l.seen.keys) (map examined_state (drop l.found-index l.examined))
-    ≡ fault_of_examined l.default l.items (known_of l.frames) l.initia (lent_texts l.seen.keys) (map examined_state l.examined)
+    ≡ fault_of_examined l.default l.items (known_of l.frames) (lent_texts l.initial.seen.keys) (map examined_state l.examined)
