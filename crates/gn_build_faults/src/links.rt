@@ -62,11 +62,7 @@ fn item_links(alloc: Global, items: &ItemIndex<'_>, item: &Item) -> Result<Links
 }
 
 // The places of the dependencies of an item, if there is one.
-fn links_of(
-    alloc: Global,
-    items: &ItemIndex<'_>,
-    item: Option<&Item>,
-) -> Result<Links, AllocError>
+fn links_of(alloc: Global, items: &ItemIndex<'_>, item: Option<&Item>) -> Result<Links, AllocError>
     ensures { IfOk result (λ links. links.places.items ≡ places_of items.now (dependencies_at (option_map (λ i. i.now) item.entry))) }
 {
     match item {

@@ -1,4 +1,5 @@
-use Rattle.std.proofs.Common.{◌≡◌, ◌++◌, ◌∙◌, length, take, drop, subst, rules}
+use Rattle.std.proofs.Common.{◌≡◌, ◌++◌, ◌∙◌, ap, sym, length, take, drop, subst, arith}
+use Rattle.std.proofs.Math.Seq.{take-append_seam}
 use Rattle.gn_build_faults.specs.Settling.{AreMarked}
 use Rattle.gn_build_faults.proofs.Marked.{none_marked}
 use Rattle.gn_build_faults.proofs.settling.settled.Goals as goal
@@ -10,5 +11,6 @@ returns c =
     let marked = c.settle_all.ensures items c.requires none in
     let made = c.settle_all.new.marks in
     let old = c.in_ok-marks.marks in
-    let same : made ≡ take old.len (made ++ drop (length made) old.items) = search rules in
-    subst (AreMarked items) same marked
+    let rest = drop (length made) old.items in
+    let count : length made ≡ old.len = omega (arith, c.settle_all.auto.marks, c.as_mut_slice.ensures.len) in
+    subst (AreMarked items) (sym (take-append_seam made rest) ∙ ap (λ n. take n (made ++ rest)) count) marked
