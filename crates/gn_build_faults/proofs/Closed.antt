@@ -1,15 +1,14 @@
 -- Labels in label order that have all their dependencies among them are all that are reached from them.
-use Rattle.std.proofs.Common.{◌≡◌, ◌⊎◌, inl, inr, ℕ, zero, suc, List, [], ◌∷◌, Bool, true, false, ◌&&◌, ◌||◌, cond, Option, Some, None, option_map, slice_get, slice_set, replicate, map, Ordering, refl, sym, ◌∙◌, ap, subst, arith}
+use Rattle.std.proofs.Common.{◌≡◌, inl, inr, ℕ, zero, suc, List, [], ◌∷◌, Bool, true, false, ◌||◌, cond, Option, Some, None, option_map, slice_get, slice_set, replicate, Ordering, refl, sym, ◌∙◌, ap, arith}
 use Rattle.std.specs.declared.cmp.Ordering.TheVariants.{Less, Equal, Greater}
 use Rattle.std.specs.Ordering.{is_lt}
-use Rattle.std.specs.List.{list_all, AllByRecursion}
+use Rattle.std.specs.List.{AllByRecursion}
 use Rattle.std.specs.List.Sorted.{IsStrictlySortedBy}
 use Rattle.std.proofs.lemmas.Bool.{and_parts}
 use Rattle.gn_labels.specs.declared.label.Label.{Label}
 use Rattle.gn_labels.specs.Labels.{label_order, is_before}
 use Rattle.gn_dependencies.specs.Lists.{same_label as same_of_dependencies, has}
 use Rattle.gn_dependencies.specs.Laws.{Reached, itself, onward}
-use Rattle.gn_dependencies.specs.Shape.{all_deps}
 use Rattle.gn_dependencies.proofs.Same.{own, same}
 use Rattle.gn_graph_meant.specs.Laws.{ItemsAreEnough}
 use Rattle.gn_items.specs.declared.item.Item.{Item}
@@ -17,7 +16,7 @@ use Rattle.gn_items.specs.Effects.{same_label, item_at}
 use Rattle.gn_labelled.specs.Graphs.{shape_of, or_false}
 use Rattle.gn_labelled.specs.Index.{place_of}
 use Rattle.gn_labelled.specs.Listed.{same_tie}
-use Rattle.gn_resolved_meant.specs.Laws.{IsClosed, IsReachedFrom, AreTheReached}
+use Rattle.gn_resolved_meant.specs.Laws.{IsClosed, AreTheReached}
 use Rattle.gn_build_faults.specs.Reaching.{labels_in, targets_of}
 use Rattle.gn_build_faults.specs.Settling.{dependencies_at}
 use Rattle.gn_build_faults.specs.Whole.{rises_from, rises, with_mark, with_marks, has_mark, have_marks, are_closed}

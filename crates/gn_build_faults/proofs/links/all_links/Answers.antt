@@ -1,4 +1,4 @@
-use Rattle.std.proofs.Common.{◌≡◌, ◌-◌, ℕ, List, Option, Some, length, slice_get, ap, ◌∙◌, map, arith}
+use Rattle.std.proofs.Common.{◌≡◌, ◌-◌, ℕ, Option, length, slice_get, ap, ◌∙◌, map, arith}
 use Rattle.std.specs.List.{range_with_len}
 use Rattle.gn_basics.proofs.Results.{if_ok}
 use Rattle.std.proofs.Crossing.{crosses}
@@ -6,7 +6,7 @@ use denote.Param.Send.{sendable}
 use Rattle.rayon.specs.Lists.{range_start, range_end}
 use Rattle.rayon.specs.Numbers.{nat_range}
 use Rattle.gn_items.specs.declared.item.Item.{Item}
-use Rattle.gn_threads.proofs.Gathering.{Means, gathered}
+use Rattle.gn_threads.proofs.Gathering.{gathered}
 use Rattle.gn_build_faults.specs.declared.links.Links.{Links}
 use Rattle.gn_build_faults.specs.Settling.{dependencies_at}
 use Rattle.gn_build_faults.specs.Links.{places_of}

@@ -1,4 +1,4 @@
-use Rattle.std.proofs.Common.{◌≡◌, ℕ, List, Option, sym, ap, ◌∙◌, map}
+use Rattle.std.proofs.Common.{ℕ, Option, sym, ap, ◌∙◌}
 use Rattle.gn_basics.proofs.Results.{if_ok}
 use Rattle.std.proofs.Crossing.{crosses}
 use denote.Param.Send.{sendable}

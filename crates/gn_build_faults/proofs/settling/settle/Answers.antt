@@ -1,4 +1,4 @@
-use Rattle.std.proofs.Common.{Bool, List, ap, refl, sym, ◌∙◌}
+use Rattle.std.proofs.Common.{List, ap, refl, sym, ◌∙◌}
 use Rattle.std.specs.List.{list_all}
 use Rattle.gn_build_faults.specs.Settling.{is_marked}
 use Rattle.gn_build_faults.specs.Links.{links_at}

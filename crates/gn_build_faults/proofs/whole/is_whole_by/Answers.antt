@@ -1,4 +1,4 @@
-use Rattle.std.proofs.Common.{ℕ, Bool, List, Option, ap, sym, ◌∙◌, replicate, false}
+use Rattle.std.proofs.Common.{Bool, List, ap, sym, ◌∙◌, replicate, false}
 use Rattle.gn_build_faults.specs.Links.{places_of}
 use Rattle.gn_build_faults.specs.Whole.{with_places, are_linked, are_closed}
 use Rattle.gn_build_faults.proofs.Closed.{whole}
