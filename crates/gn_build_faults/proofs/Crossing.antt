@@ -38,7 +38,7 @@ module _ (fields : IsSync Fields.the_row) where
   tools : IsSync Tools.the_row
   tools = view_sync _ _ _ _ _ inside_tools
 
-  pub item : IsSync Item.the_row
+  item : IsSync Item.the_row
   item = search (tools, sendable, crosses) depth 40 fits 10000
 
   inside_index : (a : NamedLft) → IsSync (TheIndex.the_row a)

@@ -1,7 +1,6 @@
 -- Marks at the places of items that reach no cycle.
 use Rattle.std.proofs.Common.{◌≡◌, ◌⊎◌, inl, inr, ℕ, zero, suc, ◌≤◌, List, [], ◌∷◌, ◌++◌, Bool, true, false, ◌||◌, ◌&&◌, Option, Some, None, option_map, cond, slice_get, slice_set, length, take, replicate, refl, sym, ◌∙◌, ap, subst, arith}
 use Rattle.std.specs.List.{list_all}
-use Rattle.std.proofs.lemmas.List.Folds.{list_all-append}
 use Rattle.std.proofs.lemmas.Bool.{and_parts}
 use Rattle.gn_labels.specs.declared.label.Label.{Label}
 use Rattle.gn_dependencies.specs.Lists.{same_label, has}
@@ -24,13 +23,6 @@ placed q (x ∷ items) = by (is_its_label q x.label) (place_of q items) (placed 
     by true r e = refl
     by false None e = e
     by false (Some n) e = e
-
-pub all_of_three : (p : Label → Bool) (xs ys zs : List Label) → list_all p ((xs ++ ys) ++ zs) ≡ (list_all p xs && (list_all p ys && list_all p zs))
-all_of_three p xs ys zs = list_all-append p (xs ++ ys) zs ∙ ap (λ b. b && list_all p zs) (list_all-append p xs ys) ∙ joined (list_all p xs) (list_all p ys) (list_all p zs)
-  where
-    joined : (a b c : Bool) → ((a && b) && c) ≡ (a && (b && c))
-    joined true b c = refl
-    joined false b c = refl
 
 -- a mark that stands where one more was set
 pub set_one : (marks : List Bool) (place n : ℕ) → slice_get (slice_set marks place true) n ≡ Some true → (n ≡ place) ⊎ (slice_get marks n ≡ Some true)

@@ -5,19 +5,16 @@ ghost use denote.Ref.{NamedLft};
 ghost use denote.Param.Send.{IsSend, IsSync};
 ghost use denote.Struct.Tuple.{TupleAt};
 ghost use Rattle.gn_labels.specs.contracts.label.Label as LabelRow;
-ghost use Rattle.gn_items.specs.contracts.item.Item as ItemRow;
 ghost use Rattle.gn_build_faults.specs.Captures.{captures, linking, finding};
 
 use gn_define::Fields;
 
-/// Threads may take and share a closure that captures items and the allocator, or the items alone, and share items and labels. It does
-/// nothing.
+/// Threads may take and share a closure that captures items and the allocator, or the items alone, and share labels. It does nothing.
 pub(crate) fn items_are_shared()
     ensures linking_send { (name : Sym) (alloc items lent : NamedLft) → IsSend (TupleAt name (linking alloc items lent)) }
     ensures linking_sync { (name : Sym) (alloc items lent : NamedLft) → IsSync (TupleAt name (linking alloc items lent)) }
     ensures finding_send { (name : Sym) (items lent : NamedLft) → IsSend (TupleAt name (finding items lent)) }
     ensures finding_sync { (name : Sym) (items lent : NamedLft) → IsSync (TupleAt name (finding items lent)) }
-    ensures item { IsSync ItemRow.the_row }
     ensures label { IsSync LabelRow.the_row }
 {
     is_shared::<Fields>(None)

@@ -1,4 +1,4 @@
-use Rattle.gn_build_faults.proofs.Crossing.{item, label, linking_send, linking_sync, finding_send, finding_sync}
+use Rattle.gn_build_faults.proofs.Crossing.{label, linking_send, linking_sync, finding_send, finding_sync}
 use Rattle.gn_build_faults.proofs.shared.items_are_shared.Goals as goal
 
 pub returns-clause-linking_send : goal.returns-clause-linking_send
@@ -12,9 +12,6 @@ returns-clause-finding_send c = finding_send (record { shared = λ d b o κ. c.i
 
 pub returns-clause-finding_sync : goal.returns-clause-finding_sync
 returns-clause-finding_sync c = finding_sync (record { shared = λ d b o κ. c.is_shared.ensures.shared d b o κ })
-
-pub returns-clause-item : goal.returns-clause-item
-returns-clause-item c = item (record { shared = λ d b o κ. c.is_shared.ensures.shared d b o κ })
 
 pub returns-clause-label : goal.returns-clause-label
 returns-clause-label c = label
