@@ -7,3 +7,5 @@ mod Placing
 mod Tallies
 mod Offers
 mod Transfer
+mod Reaching
+mod ReachState

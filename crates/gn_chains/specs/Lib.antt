@@ -3,3 +3,4 @@ pub mod Numbers
 pub mod Counts
 pub mod Candidates
 pub mod Walked
+pub mod Reached

@@ -2,13 +2,13 @@
 
 ghost use Rattle.std.specs.Prelude.{◌≡◌, ℕ, OnOk, IfOk, ◌||◌, slice_get, nat_eq};
 ghost use Rattle.std.specs.List.{IsDistinct};
-ghost use Rattle.gn_dependencies.specs.Shape.{near};
+ghost use Rattle.gn_dependencies.specs.Shape.{Shape};
 ghost use Rattle.gn_chains.specs.Numbers.{among, is_label, has_some, lists_in, AreEdges};
+ghost use Rattle.gn_chains.specs.Reached.{shown, near_of, AreNodes};
 
 use crate::firsts::Firsts;
-use crate::graph::Graph;
+use crate::reached::Node;
 use gn_labels::Label;
-use gn_rows::Variable;
 use indexmap::IndexSet;
 use std::alloc::{AllocError, Global};
 
@@ -37,16 +37,11 @@ fn add_numbers(
 }
 
 // Puts the numbers of the walked labels with the others on which a label depends, by public and private dependencies.
-fn add_near<G: Graph>(
-    out: &mut IndexSet<usize>,
-    graph: &G,
-    walked: &Firsts,
-    label: &Label,
-) -> Result<(), AllocError>
-    ensures { OnOk result ((n : ℕ) → among out.new.keys n ≡ (among out.old.keys n || has_some (near (G.shape graph.now) label.now) (slice_get walked.now n))) }
+fn add_near(out: &mut IndexSet<usize>, walked: &Firsts, node: &Node<'_>) -> Result<(), AllocError>
+    ensures { OnOk result ((n : ℕ) → among out.new.keys n ≡ (among out.old.keys n || has_some (near_of (shown node.now)) (slice_get walked.now n))) }
 {
-    add_numbers(out, walked, graph.labels(label, Variable::PublicDeps))?;
-    add_numbers(out, walked, graph.labels(label, Variable::Deps))
+    add_numbers(out, walked, node.public)?;
+    add_numbers(out, walked, node.private)
 }
 
 // The numbers, none of them twice.
@@ -58,34 +53,29 @@ fn into_numbers(alloc: Global, numbers: IndexSet<usize>) -> Result<Vec<usize>, A
 }
 
 // The numbers of the walked labels on which a label depends, by public and private dependencies.
-fn edges_from<G: Graph>(
-    alloc: Global,
-    graph: &G,
-    walked: &Firsts,
-    label: &Label,
-) -> Result<Vec<usize>, AllocError>
-    ensures numbers { IfOk result (λ list. (n : ℕ) → among list.items n ≡ has_some (near (G.shape graph.now) label.now) (slice_get walked.now n)) }
+fn edges_from(alloc: Global, walked: &Firsts, node: &Node<'_>) -> Result<Vec<usize>, AllocError>
+    ensures numbers { IfOk result (λ list. (n : ℕ) → among list.items n ≡ has_some (near_of (shown node.now)) (slice_get walked.now n)) }
     ensures once { IfOk result (λ list. IsDistinct nat_eq list.items) }
 {
     let mut out = IndexSet::new(alloc);
-    if let Err(error) = add_near(&mut out, graph, walked, label) {
+    if let Err(error) = add_near(&mut out, walked, node) {
         drop(out);
         return Err(error);
     }
     into_numbers(alloc, out)
 }
 
-// The numbers of the walked labels on which each of them depends.
-pub(crate) fn edges<G: Graph>(
+// The numbers of the walked labels on which each of them depends, by what a graph has of them.
+pub(crate) fn edges(
     alloc: Global,
-    graph: &G,
+    nodes: &[Node<'_>],
     walked: &Firsts,
 ) -> Result<Vec<Vec<usize>>, AllocError>
-    ensures { IfOk result (λ edges. AreEdges (G.shape graph.now) walked.now (lists_in edges.items)) }
+    ensures { IfOk result (λ edges. (g : Shape) → AreNodes g walked.now nodes.now → AreEdges g walked.now (lists_in edges.items)) }
 {
-    let mut edges = Vec::new(alloc);
-    for label in walked.as_slice() {
-        let list = edges_from(alloc, graph, walked, label)?;
+    let mut edges = Vec::with_capacity(alloc, nodes.len())?;
+    for node in nodes {
+        let list = edges_from(alloc, walked, node)?;
         edges.push(list)?;
     }
     Ok(edges)

@@ -6,13 +6,14 @@ ghost use Rattle.gn_dependencies.specs.Configurations.{AreRecorded};
 ghost use Rattle.gn_dependencies.specs.Inherited.{is_library, AreLibraries, IsInherited};
 ghost use Rattle.gn_chains.specs.Numbers.{among};
 ghost use Rattle.gn_chains.specs.Walked.{AreWalked};
+ghost use Rattle.gn_chains.specs.Reached.{AreNodes, IsReached};
+ghost use Rattle.gn_dependencies.specs.Shape.{Shape};
 
 use crate::edges::edges;
-use crate::firsts::Firsts;
 use crate::graph::Graph;
-use crate::kinds::{Walk, is_library, links};
+use crate::kinds::{is_library, links};
 use crate::order::order;
-use crate::walk::walked;
+use crate::reached::{Node, Reached, node_at, reach};
 use gn_labels::Label;
 use std::alloc::{AllocError, Global};
 
@@ -33,22 +34,23 @@ fn push_copy(alloc: Global, labels: &mut Vec<Label>, label: &Label) -> Result<()
     Ok(())
 }
 
-// Those of the labels with these numbers that are libraries, in the order of the numbers.
-fn libraries_at<G: Graph>(
+// Those of the labels with these numbers that are libraries, in the order of the numbers, by what a graph has of them.
+fn libraries_at(
     alloc: Global,
-    graph: &G,
+    nodes: &[Node<'_>],
     walked: &[Label],
     order: &[usize],
 ) -> Result<Vec<Label>, AllocError>
-    requires { (n : ℕ) → among order.now n ≡ true → n < length walked.now }
-    ensures { IfOk result (λ labels. (d : Named) → labels.items
-        ≡ filter (λ q. is_library ((G.shape graph.now).kind q)) (map (λ n. slice_index_or walked.now n d) order.now)) }
+    requires below { (n : ℕ) → among order.now n ≡ true → n < length walked.now }
+    requires sized { length nodes.now ≡ length walked.now }
+    ensures { IfOk result (λ labels. (g : Shape) → AreNodes g walked.now nodes.now → (d : Named) → labels.items
+        ≡ filter (λ q. is_library (g.kind q)) (map (λ n. slice_index_or walked.now n d) order.now)) }
 {
-    let mut labels = Vec::new(alloc);
+    let mut labels = Vec::with_capacity(alloc, order.len())?;
     for number in order {
-        let label = label_at(walked, *number);
-        if is_library(graph.kind(label)) {
-            push_copy(alloc, &mut labels, label)?;
+        let node = node_at(nodes, *number);
+        if is_library(node.kind) {
+            push_copy(alloc, &mut labels, label_at(walked, *number))?;
         }
     }
     Ok(labels)
@@ -58,16 +60,18 @@ fn libraries_at<G: Graph>(
 fn libraries_among<G: Graph>(
     alloc: Global,
     graph: &G,
-    walked: &Firsts,
+    reached: &Reached<'_>,
 ) -> Result<Vec<Label>, AllocError>
-    requires { (t : Named) × AreRecorded (G.shape graph.now) (G.records graph.now) t × AreWalked (G.shape graph.now) t walked.now }
-    ensures { IfOk result (λ labels. (t : Named) → AreWalked (G.shape graph.now) t walked.now → AreLibraries (G.default graph.now) (G.shape graph.now) t labels.items) }
+    requires { (t : Named) × AreRecorded (G.shape graph.now) (G.records graph.now) t × IsReached (G.shape graph.now) t reached.now }
+    ensures { IfOk result (λ labels. (t : Named) → AreWalked (G.shape graph.now) t reached.now.labels → AreLibraries (G.default graph.now) (G.shape graph.now) t labels.items) }
 {
-    let edges = edges(alloc, graph, walked)?;
-    let ended = order(alloc, graph.default_toolchain(), walked.as_slice(), &edges);
+    let walked = reached.labels.as_slice();
+    let nodes = reached.nodes.as_slice();
+    let edges = edges(alloc, nodes, &reached.labels)?;
+    let ended = order(alloc, graph.default_toolchain(), walked, &edges);
     drop(edges);
     let order = ended?;
-    let labels = libraries_at(alloc, graph, walked.as_slice(), &order);
+    let labels = libraries_at(alloc, nodes, walked, &order);
     drop(order);
     labels
 }
@@ -77,9 +81,9 @@ fn libraries<G: Graph>(alloc: Global, target: &Label, graph: &G) -> Result<Vec<L
     requires { AreRecorded (G.shape graph.now) (G.records graph.now) target.now }
     ensures { IfOk result (λ labels. AreLibraries (G.default graph.now) (G.shape graph.now) target.now labels.items) }
 {
-    let walked = walked(alloc, Walk::Libraries, target, graph)?;
-    let labels = libraries_among(alloc, graph, &walked);
-    drop(walked);
+    let reached = reach(alloc, target, graph)?;
+    let labels = libraries_among(alloc, graph, &reached);
+    drop(reached);
     labels
 }
 

@@ -19,7 +19,7 @@ pub(crate) fn links(kind: Option<ItemKind>) -> bool
 }
 
 // Whether a walk goes through the kind.
-fn opens(kind: Option<ItemKind>) -> bool
+pub(crate) fn opens(kind: Option<ItemKind>) -> bool
     ensures { result ≡ opens kind }
 {
     match kind {
@@ -31,7 +31,7 @@ fn opens(kind: Option<ItemKind>) -> bool
 }
 
 // Whether a walk meets the kind.
-fn walks(kind: Option<ItemKind>) -> bool
+pub(crate) fn walks(kind: Option<ItemKind>) -> bool
     ensures { result ≡ walks kind }
 {
     match kind {

@@ -11,6 +11,7 @@ mod graph;
 mod inheriting;
 mod kinds;
 mod order;
+mod reached;
 mod walk;
 
 pub use configurations::{applied, pushed, pushed_public};

@@ -1,0 +1,13 @@
+use Rattle.std.proofs.Common.{List, ◌++◌, OnOk, ap, subst, ◌∙◌}
+use Rattle.gn_labels.specs.declared.label.Label.{Label}
+use Rattle.gn_rows.specs.declared.variable.Variable.TheVariants.{PublicDeps}
+use Rattle.gn_dependencies.specs.Shape.{Shape}
+use Rattle.gn_chains.specs.Reached.{IsMore}
+use Rattle.gn_chains.proofs.reached.meet_near.Goals as goal
+
+pub returns : goal.returns
+returns g c =
+    let s : Shape = g.G.Graph.shape c.args.graph.now in
+    let public : List Label = s.lists c.args.target.now PublicDeps in
+    subst (λ (z : List Label). OnOk c.meet_both.result (IsMore s z c.args.out.now c.meet_both.new.out))
+    (ap (λ (z : List Label). z ++ c.labels-private.result.now) c.labels-public.ensures ∙ ap (λ (z : List Label). public ++ z) c.labels-private.ensures) c.meet_both.ensures

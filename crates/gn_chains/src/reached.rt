@@ -1,0 +1,171 @@
+// The walk for libraries, with what the graph has of each label that it meets.
+
+ghost use Rattle.std.specs.Prelude.{◌≡◌, ◌<◌, ◌++◌, ◌∷◌, [], length, slice_get, OnOk, IfOk, Some, false, true};
+ghost use Rattle.gn_chains.specs.Reached.{shown, facts_of, opened_by, AreNodes, IsNext, IsMore, IsReached};
+ghost use Rattle.gn_dependencies.specs.Lists.{has};
+ghost use Rattle.gn_dependencies.specs.Shape.{near};
+
+use crate::firsts::Firsts;
+use crate::graph::Graph;
+use crate::kinds::{opens, walks};
+use gn_labels::Label;
+use gn_rows::{ItemKind, Variable};
+use std::alloc::{AllocError, Global};
+
+// What a graph has of a label: the kind of its item, and its public and private dependencies. It lends them.
+#[derive(Clone, Copy)]
+pub(crate) struct Node<'a> {
+    pub(crate) kind: Option<ItemKind>,
+    pub(crate) public: &'a [Label],
+    pub(crate) private: &'a [Label],
+}
+
+// The labels that a walk has met, each once, and what the graph has of each.
+#[derive(Drop)]
+pub(crate) struct Reached<'a> {
+    pub(crate) labels: Firsts,
+    pub(crate) nodes: Vec<Node<'a>>,
+}
+
+// What is known of the label of a number.
+pub(crate) fn node_at<'a>(nodes: &[Node<'a>], number: usize) -> Node<'a>
+    requires { number < length nodes.now }
+    ensures { slice_get nodes.now number ≡ Some result }
+{
+    nodes[number]
+}
+
+// What the graph has of a label whose kind this is.
+fn node_of<'a, G: Graph>(graph: &'a G, label: &Label, kind: Option<ItemKind>) -> Node<'a>
+    requires { kind ≡ (G.shape graph.now).kind label.now }
+    ensures { shown result ≡ facts_of (G.shape graph.now) label.now }
+{
+    Node {
+        kind,
+        public: graph.labels(label, Variable::PublicDeps),
+        private: graph.labels(label, Variable::Deps),
+    }
+}
+
+// Puts a label that isn't there behind the others.
+fn push<'a, G: Graph>(
+    out: &mut Reached<'a>,
+    graph: &'a G,
+    label: &Label,
+    kind: Option<ItemKind>,
+) -> Result<(), AllocError>
+    requires new { has out.old.labels label.now ≡ false }
+    requires kind { kind ≡ (G.shape graph.now).kind label.now }
+    ensures { OnOk result (IsNext (G.shape graph.now) label.now out.old out.new) }
+{
+    out.labels.add(label)?;
+    out.nodes.push(node_of(graph, label, kind))?;
+    Ok(())
+}
+
+// Puts a label behind the others if the walk meets it and it isn't there.
+fn meet<'a, G: Graph>(out: &mut Reached<'a>, graph: &'a G, label: &Label) -> Result<(), AllocError>
+    ensures { OnOk result (IsMore (G.shape graph.now) (label.now ∷ []) out.old out.new) }
+{
+    if out.labels.has(label) {
+        return Ok(());
+    }
+    let kind = graph.kind(label);
+    if walks(kind) {
+        return push(out, graph, label, kind);
+    }
+    Ok(())
+}
+
+// The same of several labels.
+fn meet_each<'a, G: Graph>(
+    out: &mut Reached<'a>,
+    graph: &'a G,
+    labels: &[Label],
+) -> Result<(), AllocError>
+    ensures { OnOk result (IsMore (G.shape graph.now) labels.now out.old out.new) }
+{
+    for label in labels {
+        meet(out, graph, label)?;
+    }
+    Ok(())
+}
+
+// The same of the labels of two lists.
+fn meet_both<'a, G: Graph>(
+    out: &mut Reached<'a>,
+    graph: &'a G,
+    public: &[Label],
+    private: &[Label],
+) -> Result<(), AllocError>
+    ensures { OnOk result (IsMore (G.shape graph.now) (public.now ++ private.now) out.old out.new) }
+{
+    meet_each(out, graph, public)?;
+    meet_each(out, graph, private)
+}
+
+// The same of the dependencies of a label that the walk has met, if it goes through it.
+fn meet_behind<'a, G: Graph>(
+    out: &mut Reached<'a>,
+    graph: &'a G,
+    node: Node<'a>,
+) -> Result<(), AllocError>
+    ensures { OnOk result (IsMore (G.shape graph.now) (opened_by (shown node.entry)) out.old out.new) }
+{
+    if opens(node.kind) {
+        return meet_both(out, graph, node.public, node.private);
+    }
+    Ok(())
+}
+
+// The same of the dependencies of a target.
+fn meet_near<'a, G: Graph>(
+    out: &mut Reached<'a>,
+    graph: &'a G,
+    target: &Label,
+) -> Result<(), AllocError>
+    ensures { OnOk result (IsMore (G.shape graph.now) (near (G.shape graph.now) target.now) out.old out.new) }
+{
+    let public = graph.labels(target, Variable::PublicDeps);
+    let private = graph.labels(target, Variable::Deps);
+    meet_both(out, graph, public, private)
+}
+
+// Puts what the walk from a target meets into an empty list.
+fn add_reached<'a, G: Graph>(
+    out: &mut Reached<'a>,
+    graph: &'a G,
+    target: &Label,
+) -> Result<(), AllocError>
+    requires labels { out.old.labels ≡ [] }
+    requires nodes { out.old.nodes.items ≡ [] }
+    ensures { OnOk result (IsReached (G.shape graph.now) target.now out.new) }
+{
+    meet_near(out, graph, target)?;
+    let mut next = 0;
+    while next < out.labels.len() {
+        let node = node_at(out.nodes.as_slice(), next);
+        meet_behind(out, graph, node)?;
+        next += 1;
+    }
+    Ok(())
+}
+
+// What the walk for libraries from a target meets.
+pub(crate) fn reach<'a, G: Graph>(
+    alloc: Global,
+    target: &Label,
+    graph: &'a G,
+) -> Result<Reached<'a>, AllocError>
+    ensures { IfOk result (λ out. IsReached (G.shape graph.now) target.now out) }
+{
+    let mut out = Reached {
+        labels: Firsts::new(alloc),
+        nodes: Vec::new(alloc),
+    };
+    if let Err(error) = add_reached(&mut out, graph, target) {
+        drop(out);
+        return Err(error);
+    }
+    Ok(out)
+}
