@@ -46,7 +46,7 @@ pub order-ended-requires-clause-numbered : goal.order-ended-requires-clause-numb
 order-ended-requires-clause-numbered g c =
     let s : Shape = g.G.Graph.shape c.args.graph.now in
     let ws = c.args.reached.now.labels in
-    let edges = edges_known s ws c.args.reached.now.nodes.items c.as_slice-nodes.result.now (lists_in c.in_ok-edges.edges.items) c.as_slice-nodes.ensures c.requires.2.nodes (c.in_ok-edges.ensures s) in
+    let edges = edges_known s ws c.args.reached.now.nodes.items c.as_slice-nodes.result.now (lists_in c.in_ok-edges.edges.items) c.as_slice-nodes.ensures.value c.requires.2.nodes (c.in_ok-edges.ensures s) in
     subst (λ (z : List Label). AreNumbered (length z) (lists_in c.deref.result.now)) (sym c.as_slice-walked.ensures.labels)
     (subst (λ (v : List (Vec ℕ Global)). AreNumbered (length ws) (lists_in v)) (sym c.deref.ensures.value) edges.numbered)
 
@@ -59,7 +59,7 @@ order-ended-requires-clause-ends g c =
     let to : (q : Label) → has ws q ≡ true → Walked s t q = λ q h. (c.requires.2.walked q).0 h in
     let back : (q : Label) → Walked s t q → has ws q ≡ true = λ q w. (c.requires.2.walked q).1 w in
     let once : IsDistinct same_label ws = c.as_slice-walked.ensures.once in
-    let edges = edges_known s ws c.args.reached.now.nodes.items c.as_slice-nodes.result.now (lists_in c.in_ok-edges.edges.items) c.as_slice-nodes.ensures c.requires.2.nodes (c.in_ok-edges.ensures s) in
+    let edges = edges_known s ws c.args.reached.now.nodes.items c.as_slice-nodes.result.now (lists_in c.in_ok-edges.edges.items) c.as_slice-nodes.ensures.value c.requires.2.nodes (c.in_ok-edges.ensures s) in
     let ends : Ends ws c.in_ok-edges.edges.items = (
       suc k.depth,
       λ q l.
@@ -80,7 +80,7 @@ libraries_at-labels-requires-clause-below g c = λ n h.
 pub libraries_at-labels-requires-clause-sized : goal.libraries_at-labels-requires-clause-sized
 libraries_at-labels-requires-clause-sized g c =
     let s : Shape = g.G.Graph.shape c.args.graph.now in
-    ap length c.as_slice-nodes.ensures ∙ as_many s c.args.reached.now.labels c.args.reached.now.nodes.items c.requires.2.nodes ∙ ap length (sym c.as_slice-walked.ensures.labels)
+    ap length c.as_slice-nodes.ensures.value ∙ as_many s c.args.reached.now.labels c.args.reached.now.nodes.items c.requires.2.nodes ∙ ap length (sym c.as_slice-walked.ensures.labels)
 
 pub returns : goal.returns
 returns g c =
@@ -91,9 +91,9 @@ returns g c =
     let edges = c.in_ok-edges.edges.items in
     let ns = c.in_ok-order.order.items in
     let p : Label → Bool = λ q. is_library (s.kind q) in
-    let known = edges_known s ws c.args.reached.now.nodes.items c.as_slice-nodes.result.now (lists_in edges) c.as_slice-nodes.ensures c.requires.2.nodes (c.in_ok-edges.ensures s) in
+    let known = edges_known s ws c.args.reached.now.nodes.items c.as_slice-nodes.result.now (lists_in edges) c.as_slice-nodes.ensures.value c.requires.2.nodes (c.in_ok-edges.ensures s) in
     let nodes : AreNodes s c.as_slice-walked.result.now c.as_slice-nodes.result.now
-    = subst (λ (z : List Label). AreNodes s z c.as_slice-nodes.result.now) (sym c.as_slice-walked.ensures.labels) (subst (λ (z : List Node). AreNodes s ws z) (sym c.as_slice-nodes.ensures) c.requires.2.nodes) in
+    = subst (λ (z : List Label). AreNodes s z c.as_slice-nodes.result.now) (sym c.as_slice-walked.ensures.labels) (subst (λ (z : List Node). AreNodes s ws z) (sym c.as_slice-nodes.ensures.value) c.requires.2.nodes) in
     let o : IsOrderOf nat_eq (list_at (lists_in edges)) (number_before default ws) (λ q. among (numbers (length ws)) q ≡ true) ns
     = order_of c.default_toolchain.result.now default c.as_slice-walked.result.now ws c.deref.result.now edges ns c.default_toolchain.ensures c.as_slice-walked.ensures.labels c.deref.ensures.value c.in_ok-order.ensures in
     IfOk-weaker c.libraries_at-labels.result
