@@ -9,7 +9,7 @@ pub push-requires-clause-new : goal.push-requires-clause-new
 push-requires-clause-new g c = sym c.has.ensures ∙ c.if-has.false
 
 pub push-requires-clause-kind : goal.push-requires-clause-kind
-push-requires-clause-kind g c = c.kind.ensures
+push-requires-clause-kind g c = c.kind-kind.ensures
 
 pub returns-then-has : goal.returns-then-has
 returns-then-has g c = more_there (g.G.Graph.shape c.args.graph.now) c.args.label.now c.args.out.now (sym c.has.ensures ∙ c.if-has.true)
@@ -18,9 +18,9 @@ pub returns-then-walks : goal.returns-then-walks
 returns-then-walks g c =
     let s : Shape = g.G.Graph.shape c.args.graph.now in
     let x = c.args.label.now in
-    on_ok_weaker c.push.result (λ n. more_next s x c.args.out.now c.push.new.out (sym (c.walks.ensures ∙ ap walks c.kind.ensures) ∙ c.if-walks.true) (sym c.has.ensures ∙ c.if-has.false) n) c.push.ensures
+    on_ok_weaker c.push.result (λ n. more_next s x c.args.out.now c.push.new.out (sym (c.walks.ensures ∙ ap walks c.kind-kind.ensures) ∙ c.if-walks.true) (sym c.has.ensures ∙ c.if-has.false) n) c.push.ensures
 
 pub returns : goal.returns
 returns g c =
     let s : Shape = g.G.Graph.shape c.args.graph.now in
-    more_not s c.args.label.now c.args.out.now (sym (c.walks.ensures ∙ ap walks c.kind.ensures) ∙ c.if-walks.false)
+    more_not s c.args.label.now c.args.out.now (sym (c.walks.ensures ∙ ap walks c.kind-kind.ensures) ∙ c.if-walks.false)

@@ -1,6 +1,6 @@
-use Rattle.std.proofs.Common.{List, ◌++◌, OnOk, ap, subst, ◌∙◌}
+use Rattle.std.proofs.Common.{◌≡◌, List, ◌++◌, OnOk, ap, subst, ◌∙◌}
 use Rattle.gn_labels.specs.declared.label.Label.{Label}
-use Rattle.gn_rows.specs.declared.variable.Variable.TheVariants.{PublicDeps}
+use Rattle.gn_rows.specs.declared.variable.Variable.TheVariants.{PublicDeps, Deps}
 use Rattle.gn_dependencies.specs.Shape.{Shape}
 use Rattle.gn_chains.specs.Reached.{IsMore}
 use Rattle.gn_chains.proofs.reached.meet_near.Goals as goal
@@ -9,5 +9,7 @@ pub returns : goal.returns
 returns g c =
     let s : Shape = g.G.Graph.shape c.args.graph.now in
     let public : List Label = s.lists c.args.target.now PublicDeps in
-    subst (λ (z : List Label). OnOk c.meet_both.result (IsMore s z c.args.out.now c.meet_both.new.out))
-    (ap (λ (z : List Label). z ++ c.labels-private.result.now) c.labels-public.ensures ∙ ap (λ (z : List Label). public ++ z) c.labels-private.ensures) c.meet_both.ensures
+    let private : List Label = c.labels-private.result.now in
+    let first : c.labels-public.result.now ++ private ≡ public ++ private = ap (λ (z : List Label). z ++ private) c.labels-public.ensures in
+    let second : public ++ private ≡ public ++ s.lists c.args.target.now Deps = ap (λ (z : List Label). public ++ z) c.labels-private.ensures in
+    subst (λ (z : List Label). OnOk c.meet_both.result (IsMore s z c.args.out.now c.meet_both.new.out)) (first ∙ second) c.meet_both.ensures
