@@ -1,12 +1,9 @@
 -- The state of a walk for libraries.
-use Rattle.std.proofs.Common.{◌≡◌, ℕ, ◌+◌, ◌<◌, ◌≤◌, List, [], filter, map, length, true, Some, slice_get, sym, ◌∙◌, ap, arith}
-use Rattle.std.proofs.lemmas.Map.Made.{length-le_from_is_member}
-use Rattle.std.specs.List.{IsDistinct}
+use Rattle.std.proofs.Common.{◌≡◌, ℕ, ◌+◌, ◌<◌, ◌≤◌, List, [], filter, map, length, Some, slice_get, sym, ◌∙◌, ap}
 use Rattle.gn_labels.specs.declared.label.Label.{Label}
-use Rattle.gn_dependencies.specs.Lists.{same_label, has, added}
+use Rattle.gn_dependencies.specs.Lists.{added}
 use Rattle.gn_dependencies.specs.Shape.{Shape, near}
 use Rattle.gn_dependencies.specs.Inherited.{walks, opens}
-use Rattle.gn_dependencies.proofs.Same.{label_equiv}
 use Rattle.gn_dependencies.proofs.OrderLaws.{at_some}
 use Rattle.gn_chains.specs.declared.reached.Node.{Node}
 use Rattle.gn_chains.specs.declared.reached.Reached.{Reached}

@@ -1,5 +1,5 @@
 -- The labels that a walk for libraries meets, with what the graph has of each.
-use Rattle.std.proofs.Common.{◌≡◌, ℕ, ◌<◌, List, [], ◌∷◌, ◌++◌, Bool, true, false, cond, filter, map, length, Option, Some, None, option_map, slice_get, refl, sym, ◌∙◌, ap, append-nil, arith}
+use Rattle.std.proofs.Common.{◌≡◌, ℕ, List, [], ◌∷◌, ◌++◌, Bool, true, false, cond, filter, map, length, Option, Some, option_map, slice_get, refl, sym, ◌∙◌, ap, append-nil}
 use Rattle.std.proofs.lemmas.List.{map-append, length-map}
 use Rattle.std.proofs.lemmas.Option.{slice_get-map}
 use Rattle.gn_labels.specs.declared.label.Label.{Label}

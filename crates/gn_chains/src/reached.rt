@@ -1,7 +1,7 @@
 // The walk for libraries, with what the graph has of each label that it meets.
 
-ghost use Rattle.std.specs.Prelude.{◌≡◌, ◌<◌, ◌++◌, ◌∷◌, [], length, slice_get, OnOk, IfOk, Some, false, true};
-ghost use Rattle.gn_chains.specs.Reached.{shown, facts_of, opened_by, AreNodes, IsNext, IsMore, IsReached};
+ghost use Rattle.std.specs.Prelude.{◌≡◌, ◌<◌, ◌++◌, ◌∷◌, [], length, slice_get, OnOk, IfOk, Some, false};
+ghost use Rattle.gn_chains.specs.Reached.{shown, facts_of, opened_by, IsNext, IsMore, IsReached};
 ghost use Rattle.gn_dependencies.specs.Lists.{has};
 ghost use Rattle.gn_dependencies.specs.Shape.{near};
 

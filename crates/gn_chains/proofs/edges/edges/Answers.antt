@@ -2,10 +2,9 @@ use Rattle.std.proofs.Common.{◌≡◌, ℕ, ◌+◌, List, [], ◌∷◌, ◌+
 use Rattle.std.specs.declared.alloc.Global.{Global}
 use Rattle.std.proofs.lemmas.List.{map-append}
 use Rattle.std.proofs.lemmas.Option.{slice_get_read}
-use Rattle.gn_dependencies.specs.Shape.{Shape}
 use Rattle.gn_dependencies.proofs.OrderLaws.{at_some}
 use Rattle.gn_chains.specs.Numbers.{has_some, lists_in}
-use Rattle.gn_chains.specs.Reached.{facts_of, shown, near_of}
+use Rattle.gn_chains.specs.Reached.{near_of}
 use Rattle.gn_chains.proofs.Numbering.{EdgesBefore, no_edges, edges_more, edges_all}
 use Rattle.gn_chains.proofs.Reaching.{as_many, known_at}
 use Rattle.gn_chains.proofs.edges.edges.Goals as goal

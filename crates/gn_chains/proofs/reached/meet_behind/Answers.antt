@@ -1,5 +1,4 @@
-use Rattle.std.proofs.Common.{List, [], ◌++◌, OnOk, cond, ap, sym, subst, ◌∙◌}
-use Rattle.gn_labels.specs.declared.label.Label.{Label}
+use Rattle.std.proofs.Common.{[], OnOk, cond, sym, subst, ◌∙◌}
 use Rattle.gn_dependencies.specs.Shape.{Shape}
 use Rattle.gn_chains.specs.Reached.{IsMore, shown, near_of}
 use Rattle.gn_chains.proofs.Reaching.{none_more}
