@@ -49,7 +49,7 @@ module _ (s : Surroundings) (items : List Item) (reached ts : List Label) (frame
 
 -- the same of what the files are made of
 pub project_files : (s : Surroundings) (items : List Item) (reached ts : List Label) (p : Project) → IsProject s items reached ts p → AreAmong ts reached
-    → files_by (surroundings_in p) (known p) p.items p.targets.now ≡ files_of_build s items ts
+    → files_by (surroundings_in p) (known p) p.items.now p.targets.now ≡ files_of_build s items ts
 project_files s items reached ts p is among =
-    ap (λ z. files_by z (known p) p.items p.targets.now) is.given ∙ ap (λ z. files_by s (known p) z p.targets.now) is.items
+    ap (λ z. files_by z (known p) p.items.now p.targets.now) is.given ∙ ap (λ z. files_by s (known p) z p.targets.now) is.items
     ∙ ap (λ z. files_by s (known p) items z) is.targets ∙ files_are_meant s items reached ts p.frames p.resolved is.over is.resolved among

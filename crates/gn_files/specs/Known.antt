@@ -30,7 +30,7 @@ AreAmong targets reached = (t : Label) → has targets t ≡ true → has reache
 -- these are the items and the targets of a build; it is known what never changes for the targets that are reached, and they are resolved
 pub record IsProject (s : Surroundings) (defined : List Item) (reached ts : List Label) (p : Project) : Type 0 where
   pub given : surroundings_in p ≡ s
-  pub items : p.items ≡ defined
+  pub items : p.items.now ≡ defined
   pub targets : p.targets.now ≡ ts
   pub over : IsOver s defined reached p.frames
   pub resolved : AreResolved s defined reached p.resolved

@@ -21,57 +21,50 @@ use gn_toolchains::{Frames, Surroundings};
 use std::alloc::{AllocError, Global};
 use std::thread::Threads;
 
-// The items of a build by their labels, and the records of the targets that are reached.
+// What never changes for the targets that are reached, and their records.
 fn resolved_of<'a, R: Threads + Sync>(
     rt: &R,
     alloc: Global,
     surroundings: Surroundings<'a>,
-    frames: &Frames<'_>,
     items: &[&'a Item],
     reached: &[Label],
-) -> Result<(ItemIndex<'a>, Resolved), AllocError>
-    requires over { IsOver (given surroundings) (lent items.now) reached.now frames.now }
+) -> Result<(Frames<'a>, Resolved), AllocError>
     requires closed { IsClosed (shape_of (lent items.now)) reached.now }
     requires ends { AllEnd (lent items.now) reached.now }
-    ensures { IfOk result (λ made. (made.0 ≡ lent items.now) × AreResolved (given surroundings.entry) (lent items.now) reached.now made.1) }
+    ensures { IfOk result (λ made. IsOver (given surroundings.entry) (lent items.now) reached.now made.0 × AreResolved (given surroundings.entry) (lent items.now) reached.now made.1) }
 {
-    let index = ItemIndex::of(alloc, items)?;
-    match resolve_all(rt, alloc, surroundings, frames, items, reached) {
-        Ok(resolved) => Ok((index, resolved)),
+    let frames = Frames::of(alloc, surroundings, items, reached)?;
+    match resolve_all(rt, alloc, surroundings, &frames, items, reached) {
+        Ok(resolved) => Ok((frames, resolved)),
         Err(error) => {
-            drop(index);
+            drop(frames);
             Err(error)
         }
     }
 }
 
 // What the Ninja files of a build are made of.
-fn project_of<'a, R: Threads + Sync>(
+fn project_of<'a, 'b, R: Threads + Sync>(
     rt: &R,
     alloc: Global,
     surroundings: Surroundings<'a>,
-    items: &[&'a Item],
+    items: &'a ItemIndex<'b>,
     reached: &[Label],
     targets: &'a [Label],
-) -> Result<Project<'a>, AllocError>
-    requires closed { IsClosed (shape_of (lent items.now)) reached.now }
-    requires ends { AllEnd (lent items.now) reached.now }
-    ensures { IfOk result (IsProject (given surroundings.entry) (lent items.now) reached.now targets.now) }
+) -> Result<Project<'a, 'b>, AllocError>
+    requires closed { IsClosed (shape_of items.now) reached.now }
+    requires ends { AllEnd items.now reached.now }
+    ensures { IfOk result (IsProject (given surroundings.entry) items.now reached.now targets.now) }
 {
-    let frames = Frames::of(alloc, surroundings, items, reached)?;
-    match resolved_of(rt, alloc, surroundings, &frames, items, reached) {
-        Ok((index, resolved)) => Ok(Project {
-            surroundings,
-            frames,
-            items: index,
-            resolved,
-            targets,
-        }),
-        Err(error) => {
-            drop(frames);
-            Err(error)
-        }
-    }
+    let made = resolved_of(rt, alloc, surroundings, items.items(), reached)?;
+    let (frames, resolved) = made;
+    Ok(Project {
+        surroundings,
+        frames,
+        items,
+        resolved,
+        targets,
+    })
 }
 
 /// The Ninja files of a build that generates these targets, which stand in label order: build.ninja, those of its toolchains and
@@ -81,14 +74,14 @@ pub fn ninja_files<'a, R: Threads + Sync>(
     rt: &R,
     alloc: Global,
     surroundings: Surroundings<'a>,
-    items: &[&'a Item],
+    items: &'a ItemIndex<'_>,
     reached: &[Label],
     targets: &'a [Label],
 ) -> Result<Vec<OutFile>, AllocError>
-    requires closed { IsClosed (shape_of (lent items.now)) reached.now }
-    requires ends { AllEnd (lent items.now) reached.now }
+    requires closed { IsClosed (shape_of items.now) reached.now }
+    requires ends { AllEnd items.now reached.now }
     requires among { AreAmong targets.now reached.now }
-    ensures { IfOk result (λ files. map put_of files.items ≡ files_of_build (given surroundings.entry) (lent items.now) targets.now) }
+    ensures { IfOk result (λ files. map put_of files.items ≡ files_of_build (given surroundings.entry) items.now targets.now) }
 {
     let project = project_of(rt, alloc, surroundings, items, reached, targets)?;
     let files = known_files(rt, alloc, &project);

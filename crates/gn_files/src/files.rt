@@ -50,7 +50,7 @@ fn made_beside<R: Threads + Sync>(
 fn files_beside<R: Threads + Sync>(
     rt: &R,
     alloc: Global,
-    project: &Project<'_>,
+    project: &Project<'_, '_>,
     toolchains: &[Text],
     gathered: &Gathered<'_>,
     root: &Root,
@@ -77,13 +77,13 @@ fn files_beside<R: Threads + Sync>(
 fn files_gathered<R: Threads + Sync>(
     rt: &R,
     alloc: Global,
-    project: &Project<'_>,
+    project: &Project<'_, '_>,
     toolchains: &[Text],
     gathered: &Gathered<'_>,
 ) -> Result<Vec<OutFile>, AllocError>
     requires toolchains { toolchains.now ≡ toolchains_used project.now.surroundings.default.now project.now.targets.now }
     requires gathered { IsGathered project.now gathered.now }
-    ensures { IfOk result (λ files. map put_of files.items ≡ files_by (surroundings_in project.now) (known project.now) project.now.items project.now.targets.now) }
+    ensures { IfOk result (λ files. map put_of files.items ≡ files_by (surroundings_in project.now) (known project.now) project.now.items.now project.now.targets.now) }
 {
     let root = root_of(
         alloc,
@@ -101,13 +101,13 @@ fn files_gathered<R: Threads + Sync>(
 fn files_of_toolchains<R: Threads + Sync>(
     rt: &R,
     alloc: Global,
-    project: &Project<'_>,
+    project: &Project<'_, '_>,
     toolchains: &[Text],
     used: &[Text],
 ) -> Result<Vec<OutFile>, AllocError>
     requires toolchains { toolchains.now ≡ toolchains_of project.now.targets.now }
     requires used { used.now ≡ toolchains_used project.now.surroundings.default.now project.now.targets.now }
-    ensures { IfOk result (λ files. map put_of files.items ≡ files_by (surroundings_in project.now) (known project.now) project.now.items project.now.targets.now) }
+    ensures { IfOk result (λ files. map put_of files.items ≡ files_by (surroundings_in project.now) (known project.now) project.now.items.now project.now.targets.now) }
 {
     let none = Text::new(alloc);
     let gathered = gather(alloc, project, toolchains, &none)?;
@@ -120,9 +120,9 @@ fn files_of_toolchains<R: Threads + Sync>(
 pub(crate) fn known_files<R: Threads + Sync>(
     rt: &R,
     alloc: Global,
-    project: &Project<'_>,
+    project: &Project<'_, '_>,
 ) -> Result<Vec<OutFile>, AllocError>
-    ensures { IfOk result (λ files. map put_of files.items ≡ files_by (surroundings_in project.now) (known project.now) project.now.items project.now.targets.now) }
+    ensures { IfOk result (λ files. map put_of files.items ≡ files_by (surroundings_in project.now) (known project.now) project.now.items.now project.now.targets.now) }
 {
     let toolchains = toolchains_of(alloc, project.targets)?;
     let used = toolchains_used(alloc, project.surroundings.default, toolchains.as_slice())?;

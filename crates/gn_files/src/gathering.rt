@@ -85,17 +85,17 @@ fn push_written<'a>(
 // Puts a target behind the others that may have names besides its done file.
 fn push_claimant<'a>(
     claimants: &mut Vec<Claimant<'a>>,
-    project: &'a Project<'_>,
+    project: &'a Project<'_, '_>,
     target: &'a Label,
     item: Option<&'a Item>,
     found: Option<&'a Record>,
     none: &'a Text,
 ) -> Result<(), AllocError>
     requires none { none.now ≡ [] }
-    requires item { option_map (λ i. i.now) item ≡ item_at target.now project.now.items }
+    requires item { option_map (λ i. i.now) item ≡ item_at target.now project.now.items.now }
     requires found { option_map (λ r. r.now) found ≡ (known project.now).target target.now }
     ensures { OnOk result (map claimant claimants.new.items
-        ≡ map claimant claimants.old.items ++ claimants_of project.now.surroundings.default.now (known project.now) project.now.items (target.now ∷ [])) }
+        ≡ map claimant claimants.old.items ++ claimants_of project.now.surroundings.default.now (known project.now) project.now.items.now (target.now ∷ [])) }
 {
     if target.toolchain == *project.surroundings.default {
         claimants.push(Claimant {
@@ -110,7 +110,7 @@ fn push_claimant<'a>(
 // Puts what the file of a target is made of behind the others.
 fn push_file<'a>(
     files: &mut Vec<TargetFile<'a>>,
-    project: &'a Project<'_>,
+    project: &'a Project<'_, '_>,
     target: &'a Label,
     found: Option<&'a Record>,
 ) -> Result<(), AllocError>
@@ -129,15 +129,15 @@ fn push_file<'a>(
 fn gather_one<'a>(
     alloc: Global,
     gathered: &mut Gathered<'a>,
-    project: &'a Project<'_>,
+    project: &'a Project<'_, '_>,
     target: &'a Label,
     none: &'a Text,
 ) -> Result<(), AllocError>
     requires { none.now ≡ [] }
-    ensures pools { OnOk result (gathered.new.pools.entries ≡ with_pools_of_target project.now.surroundings.default.now project.now.items gathered.old.pools.entries target.now) }
+    ensures pools { OnOk result (gathered.new.pools.entries ≡ with_pools_of_target project.now.surroundings.default.now project.now.items.now gathered.old.pools.entries target.now) }
     ensures written { OnOk result (map (λ w. w.now) gathered.new.written.items ≡ map (λ w. w.now) gathered.old.written.items ++ all_written (known project.now) (target.now ∷ [])) }
     ensures claimants { OnOk result (map claimant gathered.new.claimants.items
-        ≡ map claimant gathered.old.claimants.items ++ claimants_of project.now.surroundings.default.now (known project.now) project.now.items (target.now ∷ [])) }
+        ≡ map claimant gathered.old.claimants.items ++ claimants_of project.now.surroundings.default.now (known project.now) project.now.items.now (target.now ∷ [])) }
     ensures files { OnOk result (map file_of gathered.new.files.items ≡ map file_of gathered.old.files.items ++ target_out (surroundings_in project.now) (known project.now) target.now ∷ []) }
 {
     let item = project.items.item(target);
@@ -157,7 +157,7 @@ fn gather_one<'a>(
 fn gather_targets<'a>(
     alloc: Global,
     gathered: &mut Gathered<'a>,
-    project: &'a Project<'_>,
+    project: &'a Project<'_, '_>,
     none: &'a Text,
 ) -> Result<(), AllocError>
     requires none { none.now ≡ [] }
@@ -165,7 +165,7 @@ fn gather_targets<'a>(
     requires claimants { gathered.old.claimants.items ≡ [] }
     requires files { gathered.old.files.items ≡ [] }
     ensures pools { OnOk result (gathered.new.pools.entries
-        ≡ fold (with_pools_of_target project.now.surroundings.default.now project.now.items) gathered.old.pools.entries project.now.targets.now) }
+        ≡ fold (with_pools_of_target project.now.surroundings.default.now project.now.items.now) gathered.old.pools.entries project.now.targets.now) }
     ensures targets { OnOk result (AreGathered project.now project.now.targets.now gathered.new) }
 {
     for target in project.targets {
@@ -178,7 +178,7 @@ fn gather_targets<'a>(
 fn gather_all<'a>(
     alloc: Global,
     gathered: &mut Gathered<'a>,
-    project: &'a Project<'_>,
+    project: &'a Project<'_, '_>,
     toolchains: &[Text],
     none: &'a Text,
 ) -> Result<(), AllocError>
@@ -198,7 +198,7 @@ fn gather_all<'a>(
 /// done file of a target without a record.
 pub(crate) fn gather<'a>(
     alloc: Global,
-    project: &'a Project<'_>,
+    project: &'a Project<'_, '_>,
     toolchains: &[Text],
     none: &'a Text,
 ) -> Result<Gathered<'a>, AllocError>

@@ -16,13 +16,13 @@ use std::alloc::{AllocError, Global};
 
 /// What the Ninja files of a build are made of.
 #[derive(Drop)]
-pub(crate) struct Project<'a> {
+pub(crate) struct Project<'a, 'b> {
     /// What never changes in the build.
     pub(crate) surroundings: Surroundings<'a>,
     /// What never changes for the targets of each toolchain.
     pub(crate) frames: Frames<'a>,
     /// The items that the build defines.
-    pub(crate) items: ItemIndex<'a>,
+    pub(crate) items: &'a ItemIndex<'b>,
     /// The records of targets.
     pub(crate) resolved: Resolved,
     /// The targets that are generated, in label order.
@@ -30,14 +30,14 @@ pub(crate) struct Project<'a> {
 }
 
 /// What never changes for the targets of a toolchain, where it is known.
-pub(crate) fn context_of<'a>(project: &'a Project<'_>, toolchain: &Text) -> Option<Context<'a>>
+pub(crate) fn context_of<'a>(project: &'a Project<'_, '_>, toolchain: &Text) -> Option<Context<'a>>
     ensures { option_map around result ≡ (known project.now).around toolchain.now }
 {
     project.frames.context(toolchain)
 }
 
 /// The output directory of a toolchain.
-pub(crate) fn out_of<'a>(project: &'a Project<'_>, toolchain: &Text) -> &'a Path
+pub(crate) fn out_of<'a>(project: &'a Project<'_, '_>, toolchain: &Text) -> &'a Path
     ensures { result.now ≡ out_of (surroundings_in project.now) (known project.now) toolchain.now }
 {
     match context_of(project, toolchain) {
@@ -49,7 +49,7 @@ pub(crate) fn out_of<'a>(project: &'a Project<'_>, toolchain: &Text) -> &'a Path
 /// The path of the file of a toolchain.
 pub(crate) fn toolchain_path(
     alloc: Global,
-    project: &Project<'_>,
+    project: &Project<'_, '_>,
     toolchain: &Text,
 ) -> Result<Path, AllocError>
     ensures { IfOk result (λ p. p ≡ toolchain_path (surroundings_in project.now) (known project.now) toolchain.now) }
@@ -60,7 +60,7 @@ pub(crate) fn toolchain_path(
 /// The path of the file of a target.
 pub(crate) fn target_path(
     alloc: Global,
-    project: &Project<'_>,
+    project: &Project<'_, '_>,
     target: &Label,
 ) -> Result<Path, AllocError>
     ensures { IfOk result (λ p. p ≡ target_path (surroundings_in project.now) (known project.now) target.now) }
@@ -69,7 +69,7 @@ pub(crate) fn target_path(
 }
 
 /// The record of a target, where it has one.
-pub(crate) fn record_of<'a>(project: &'a Project<'_>, target: &Label) -> Option<&'a Record>
+pub(crate) fn record_of<'a>(project: &'a Project<'_, '_>, target: &Label) -> Option<&'a Record>
     ensures { option_map (λ r. r.now) result ≡ (known project.now).target target.now }
 {
     project.resolved.get(target)

@@ -57,21 +57,21 @@ fn pool_out(
 #[tactic(auto, unfolding(crate::specs::Files::pools_used))]
 fn pools_out(
     alloc: Global,
-    project: &Project<'_>,
+    project: &Project<'_, '_>,
     table: &BTreeMap<LabelKey, Label>,
 ) -> Result<Vec<Pool>, AllocError>
-    requires { table.now.entries ≡ pool_table project.now.surroundings.default.now (known project.now) project.now.items project.now.targets.now }
-    ensures { IfOk result (λ ps. ps.items ≡ pools_out project.now.surroundings.default.now (known project.now) project.now.items project.now.targets.now) }
+    requires { table.now.entries ≡ pool_table project.now.surroundings.default.now (known project.now) project.now.items.now project.now.targets.now }
+    ensures { IfOk result (λ ps. ps.items ≡ pools_out project.now.surroundings.default.now (known project.now) project.now.items.now project.now.targets.now) }
 {
     let mut pools = Vec::new(alloc);
     for (_, pool) in table {
-        pools.push(pool_out(alloc, project.surroundings.default, &project.items, pool)?)?;
+        pools.push(pool_out(alloc, project.surroundings.default, project.items, pool)?)?;
     }
     Ok(pools)
 }
 
 // The path of the file of a toolchain, as build.ninja names it.
-fn seen_path(alloc: Global, project: &Project<'_>, toolchain: &Text) -> Result<Text, AllocError>
+fn seen_path(alloc: Global, project: &Project<'_, '_>, toolchain: &Text) -> Result<Text, AllocError>
     ensures { IfOk result (λ p. p ≡ seen (surroundings_in project.now) (toolchain_path (surroundings_in project.now) (known project.now) toolchain.now)) }
 {
     let path = toolchain_path(alloc, project, toolchain)?;
@@ -81,7 +81,7 @@ fn seen_path(alloc: Global, project: &Project<'_>, toolchain: &Text) -> Result<T
 // The files of toolchains.
 fn toolchain_files(
     alloc: Global,
-    project: &Project<'_>,
+    project: &Project<'_, '_>,
     toolchains: &[Text],
 ) -> Result<Texts, AllocError>
     ensures { IfOk result (λ files. files ≡ map (λ toolchain. seen (surroundings_in project.now) (toolchain_path (surroundings_in project.now) (known project.now) toolchain)) toolchains.now) }
@@ -130,15 +130,15 @@ fn has_default(default: &Text, targets: &[Label]) -> bool
 #[tactic(auto, using(crate::proofs::Dones::dones_are))]
 pub(crate) fn root_of(
     alloc: Global,
-    project: &Project<'_>,
+    project: &Project<'_, '_>,
     toolchains: &[Text],
     pools: &BTreeMap<LabelKey, Label>,
     claimants: &[Claimant<'_>],
 ) -> Result<Root, AllocError>
     requires toolchains { toolchains.now ≡ toolchains_used project.now.surroundings.default.now project.now.targets.now }
-    requires pools { pools.now.entries ≡ pool_table project.now.surroundings.default.now (known project.now) project.now.items project.now.targets.now }
-    requires claimants { map claimant claimants.now ≡ claimants_of project.now.surroundings.default.now (known project.now) project.now.items project.now.targets.now }
-    ensures { IfOk result (λ r. root_held r ≡ root_of (surroundings_in project.now) (known project.now) project.now.items project.now.targets.now) }
+    requires pools { pools.now.entries ≡ pool_table project.now.surroundings.default.now (known project.now) project.now.items.now project.now.targets.now }
+    requires claimants { map claimant claimants.now ≡ claimants_of project.now.surroundings.default.now (known project.now) project.now.items.now project.now.targets.now }
+    ensures { IfOk result (λ r. root_held r ≡ root_of (surroundings_in project.now) (known project.now) project.now.items.now project.now.targets.now) }
 {
     let pools = pools_out(alloc, project, pools)?;
     let files = toolchain_files(alloc, project, toolchains)?;

@@ -19,7 +19,7 @@ use gn_writing::Tool;
 use std::alloc::{AllocError, Global};
 
 // The path of the file of a target, as the file of its toolchain names it.
-fn seen_path(alloc: Global, project: &Project<'_>, target: &Label) -> Result<Text, AllocError>
+fn seen_path(alloc: Global, project: &Project<'_, '_>, target: &Label) -> Result<Text, AllocError>
     ensures { IfOk result (λ p. p ≡ seen (surroundings_in project.now) (target_path (surroundings_in project.now) (known project.now) target.now)) }
 {
     let path = target_path(alloc, project, target)?;
@@ -27,7 +27,11 @@ fn seen_path(alloc: Global, project: &Project<'_>, target: &Label) -> Result<Tex
 }
 
 // The files of the targets of a toolchain.
-fn files_under(alloc: Global, project: &Project<'_>, toolchain: &Text) -> Result<Texts, AllocError>
+fn files_under(
+    alloc: Global,
+    project: &Project<'_, '_>,
+    toolchain: &Text,
+) -> Result<Texts, AllocError>
     ensures { IfOk result (λ files. files ≡ files_under (surroundings_in project.now) (known project.now) project.now.targets.now toolchain.now) }
 {
     let mut files = Texts::new(alloc);
@@ -62,7 +66,7 @@ fn toolchain_text(alloc: Global, tools: &[Tool], files: &Texts) -> Result<Text, 
 fn add_toolchain(
     alloc: Global,
     out: &mut Vec<OutFile>,
-    project: &Project<'_>,
+    project: &Project<'_, '_>,
     toolchain: &Text,
 ) -> Result<(), AllocError>
     ensures { OnOk result (map put_of out.new.items ≡ map put_of out.old.items ++ toolchain_out (surroundings_in project.now) (known project.now) project.now.targets.now toolchain.now ∷ []) }
@@ -78,7 +82,7 @@ fn add_toolchain(
 fn add_toolchains(
     alloc: Global,
     out: &mut Vec<OutFile>,
-    project: &Project<'_>,
+    project: &Project<'_, '_>,
     toolchains: &[Text],
 ) -> Result<(), AllocError>
     ensures { OnOk result (map put_of out.new.items ≡ map put_of out.old.items ++ map (toolchain_out (surroundings_in project.now) (known project.now) project.now.targets.now) toolchains.now) }
@@ -92,7 +96,7 @@ fn add_toolchains(
 /// The files of toolchains, in their order.
 pub(crate) fn toolchain_files(
     alloc: Global,
-    project: &Project<'_>,
+    project: &Project<'_, '_>,
     toolchains: &[Text],
 ) -> Result<Vec<OutFile>, AllocError>
     ensures { IfOk result (λ files. map put_of files.items ≡ map (toolchain_out (surroundings_in project.now) (known project.now) project.now.targets.now) toolchains.now) }

@@ -168,7 +168,7 @@ fn item_tools<'a>(context: Option<Context<'a>>) -> &'a [Tool]
 pub(crate) fn put_pools_of_toolchains(
     alloc: Global,
     pools: &mut BTreeMap<LabelKey, Label>,
-    project: &Project<'_>,
+    project: &Project<'_, '_>,
     toolchains: &[Text],
 ) -> Result<(), AllocError>
     ensures { OnOk result (pools.new.entries ≡ fold (with_pools_of_tools project.now.surroundings.default.now (known project.now)) pools.old.entries toolchains.now) }

@@ -13,6 +13,6 @@ returns g c =
     let got = c.args.gathered.now in
     let targets = c.requires.gathered.targets in
     if_ok c.files_beside-files.result (λ made is.
-    is ∙ files_are (surroundings_in p) (known p) p.items p.targets.now (root_held c.in_ok-root.root) (map (λ w. w.now) got.written.items) (map claimant got.claimants.items)
+    is ∙ files_are (surroundings_in p) (known p) p.items.now p.targets.now (root_held c.in_ok-root.root) (map (λ w. w.now) got.written.items) (map claimant got.claimants.items)
     c.args.toolchains.now (map file_of got.files.items) c.in_ok-root.ensures targets.written targets.claimants c.requires.toolchains targets.files)
     c.files_beside-files.ensures

@@ -11,4 +11,4 @@ unfolding pools_used
 returns c =
     let all : map deref_pair c.loop-pool.yielded ≡ c.args.table.now.entries = search (rules, iter_end) in
     c.loop-pool.invariant
-    ∙ ap (λ (es : List (LabelKey × Label)). map (pool_out c.args.project.now.surroundings.default.now c.args.project.now.items) (map (λ e. e.1) es)) (all ∙ c.requires)
+    ∙ ap (λ (es : List (LabelKey × Label)). map (pool_out c.args.project.now.surroundings.default.now c.args.project.now.items.now) (map (λ e. e.1) es)) (all ∙ c.requires)

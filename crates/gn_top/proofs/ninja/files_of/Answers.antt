@@ -1,28 +1,21 @@
-use Rattle.std.proofs.Common.{◌≡◌, ◌∙◌, List, None, true, sym, subst}
-use Rattle.gn_labels.specs.declared.label.Label.{Label}
-use Rattle.gn_dependencies.specs.Lists.{has}
-use Rattle.gn_labelled.specs.Graphs.{shape_of}
-use Rattle.gn_labelled.specs.Index.{lent}
-use Rattle.gn_resolve.specs.Whole.{AllEnd}
-use Rattle.gn_resolved_meant.specs.Laws.{IsClosed}
+use Rattle.std.proofs.Common.{◌≡◌, ◌∙◌, List, None, ap, sym, subst}
+use Rattle.gn_basics.proofs.Results.{if_ok}
+use Rattle.gn_items.specs.declared.item.Item.{Item}
 use Rattle.gn_toolchains.specs.Frames.{surroundings}
+use Rattle.gn_build_faults.specs.Labels.{fault_of_labels}
 use Rattle.gn_build_faults.specs.Reaching.{targets_of}
+use Rattle.gn_files.specs.Files.{files_of_build}
 use Rattle.gn_top.proofs.ninja.files_of.Goals as goal
 
-pub ninja_files-requires-clause-closed : goal.ninja_files-requires-clause-closed
-ninja_files-requires-clause-closed g c = λ l lives.
-    subst (IsClosed (shape_of (lent c.args.items.now))) (sym (c.as_slice.ensures.value ∙ c.in_ok-targets.ensures))
-    (c.targets_have_their_dependencies.ensures.closed (surroundings c.args.surroundings).default (lent c.args.items.now) c.args.generated.now)
+pub files_by-files-requires : goal.files_by-files-requires
+files_by-files-requires g c =
+    let s = surroundings c.args.surroundings in (
+      c.type_bounds.sync-R,
+      subst (λ (items : List Item). fault_of_labels s items (targets_of s.default items c.args.generated.now) ≡ None) (sym c.in_ok-index.ensures) c.requires,
+    )
 
-pub ninja_files-requires-clause-ends : goal.ninja_files-requires-clause-ends
-ninja_files-requires-clause-ends g c = λ l lives.
-    let s = surroundings c.args.surroundings in
-    let items = lent c.args.items.now in
-    let closed = c.targets_have_their_dependencies.ensures.closed s.default items c.args.generated.now in
-    subst (AllEnd items) (sym (c.as_slice.ensures.value ∙ c.in_ok-targets.ensures))
-    (λ t h. c.faultless_targets_can_be_resolved.ensures s items (targets_of s.default items c.args.generated.now) closed c.requires t h)
-
-pub ninja_files-requires-clause-among : goal.ninja_files-requires-clause-among
-ninja_files-requires-clause-among g c = λ l lives t h.
-    subst (λ (ts : List Label). has ts t ≡ true) (sym (c.as_slice.ensures.value ∙ c.in_ok-targets.ensures))
-    (c.targets_have_their_dependencies.ensures.generated (surroundings c.args.surroundings).default (lent c.args.items.now) c.args.generated.now t h)
+pub returns : goal.returns
+returns g c =
+    if_ok c.files_by-files.result
+    (λ files is. is ∙ ap (λ (items : List Item). files_of_build (surroundings c.args.surroundings) items c.args.generated.now) c.in_ok-index.ensures)
+    c.files_by-files.ensures
