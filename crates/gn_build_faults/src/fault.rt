@@ -154,9 +154,9 @@ fn fault_among<R: Threads + Sync>(
 }
 
 /// The fault that is told of targets, by what never changes in the build, the items that it defines, which of them reach no cycle, and
-/// these targets in label order: the first fault of the first of them that has one. A target's faults go by code: texts of tools that are no paths, labels that it names
-/// and no item has, tools that it needs and its toolchain lacks, the other faults of the graph, and outputs that it makes and a
-/// target before it makes too. None comes exactly where none of them has a fault.
+/// these targets in label order: the first fault of the first of them that has one. A target's faults go by code: texts of tools that
+/// are no paths, labels that it names and no item has, tools that it needs and its toolchain lacks, the other faults of the graph, and
+/// outputs that it makes and a target before it makes too. None comes exactly where none of them has a fault.
 pub(crate) fn target_fault<'a, R: Threads + Sync>(
     rt: &R,
     alloc: Global,

@@ -152,6 +152,8 @@ fn fault_of_settled<'a, R: Threads + Sync>(
 /// the items that it defines: the first fault of the first label that has one. Of a target that is told goes by code: texts of tools that
 /// are no paths, labels that it names and no item has, tools that it needs and its toolchain lacks, the other faults of the graph, and
 /// outputs that a target before it makes too; of a toolchain, pools of its tools, and then its name. None comes exactly where there is none.
+/// What is found of each target, and the places that are looked up, aren't given back to the allocator: a call keeps that memory until the
+/// process ends.
 pub fn fault_of_labels<'a, R: Threads + Sync>(
     rt: &R,
     alloc: Global,
@@ -204,7 +206,7 @@ fn fault_foreseen<'a, R: Threads + Sync>(
 }
 
 /// The fault that is told of the targets that are generated and of all that dependencies lead to from them, as it is told of labels, by
-/// what never changes in the build and the items that it defines.
+/// what never changes in the build and the items that it defines. It keeps memory as `fault_of_labels` does.
 pub fn fault_of_generated<'a, R: Threads + Sync>(
     rt: &R,
     alloc: Global,

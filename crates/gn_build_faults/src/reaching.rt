@@ -48,7 +48,8 @@ pub(crate) fn targets_unless_whole(
 }
 
 /// The targets that are generated and all that dependencies lead to from them, where these aren't all of them; None where they are,
-/// as it is mostly, and stand in label order. Several threads look for it.
+/// as it is mostly, and stand in label order. Several threads look for it. The places that are looked up aren't given back to the
+/// allocator: a call keeps that memory until the process ends.
 pub fn other_targets<R: Threads + Sync>(
     rt: &R,
     alloc: Global,
