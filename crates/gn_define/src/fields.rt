@@ -51,7 +51,7 @@ pub(crate) fn field_at(entries: &[Entry], variable: Variable) -> Option<&Field>
     ensures { option_map (λ f. held_of f.now) result ≡ field_at (entries_of entries.now) variable }
 {
     for entry in entries {
-        if entry.variable.name() == variable.name() {
+        if entry.variable.has_name_of(variable) {
             return Some(&entry.field);
         }
     }

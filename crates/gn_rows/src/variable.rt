@@ -1,6 +1,7 @@
 // The variables of items, and their names.
 
 ghost use Rattle.std.specs.Prelude.{◌≡◌};
+ghost use Rattle.std.specs.Str.{bytes_eq};
 ghost use Rattle.gn_rows.specs.Names.{variable_name};
 
 /// A variable that the block of an item can set.
@@ -125,6 +126,13 @@ pub enum Variable {
 }
 
 impl Variable {
+    /// Whether the two have one name: a name is that of one variable.
+    pub fn has_name_of(self, other: Variable) -> bool
+        ensures { result ≡ bytes_eq (variable_name self) (variable_name other) }
+    {
+        self == other
+    }
+
     /// The name of the variable, as a build file writes it.
     pub fn name(self) -> &'static [u8]
         ensures { result.now ≡ variable_name self }
