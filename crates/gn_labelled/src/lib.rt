@@ -6,7 +6,6 @@ mod handed_on;
 mod index;
 mod laws;
 mod lent_graph;
-mod order;
 mod target_graph;
 
 pub use graph::ItemGraph;
@@ -16,5 +15,4 @@ pub use laws::{
     each_repetition_is_told, the_first_item_is_found, the_order_of_items_does_not_matter,
 };
 pub use lent_graph::LentGraph;
-pub use order::dependencies_first;
 pub use target_graph::TargetGraph;
