@@ -16,7 +16,7 @@ ghost use Rattle.gn_judging.specs.Whole.{AreWithin, effects_left};
 ghost use Rattle.gn_built.specs.Files.{paths_lent, path_list, files_of};
 
 use crate::built::left_at;
-use crate::filed::find;
+use crate::filed::{find, find_at};
 use gn_answers::{Answer, FileContent, Filed, read_key};
 use gn_book::{Closed, KeyId};
 use gn_items::{Key, Outcome, Question, When, Written};
@@ -137,30 +137,34 @@ fn first_asked<'a>(
     }
 }
 
-// The first file for which the execution of a key asks and that is there.
+// The first file for which the execution of a number asks and that is there.
 fn first_of<'a>(
     alloc: Global,
     book: &'a Closed<Answer>,
-    key: &Key,
+    number: KeyId,
 ) -> Result<Option<&'a Path>, AllocError>
-    ensures { IfOk result (λ file. path_list file ≡ first_there (state_of book.now).filed (asked_in ((state_of book.now).filed (key_of key.now)))) }
+    requires { number < length book.now.keys }
+    ensures { IfOk result (λ file. path_list file ≡ first_there (state_of book.now).filed (asked_in ((state_of book.now).filed (key_at book.now number)))) }
 {
-    match find(book, key) {
+    match find_at(book, number) {
         Some(filed) => first_asked(alloc, book, filed),
         None => Ok(None),
     }
 }
 
-// The file that is loaded as a build file by the execution of a key.
+// The file that is loaded as a build file by the execution of a number, whose key is this one.
 fn file_loaded<'a>(
     alloc: Global,
     book: &'a Closed<Answer>,
+    number: KeyId,
     key: &Key,
 ) -> Result<Option<&'a Path>, AllocError>
+    requires number { number < length book.now.keys }
+    requires key { key_of key.now ≡ key_at book.now number }
     ensures { IfOk result (λ file. path_list file ≡ loaded_by_key (state_of book.now).filed (key_of key.now)) }
 {
     match key {
-        Key::Load(..) => first_of(alloc, book, key),
+        Key::Load(..) => first_of(alloc, book, number),
         Key::Read(_) => Ok(None),
         Key::Import(..) => Ok(None),
         Key::Setup(_) => Ok(None),
@@ -192,7 +196,7 @@ fn push_loaded<'a>(
     ensures { OnOk result (paths_lent paths.new.items ≡ paths_lent paths.old.items ++ flat_map (loaded_by_key (state_of book.now).filed) (map (key_at book.now) numbers.now)) }
 {
     for number in numbers {
-        let file = file_loaded(alloc, book, key_of_number(book, *number))?;
+        let file = file_loaded(alloc, book, *number, key_of_number(book, *number))?;
         push_path(file, paths)?;
     }
     Ok(())

@@ -13,3 +13,9 @@ pub loop-number-preserved : goal.loop-number-preserved
 loop-number-preserved c =
     keys_more (loaded_by_key (state_of c.args.book.now).filed) c.args.book.now c.args.numbers.now c.loop-number.number-index (paths_lent c.args.paths.now.items) (paths_lent c.loop-number.paths.items) _ c.loop-number-test.true c.loop-number.invariant
     (c.in_ok-push_path.ensures ∙ ap (λ (ps : List (List ℕ)). paths_lent c.loop-number.paths.items ++ ps) (c.in_ok-file.ensures ∙ ap (loaded_by_key (state_of c.args.book.now).filed) c.key_of_number.ensures))
+
+pub file_loaded-requires-clause-number : goal.file_loaded-requires-clause-number
+file_loaded-requires-clause-number c = within_index c.args.book.now c.args.numbers.now c.requires c.loop-number.number-index c.loop-number-test.true
+
+pub file_loaded-requires-clause-key : goal.file_loaded-requires-clause-key
+file_loaded-requires-clause-key c = c.key_of_number.ensures
