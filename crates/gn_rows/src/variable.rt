@@ -126,7 +126,7 @@ pub enum Variable {
 }
 
 impl Variable {
-    /// Whether the two have one name: a name is that of one variable.
+    /// Whether the two have one name, as a build file writes it. It takes one comparison, since no two variables have one name.
     pub fn has_name_of(self, other: Variable) -> bool
         ensures { result ≡ bytes_eq (variable_name self) (variable_name other) }
     {
