@@ -11,14 +11,13 @@ use Rattle.gn_projects.specs.Files.{content_in}
 use Rattle.gn_core.specs.Machine.{read_limit}
 use Rattle.gn_items.specs.declared.key.Key.{Key as Named}
 use Rattle.gn_book.specs.Graphs.{UnitsHaveNumbers}
-use Rattle.gn_builds.proofs.Steps.{needed_lacks}
 use Rattle.gn_answers.specs.Answers.{content_view}
 use Rattle.gn_answers.specs.Reading.{IsReadBy}
 use Rattle.gn_answers.specs.declared.reading.PerformStop.TheVariants as perform
 use Rattle.gn_ahead.specs.Ahead.{IsAskedRead}
 use Rattle.gn_core.specs.Keys.{Key, Read, Import, Unit_of, Resolve}
 use Rattle.gn_book.specs.Keys.{key_of}
-use Rattle.gn_book.specs.Logs.{Log, state_of, key_at}
+use Rattle.gn_book.specs.Logs.{state_of, key_at}
 use Rattle.gn_book.specs.Next.{IsReadyNumber}
 use Rattle.gn_book.specs.Tasks.{is_task}
 use Rattle.gn_projects.specs.Loaded.{is_build_file}
@@ -87,9 +86,6 @@ module _ (known : List (List ℕ)) (before now next : SourceState) (old : Driver
   no_number : In old.book.keys (Read path) → ⊥
   no_number = not_numbered known before now old total n path wanted.first.place wanted.first.asked is need_there
 
-  unfiled : (state_of old.book).filed (Read path) ≡ None
-  unfiled = needed_lacks old.base.start old.book.keys (state_of old.book) [] is.goes.going.driven.named (key_at old.book n) (Read path) wanted.first.place wanted.first.asked need_there
-
   pub one_fails : IsReadBy path now next (Err perform.Failed) → IsStopAhead old.base.start known before next (Failed path)
   one_fails read = ahead_fails known before now next old total path is no_number wanted.first.none is_asked read
 
@@ -108,14 +104,11 @@ module _ (known : List (List ℕ)) (before now next : SourceState) (old : Driver
       base = keeps.base;
       book = keeps.book;
       waiting = keeps.waiting;
-      wanted = (
-        subst (IsOfLayer (layer_now old.base)) (ap key_of (sym keeps.key)) wanted.first.layer,
-        subst (λ (p : List ℕ). (state_of old.book).filed (Read p) ≡ None) (sym keeps.path) unfiled,
-      );
+      wanted = subst (IsOfLayer (layer_now old.base)) (ap key_of (sym keeps.key)) wanted.first.layer;
     }
 
 -- Whether or not something is found
-module _ (known : List (List ℕ)) (before now : SourceState) (old : Driver) (total : ℕ) (is : IsRebased known before now old [] total) (files : Found) (each : Each (IsWanted old.base (state_of old.book).filed) files.wanted.items) where
+module _ (known : List (List ℕ)) (before now : SourceState) (old : Driver) (total : ℕ) (is : IsRebased known before now old [] total) (files : Found) (each : Each (IsWanted old.base) files.wanted.items) where
   pub none_found : (next : SourceState) → next ≡ now → HasFound known before next old old total files
   none_found next same = record { goes = subst (λ (s : SourceState). IsRebased known before s old [] total) (sym same) is; base = refl; book = refl; waiting = refl; wanted = each }
 
@@ -131,7 +124,7 @@ module _ (known : List (List ℕ)) (before now : SourceState) (old : Driver) (to
     base = one.base;
     book = one.book;
     waiting = one.waiting;
-    wanted = subst (Each (IsWanted old.base (state_of old.book).filed)) (sym items) (each_more (IsWanted old.base (state_of old.book).filed) files.wanted.items w each one.wanted);
+    wanted = subst (Each (IsWanted old.base)) (sym items) (each_more (IsWanted old.base) files.wanted.items w each one.wanted);
   }
 
   pub one_found_lost : (next : SourceState) (new : Driver) (after : ℕ) (w : Wanted) (more : Found) (r : Result (Unit {0}) Stop) → HasReadOne known before next old new after w → IsErrAnd r (λ e. e ≡ Memory) → FindsAt known before next old new after more r
@@ -149,9 +142,8 @@ rebased_still known before was now d total same is = subst (λ (s : SourceState)
 
 -- What was found goes on
 module _ (known : List (List ℕ)) (before was : SourceState) (old mid : Driver) (total : ℕ) (files : Found) (has : HasFound known before was old mid total files) where
-  pub each_on : Each (IsWanted mid.base (state_of mid.book).filed) files.wanted.items
-  each_on = subst (λ (b : CurrentBase). Each (IsWanted b (state_of mid.book).filed) files.wanted.items) (sym has.base)
-      (subst (λ (l : Log). Each (IsWanted old.base (state_of l).filed) files.wanted.items) (sym has.book) has.wanted)
+  pub each_on : Each (IsWanted mid.base) files.wanted.items
+  each_on = subst (λ (b : CurrentBase). Each (IsWanted b) files.wanted.items) (sym has.base) has.wanted
 
   pub found_on : (now : SourceState) (new : Driver) (after : ℕ) (more : Found) → HasFound known before now mid new after more → HasFound known before now old new after more
   found_on now new after more is = record {
@@ -159,7 +151,7 @@ module _ (known : List (List ℕ)) (before was : SourceState) (old mid : Driver)
     base = is.base ∙ has.base;
     book = is.book ∙ has.book;
     waiting = is.waiting ∙ has.waiting;
-    wanted = subst (λ (b : CurrentBase). Each (IsWanted b (state_of old.book).filed) more.wanted.items) has.base (subst (λ (l : Log). Each (IsWanted mid.base (state_of l).filed) more.wanted.items) has.book is.wanted);
+    wanted = subst (λ (b : CurrentBase). Each (IsWanted b) more.wanted.items) has.base is.wanted;
   }
 
   pub stops_on : (now : SourceState) (new : Driver) (after : ℕ) (r : Result Found Stop) (s : Stop) → IsErrAnd r (λ e. e ≡ s) → IsStopAhead mid.base.start known before now s → FindsFiles known before now old new after r
@@ -168,4 +160,4 @@ module _ (known : List (List ℕ)) (before was : SourceState) (old mid : Driver)
 
 -- nothing was found yet
 pub nothing_found : (known : List (List ℕ)) (before now : SourceState) (d : Driver) (total : ℕ) (files : Found) → files.wanted.items ≡ [] → IsRebased known before now d [] total → HasFound known before now d d total files
-nothing_found known before now d total files none is = record { goes = is; base = refl; book = refl; waiting = refl; wanted = subst (Each (IsWanted d.base (state_of d.book).filed)) (sym none) tt }
+nothing_found known before now d total files none is = record { goes = is; base = refl; book = refl; waiting = refl; wanted = subst (Each (IsWanted d.base)) (sym none) tt }

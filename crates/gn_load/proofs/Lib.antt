@@ -14,6 +14,7 @@ mod KnownAhead
 mod RebasedDriver
 mod AheadEnds
 mod RoundLemmas
+mod StageLemmas
 mod OwnLemmas
 mod FoundLemmas
 mod ExecutedLemmas

@@ -219,6 +219,7 @@ module _ (known : List (List ℕ)) (before now : SourceState) (old mid : Driver)
     numbered = numbered.numbered;
     counted = mid_counted units counted;
     left = numbered.left;
+    more = numbered.more;
     comes = next;
   }
 
@@ -230,6 +231,7 @@ module _ (known : List (List ℕ)) (before now : SourceState) (old mid : Driver)
     numbered = has.numbered;
     counted = has.counted;
     left = (let here = has.left in let before = numbered.left in omega (arith, here, before));
+    more = λ k v h. has.more k v (numbered.more k v h);
     comes = has.unit;
   }
 

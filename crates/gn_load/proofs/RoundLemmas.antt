@@ -1,5 +1,5 @@
 -- Rounds of looking ahead, by what their calls do.
-use Rattle.std.proofs.Common.{◌≡◌, ℕ, ◌+◌, ◌<◌, ◌≤◌, List, [], ◌∷◌, ◌++◌, Option, Some, None, true, Result, Ok, Err, IfOk, IfErr, inl, inr, refl, sym, ◌∙◌, ap, subst, arith}
+use Rattle.std.proofs.Common.{◌≡◌, ℕ, ◌+◌, ◌≤◌, List, [], ◌∷◌, ◌++◌, Option, Some, None, true, Result, Ok, Err, IfOk, inl, inr, refl, sym, ◌∙◌, ap, subst, arith}
 use Rattle.std.specs.Result.{IsErrAnd}
 use Rattle.gn_outside.specs.Lists.{AllDiffer, Each}
 use Rattle.gn_outside.specs.States.{SourceState}
@@ -8,27 +8,26 @@ use Rattle.gn_core.specs.Layered.{IsPart}
 use Rattle.gn_core.specs.Machine.{read_limit}
 use Rattle.gn_book.specs.Graphs.{is_unit}
 use Rattle.gn_book.specs.Keys.{key_of}
-use Rattle.gn_book.specs.Logs.{Log, state_of}
+use Rattle.gn_book.specs.Logs.{state_of}
 use Rattle.gn_book.specs.declared.book.Claim.{Claim}
-use Rattle.gn_builds.specs.Driving.{with_claim, units_left, files_begun}
+use Rattle.gn_builds.specs.Driving.{with_claim, files_begun}
 use Rattle.gn_builds.specs.Rest.{BegunAreReached, ReachedAreCounted}
 use Rattle.gn_ahead.specs.Ahead.{HasReadAll}
-use Rattle.gn_load.specs.Current.{IsCurrent}
 use Rattle.gn_load.specs.Turns.{Goes, IsTurned, IsFinish, IsStop}
 use Rattle.gn_load.specs.Plain.{HasBegun, AreNumbered, HasNumbered, HasClaimed, IsTakenUp, IsEndAt, IsLoadedAs, IsLoad}
 use Rattle.gn_load.specs.Ahead.{GoesAhead, IsStopAhead}
-use Rattle.gn_load.specs.Rounds.{HasGoneOn, IsGivenOut, GivesOut, LoadsMore, IsWanted, HasFound, HasReady, WillBeRight, LooksAhead, LoadsNext, IsDrivingAhead, IsWhollyLoadedAhead, IsDriveAhead, IsEndAhead}
+use Rattle.gn_prepared.specs.declared.copies.Copies.{Copies}
+use Rattle.gn_load.specs.Rounds.{HasGoneOn, IsGivenOut, GivesOut, LoadsMore, WillBeRight, LooksAhead, LoadsNext, IsDrivingAhead, IsWhollyLoadedAhead, IsDriveAhead, IsEndAhead}
 use Rattle.gn_load.specs.declared.current.CurrentBase.{CurrentBase}
 use Rattle.gn_load.specs.declared.driver.Driver.{Driver}
 use Rattle.gn_load.specs.declared.driver.Stop.{Stop}
 use Rattle.gn_load.specs.declared.driver.Stop.TheVariants.{Memory}
-use Rattle.gn_load.specs.declared.found.Found.{Found}
 use Rattle.gn_load.specs.declared.plain.LoadEnd.{LoadEnd}
 use Rattle.gn_load.specs.declared.plain.LoadEnd.TheVariants as end
 use Rattle.gn_load.specs.declared.ready.Ready.{Ready}
 use Rattle.gn_load.proofs.AheadEnds.{begun_before, loaded_ahead, too_many_ahead, stopped_ahead}
 use Rattle.gn_load.proofs.PlainLemmas.{has_begun, finished_counted, finished_less}
-use Rattle.gn_load.proofs.RebasedDriver.{stop_ahead, ahead_memory, rebased_memory}
+use Rattle.gn_load.proofs.RebasedDriver.{stop_ahead, ahead_memory}
 use Rattle.gn_load.proofs.TurnLemmas.{goes_memory}
 
 -- Where files were read ahead
@@ -129,61 +128,18 @@ loads_stop known before now old mid new units (Err e) s start h stops =
     (subst (λ (b : BaseState). IsStop b known before now e) start (subst (IsStop mid.base.start known before now) (sym h) stops.0), subst (λ (b : BaseState). HasBegun b before units) start stops.1)
 
 -- what will be right over what is filed will be right later
-pub right_on : (known : List (List ℕ)) (before now : SourceState) (old new : Driver) (units : ℕ) (cs : List Claim) → HasGoneOn known before now old new units cs → (rs : List Ready) → Each (WillBeRight old.base.start (state_of old.book).filed) rs → Each (WillBeRight new.base.start (state_of new.book).filed) rs
-right_on known before now old new units cs gone [] each = tt
-right_on known before now old new units cs gone (r ∷ rs) each = (
-  subst (λ (b : BaseState). WillBeRight b (state_of new.book).filed r) (sym gone.start) (λ more part there. each.0 more (λ k v h. part k v (gone.more k v h)) there),
-  right_on known before now old new units cs gone rs each.1,
+pub right_later : (old new : Driver) → new.base.start ≡ old.base.start → IsPart (state_of old.book).filed (state_of new.book).filed → (rs : List Ready) → Each (WillBeRight old.base.start (state_of old.book).filed) rs → Each (WillBeRight new.base.start (state_of new.book).filed) rs
+right_later old new start more [] each = tt
+right_later old new start more (r ∷ rs) each = (
+  subst (λ (b : BaseState). WillBeRight b (state_of new.book).filed r) (sym start) (λ later part there. each.0 later (λ k v h. part k v (more k v h)) there),
+  right_later old new start more rs each.1,
 )
+
+pub right_on : (known : List (List ℕ)) (before now : SourceState) (old new : Driver) (units : ℕ) (cs : List Claim) → HasGoneOn known before now old new units cs → (rs : List Ready) → Each (WillBeRight old.base.start (state_of old.book).filed) rs → Each (WillBeRight new.base.start (state_of new.book).filed) rs
+right_on known before now old new units cs gone rs each = right_later old new gone.start gone.more rs each
 
 pub gone_nowhere : (known : List (List ℕ)) (before now : SourceState) (d : Driver) (units : ℕ) → Goes known before now d [] → units ≡ files_begun d.book → HasGoneOn known before now d d units []
 gone_nowhere known before now d units goes counted = record { goes = goes; start = refl; counted = counted; left = omega arith; more = λ k v h. h }
-
-pub loads_looked : (known : List (List ℕ)) (before was now : SourceState) (old mid new : Driver) (total units : ℕ) (g : GoesAhead known before was mid [] total) → mid.base ≡ old.base → mid.book ≡ old.book → (r : Result (Unit {0}) Stop) → LoadsMore (known ++ g.all) g.mid now mid new units r → LooksAhead known before now old new units total r
-loads_looked known before was now old mid new total units g base book (Ok u) loads = record {
-  goes = goes_ahead_on known before was now mid new [] [] total g loads.0.start loads.0.goes;
-  start = loads.0.start ∙ ap (λ (b : CurrentBase). b.start) base;
-  waiting = loads.1;
-  counted = loads.0.counted;
-  left = subst (λ (l : Log). units_left new.book ≤ units_left l) book loads.0.left;
-}
-loads_looked known before was now old mid new total units g base book (Err s) stops =
-    let ends = ahead_stops known before was now mid [] total units g s stops in (
-      subst (λ (b : CurrentBase). IsStopAhead b.start known before now s) base ends.0,
-      subst (λ (b : CurrentBase). HasBegun b.start before units) base ends.1,
-    )
-
-pub looks_stop : (known : List (List ℕ)) (before now : SourceState) (old mid new : Driver) (units total : ℕ) (r : Result (Unit {0}) Stop) (s : Stop) → mid.base ≡ old.base → IsErrAnd r (λ e. e ≡ s) → IsStopAhead mid.base.start known before now s → HasBegun old.base.start before units → LooksAhead known before now old new units total r
-looks_stop known before now old mid new units total (Ok u) s base h stop begun = absurd h
-looks_stop known before now old mid new units total (Err e) s base h stop begun =
-    (subst (λ (b : CurrentBase). IsStopAhead b.start known before now e) base (subst (IsStopAhead mid.base.start known before now) (sym h) stop), begun)
-
--- behind units that have got numbers
-module _ (known : List (List ℕ)) (before was now : SourceState) (old mid new : Driver) (total units : ℕ) (g : GoesAhead known before was old [] total) (numbered : HasNumbered (known ++ g.all) g.mid was old mid) where
-  pub numbered_ahead : GoesAhead known before was mid [] total
-  numbered_ahead = goes_ahead_on known before was was old mid [] [] total g (ap (λ (b : CurrentBase). b.start) numbered.base) numbered.goes
-
-  pub looks_on : (more : ℕ) (r : Result (Unit {0}) Stop) → LooksAhead known before now mid new units more r → LooksAhead known before now old new units more r
-  looks_on more (Ok u) looked = record {
-    goes = looked.goes;
-    start = looked.start ∙ ap (λ (b : CurrentBase). b.start) numbered.base;
-    waiting = looked.waiting;
-    counted = looked.counted;
-    left = (let here = looked.left in let before = numbered.left in omega (arith, here, before));
-  }
-  looks_on more (Err s) looked = (
-    subst (λ (b : CurrentBase). IsStopAhead b.start known before now s) numbered.base looked.0,
-    subst (λ (b : CurrentBase). HasBegun b.start before units) numbered.base looked.1,
-  )
-
-  pub looks_no_further : old.waiting.items ≡ [] → units ≡ files_begun old.book → LooksAhead known before was old mid units total (Ok tt)
-  looks_no_further none counted = record {
-    goes = numbered_ahead;
-    start = ap (λ (b : CurrentBase). b.start) numbered.base;
-    waiting = ap (λ w. w.items) numbered.waiting ∙ none;
-    counted = counted ∙ sym numbered.begun;
-    left = numbered.left;
-  }
 
 -- A unit is loaded, and then others
 
@@ -195,14 +151,14 @@ module _ (known : List (List ℕ)) (before was now : SourceState) (old mid : Dri
   pub finished_ahead : IsTurned (known ++ g.all) g.mid now old mid [] → GoesAhead known before now mid [] total
   finished_ahead turned = goes_ahead_on known before was now old mid (c ∷ []) [] total g (ap (λ (b : CurrentBase). b.start) turned.base) turned.goes
 
-  pub next_stops : (units : ℕ) → units ≡ files_begun old.book → (more : ℕ) (r : Result (Unit {0}) Stop) (s : Stop) → IsErrAnd r (λ e. e ≡ s) → IsStop old.base.start (known ++ g.all) g.mid now s → LoadsNext known before now old mid units more r
-  next_stops units counted more (Ok u) s h stop = absurd h
-  next_stops units counted more (Err e) s h stop =
+  pub next_stops : (units : ℕ) → units ≡ files_begun old.book → (more : ℕ) (copies : Copies) (r : Result (Unit {0}) Stop) (s : Stop) → IsErrAnd r (λ e. e ≡ s) → IsStop old.base.start (known ++ g.all) g.mid now s → LoadsNext known before now old mid units more copies r
+  next_stops units counted more copies (Ok u) s h stop = absurd h
+  next_stops units counted more copies (Err e) s h stop =
       ahead_stops known before was now old (c ∷ []) total units g e (subst (IsStop old.base.start (known ++ g.all) g.mid now) (sym h) stop, has_begun (known ++ g.all) g.mid was old (c ∷ []) units g.goes counted)
 
-pub next_looked : (known : List (List ℕ)) (before was mid_source now : SourceState) (old mid new : Driver) (c : Claim) (total units more : ℕ) (g : GoesAhead known before was old (c ∷ []) total) → is_unit (key_of c.key) ≡ true → AreNumbered old.book → IsTurned (known ++ g.all) g.mid mid_source old mid [] → (r : Result (Unit {0}) Stop)
-    → LooksAhead known before now mid new units more r → LoadsNext known before now old new units more r
-next_looked known before was mid_source now old mid new c total units more g unit numbered turned (Ok u) looked =
+pub next_looked : (known : List (List ℕ)) (before was mid_source now : SourceState) (old mid new : Driver) (c : Claim) (total units more : ℕ) (copies : Copies) (g : GoesAhead known before was old (c ∷ []) total) → is_unit (key_of c.key) ≡ true → AreNumbered old.book → IsTurned (known ++ g.all) g.mid mid_source old mid []
+    → (r : Result (Unit {0}) Stop) → LooksAhead known before now mid new units more copies r → LoadsNext known before now old new units more copies r
+next_looked known before was mid_source now old mid new c total units more copies g unit numbered turned (Ok u) (looked, copied) =
     let fewer = finished_less (known ++ g.all) g.mid was mid_source old mid c g.goes unit numbered turned in
     let further = looked.left in (
       record {
@@ -211,10 +167,11 @@ next_looked known before was mid_source now old mid new c total units more g uni
         waiting = looked.waiting;
         counted = looked.counted;
         left = omega (arith, fewer, further);
+        more = λ k v h. looked.more k v (turned.more k v h);
       },
-      omega (arith, fewer, further),
+      (omega (arith, fewer, further), copied),
     )
-next_looked known before was mid_source now old mid new c total units more g unit numbered turned (Err s) looked = (
+next_looked known before was mid_source now old mid new c total units more copies g unit numbered turned (Err s) looked = (
   subst (λ (b : CurrentBase). IsStopAhead b.start known before now s) turned.base looked.0,
   subst (λ (b : CurrentBase). HasBegun b.start before units) turned.base looked.1,
 )
@@ -253,28 +210,6 @@ ended_loads begun reached known differ before now d units total whole (Ok e) (in
     subst (IsLoadedAs d.base.start known before now units) (sym is.1) (too_many_ahead begun reached known differ before now d units total whole.goes whole.rests whole.counted is.0)
 ended_loads begun reached known differ before now d units total whole (Err e) is =
     stopped_ahead begun reached d.base.start known differ before now units (ahead_begun known before now d [] total units whole.goes whole.counted) Memory end.Memory (ahead_memory known before now d [] total whole.goes) refl
-
--- What was found and executed
-module _ (known : List (List ℕ)) (before now : SourceState) (old new : Driver) (total : ℕ) (files : Found) (has : HasFound known before now old new total files) where
-  found_wanted : Each (IsWanted new.base (state_of new.book).filed) files.wanted.items
-  found_wanted = subst (λ (b : CurrentBase). Each (IsWanted b (state_of new.book).filed) files.wanted.items) (sym has.base)
-      (subst (λ (l : Log). Each (IsWanted old.base (state_of l).filed) files.wanted.items) (sym has.book) has.wanted)
-
-  pub found_ready : (rs : List Ready) → (IsCurrent new.base (state_of new.book).filed → Each (IsWanted new.base (state_of new.book).filed) files.wanted.items → Each (WillBeRight new.base.start (state_of new.book).filed) rs)
-      → HasReady known before now old new total rs
-  found_ready rs right = record { goes = has.goes; base = has.base; book = has.book; waiting = has.waiting; right = right has.goes.goes.base found_wanted }
-
-  pub found_lost : IsStopAhead old.base.start known before now Memory
-  found_lost = subst (λ (b : CurrentBase). IsStopAhead b.start known before now Memory) has.base (rebased_memory known before now new [] total has.goes)
-
--- what leaves a function by its error
-pub err_there : {T E : Type 0} (P : E → Type 0) (r : Result T E) (s : E) → IsErrAnd r (λ e. e ≡ s) → P s → IfErr r P
-err_there P (Ok x) s h is = absurd h
-err_there P (Err e) s h is = subst P (sym h) is
-
-pub err_not_ok : {T E : Type 0} (P : T → Type 0) (r : Result T E) (s : E) → IsErrAnd r (λ e. e ≡ s) → IfOk r P
-err_not_ok P (Ok x) s h = absurd h
-err_not_ok P (Err e) s h = tt
 
 pub ends_within : {E : Type 0} (d : Driver) (total : ℕ) → total + d.reads ≤ read_limit → (r : Result LoadEnd E) → IfOk r (IsEndAt d.book) → IfOk r (IsEndAhead d total)
 ends_within d total few (Ok e) is = inl (few, is)

@@ -1,11 +1,21 @@
 -- What was executed ahead, of what was wanted.
 use Rattle.std.specs.Prelude.{◌≡◌, ◌⊎◌, ℕ, List, [], ◌∷◌, ◌++◌, Option, Some, None}
 use Rattle.gn_closure.specs.Reach.{Load}
-use Rattle.gn_core.specs.Keys.{Read, Unit_of}
+use Rattle.gn_core.specs.Keys.{Read, Unit_of, Filed as Answers}
+use Rattle.gn_core.specs.Layered.{IsPart}
 use Rattle.gn_book.specs.Keys.{key_of}
 use Rattle.gn_answers.specs.declared.answer.Filed.{Filed}
+use Rattle.gn_prepared.specs.Copies.{HasNoUnits}
 use Rattle.gn_prepared.specs.declared.wanted.Wanted.{Wanted}
+use Rattle.gn_load.specs.Current.{IsCurrent}
+use Rattle.gn_load.specs.declared.current.CurrentBase.{CurrentBase}
 use Rattle.gn_load.specs.declared.ready.Ready.{Ready}
+
+-- build files are executed over a part of what is filed that has no units, with the base of what is filed
+pub record IsExecutedOver (b : CurrentBase) (part filed : Answers) : Type 0 where
+  pub current : IsCurrent b filed
+  pub no_units : HasNoUnits part
+  pub within : IsPart part filed
 
 -- it is the answer of what was wanted
 pub record IsReadyOf (w : Wanted) (answer : Filed) (r : Ready) : Type 0 where

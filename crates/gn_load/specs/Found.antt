@@ -65,7 +65,7 @@ pub record HasReadOne (known : List (List ℕ)) (before now : SourceState) (old 
   pub base : new.base ≡ old.base
   pub book : new.book ≡ old.book
   pub waiting : new.waiting ≡ old.waiting
-  pub wanted : IsWanted old.base (state_of old.book).filed w
+  pub wanted : IsWanted old.base w
 
 abbrev pub ReadsOne : List (List ℕ) → SourceState → SourceState → Driver → Driver → ℕ → Result Wanted Stop → Type 0
 ReadsOne known before now old new total (Ok w) = HasReadOne known before now old new total w

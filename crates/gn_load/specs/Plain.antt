@@ -102,6 +102,7 @@ pub record IsTakenUp (known : List (List ℕ)) (before now : SourceState) (old n
   pub numbered : AreNumbered new.book
   pub counted : units ≡ files_begun new.book
   pub left : units_left new.book ≤ units_left old.book
+  pub more : IsPart (state_of old.book).filed (state_of new.book).filed
   pub comes : ComesNext new.book next
 
 abbrev pub TakesUp : List (List ℕ) → SourceState → SourceState → Driver → Driver → ℕ → Result (Option Claim) Stop → Type 0

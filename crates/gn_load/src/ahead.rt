@@ -7,7 +7,10 @@ ghost use Rattle.gn_outside.specs.States.{SourceState};
 ghost use Rattle.gn_core.specs.Machine.{read_limit};
 ghost use Rattle.gn_book.specs.Keys.{key_of};
 ghost use Rattle.gn_book.specs.Graphs.{is_unit};
+ghost use Rattle.gn_core.specs.Layered.{IsPart};
+ghost use Rattle.gn_book.specs.Logs.{state_of};
 ghost use Rattle.gn_builds.specs.Driving.{files_begun};
+ghost use Rattle.gn_prepared.specs.Copies.{answers_of};
 ghost use Rattle.gn_builds.specs.Rest.{Rests, ReachesFew, ReadsAsked};
 ghost use Rattle.gn_bases.specs.Setups.{given_base};
 ghost use Rattle.gn_load.specs.Turns.{known_paths};
@@ -19,12 +22,14 @@ ghost use Rattle.gn_load.specs.Rounds.{LoadsNext, IsDriveAhead, IsEndAhead};
 
 use crate::driver::{Driver, Stop, finish};
 use crate::plain::{LoadEnd, Plain, end_or_memory, ended, start, stopped, take_up};
-use crate::round::{Ahead, look_ahead, may_read};
+use crate::round::{Ahead, may_read};
+use crate::stage::look_ahead;
 use gn_bases::{Known, Setup};
 use gn_book::Claim;
 use gn_builds::only_what_is_asked_is_loaded;
 use gn_judging::too_large;
 use gn_outside::Source;
+use gn_prepared::{Copies, threads_beside};
 use gn_unit::Base;
 use std::alloc::{AllocError, Global};
 use std::thread::Threads;
@@ -38,17 +43,19 @@ fn load_next<R: Threads + Sync, S: Source>(
     source: &mut S,
     units: &mut u64,
     ahead: &mut Ahead,
+    copies: &mut Copies,
 ) -> Result<(), Stop>
     requires goes { (known : List (List ℕ)) × (before : SourceState) × GoesAhead known before (S.state source.old) driver.old (claim ∷ []) ahead.old.total }
     requires waiting { driver.old.waiting.items ≡ [] }
     requires unit { is_unit (key_of claim.key) ≡ true }
     requires numbered { AreNumbered driver.old.book }
     requires counted { units.old ≡ files_begun driver.old.book }
+    requires copied { IsPart (answers_of copies.old) (state_of driver.old.book).filed }
     ensures { (known : List (List ℕ)) (before : SourceState) → GoesAhead known before (S.state source.old) driver.old (claim ∷ []) ahead.old.total →
-        LoadsNext known before (S.state source.new) driver.old driver.new units.new ahead.new.total result }
+        LoadsNext known before (S.state source.new) driver.old driver.new units.new ahead.new.total copies.new result }
 {
     finish(alloc, driver, claim, source)?;
-    look_ahead(rt, alloc, driver, source, units, ahead)
+    look_ahead(rt, alloc, driver, source, units, ahead, copies)
 }
 
 // Loads all that is reached, and counts the build files.
@@ -59,16 +66,18 @@ fn drive<R: Threads + Sync, S: Source>(
     source: &mut S,
     units: &mut u64,
     ahead: &mut Ahead,
+    copies: &mut Copies,
 ) -> Result<(), Stop>
     requires goes { (known : List (List ℕ)) × (before : SourceState) × GoesAhead known before (S.state source.old) driver.old [] ahead.old.total }
     requires waiting { driver.old.waiting.items ≡ [] }
     requires counted { units.old ≡ files_begun driver.old.book }
+    requires copied { IsPart (answers_of copies.old) (state_of driver.old.book).filed }
     ensures { (known : List (List ℕ)) (before : SourceState) → GoesAhead known before (S.state source.old) driver.old [] ahead.old.total →
         IsDriveAhead known before (S.state source.new) driver.old driver.new units.new ahead.new.total result }
 {
     let mut next = take_up(alloc, driver, units)?;
     'units: while let Some(claim) = next {
-        load_next(rt, alloc, driver, claim, source, units, ahead)?;
+        load_next(rt, alloc, driver, claim, source, units, ahead, copies)?;
         next = take_up(alloc, driver, units)?;
     }
     Ok(())
@@ -111,8 +120,21 @@ fn load<R: Threads + Sync, S: Source>(
 {
     only_what_is_asked_is_loaded();
     let mut driver = start(alloc, base, known)?;
-    let mut ahead = Ahead { seen: 0, total: 0 };
-    match drive(rt, alloc, &mut driver, source, units, &mut ahead) {
+    let mut ahead = Ahead {
+        seen: 0,
+        total: 0,
+        threads: threads_beside(rt),
+    };
+    let mut copies = Copies::new(alloc);
+    match drive(
+        rt,
+        alloc,
+        &mut driver,
+        source,
+        units,
+        &mut ahead,
+        &mut copies,
+    ) {
         Ok(()) => ended_ahead(alloc, driver, ahead.total),
         Err(stop) => Ok(stopped(alloc, stop)),
     }
@@ -137,7 +159,8 @@ fn load_setup<R: Threads + Sync, S: Source>(
 }
 
 /// Loads a build as `load_plain` does. Where many build files may be claimed, they are read ahead, and several threads execute them
-/// over what is filed then; what they leave is filed once they are claimed. The end is the same, and so are the clauses.
+/// over what is filed then, while this one loads those that were executed before; what they leave is filed once they are claimed. The
+/// end is the same, and so are the clauses.
 pub fn load_ahead<R: Threads + Sync, S: Source>(
     rt: &R,
     alloc: Global,

@@ -1,6 +1,6 @@
 // The base of the units that the seat works on.
 
-ghost use Rattle.std.specs.Prelude.{◌≡◌, [], None, OnOk, OnErr, true};
+ghost use Rattle.std.specs.Prelude.{◌≡◌, [], None, IfOk, OnOk, OnErr, true};
 ghost use Rattle.gn_core.specs.Keys.{early, same_layer};
 ghost use Rattle.gn_book.specs.Keys.{key_of, layer_at};
 ghost use Rattle.gn_book.specs.Graphs.{is_unit};
@@ -14,28 +14,94 @@ use gn_items::{Key, When};
 use gn_paths::Text;
 use gn_unit::Base;
 use std::alloc::{AllocError, Global};
+use std::marker::Model;
+use std::sync::Arc;
+
+/// A base that several may have at once: a copy copies nothing of it. Contracts see the base.
+#[derive(Drop)]
+pub(crate) struct SharedBase {
+    base: Arc<Base>,
+}
+
+impl Model for SharedBase {
+    ghost use Rattle.gn_executions.specs.Base.{BaseState};
+    ghost use Rattle.gn_evaluation_base.specs.contracts.base.Base.{the_row};
+
+    ghost Value = { BaseState };
+
+    ghost coded = { the_row.coded };
+
+    ghost view = { λ b. b.base.value };
+}
+
+impl SharedBase {
+    /// A base of its own.
+    pub(crate) fn new(alloc: Global, base: Base) -> Result<SharedBase, AllocError>
+        ensures { IfOk result (λ shared. shared ≡ base) }
+    {
+        Ok(SharedBase {
+            base: Arc::new(alloc, base)?,
+        })
+    }
+
+    /// The same base. Nothing of it is copied.
+    pub(crate) fn copy(&self) -> Result<SharedBase, AllocError>
+        ensures { IfOk result (λ shared. shared ≡ self.now) }
+    {
+        Ok(SharedBase {
+            base: self.base.clone()?,
+        })
+    }
+
+    /// The base.
+    pub(crate) fn base(&self) -> &Base
+        ensures { result.now ≡ self.now }
+    {
+        &self.base
+    }
+}
+
+// A base, if there is one, that several may have at once.
+fn shared(alloc: Global, base: Option<Base>) -> Result<Option<SharedBase>, AllocError>
+    ensures { IfOk result (λ shared. shared ≡ base) }
+{
+    match base {
+        Some(base) => Ok(Some(SharedBase::new(alloc, base)?)),
+        None => Ok(None),
+    }
+}
 
 /// The base of a layer, of which the seat works on units: the one with which the build starts, or another one, and the layer.
 #[derive(Drop)]
 pub(crate) struct CurrentBase {
-    pub(crate) start: Base,
-    pub(crate) other: Option<Base>,
+    pub(crate) start: SharedBase,
+    pub(crate) other: Option<SharedBase>,
     pub(crate) when: When,
     pub(crate) toolchain: Text,
 }
 
 impl CurrentBase {
     /// The base with which the build starts: that of the build configuration of the default toolchain.
-    pub(crate) fn new(alloc: Global, start: Base) -> CurrentBase
-        ensures start { result.start ≡ start }
-        ensures other { result.other ≡ None }
-        ensures layer { layer_now result ≡ early [] }
+    pub(crate) fn new(alloc: Global, start: Base) -> Result<CurrentBase, AllocError>
+        ensures start { IfOk result (λ base. base.start ≡ start) }
+        ensures other { IfOk result (λ base. base.other ≡ None) }
+        ensures layer { IfOk result (λ base. layer_now base ≡ early []) }
     {
-        CurrentBase {
-            start,
+        Ok(CurrentBase {
+            start: SharedBase::new(alloc, start)?,
             other: None,
             when: When::Early,
             toolchain: Text::new(alloc),
+        })
+    }
+
+    // The base, which several may have at once.
+    fn shared(&self) -> &SharedBase
+        ensures { result.now ≡ base_now self.now }
+    {
+        match &self.other {
+            Some(base) => base,
+            None => &self.start,
         }
     }
 
@@ -43,10 +109,14 @@ impl CurrentBase {
     pub(crate) fn base(&self) -> &Base
         ensures { result.now ≡ base_now self.now }
     {
-        match &self.other {
-            Some(base) => base,
-            None => &self.start,
-        }
+        self.shared().base()
+    }
+
+    /// The base, which stays as it is when this becomes that of another layer.
+    pub(crate) fn share(&self) -> Result<SharedBase, AllocError>
+        ensures { IfOk result (λ base. base ≡ base_now self.now) }
+    {
+        self.shared().copy()
     }
 
     /// Whether it is that of a layer.
@@ -73,7 +143,8 @@ impl CurrentBase {
         ensures err { OnErr result (self.new ≡ self.old) }
     {
         let copy = toolchain.copy(alloc)?;
-        self.other = base_for(alloc, &self.start, book, when, toolchain)?;
+        let base = base_for(alloc, self.start.base(), book, when, toolchain)?;
+        self.other = shared(alloc, base)?;
         self.when = when;
         self.toolchain = copy;
         Ok(())

@@ -5,24 +5,21 @@ ghost use Rattle.gn_outside.specs.Lists.{Each};
 ghost use Rattle.gn_closure.specs.Reach.{Load};
 ghost use Rattle.gn_core.specs.Keys.{Unit_of, Filed as Answers};
 ghost use Rattle.gn_book.specs.Keys.{key_of};
-ghost use Rattle.gn_book.specs.Logs.{state_of};
 ghost use Rattle.gn_prepared.specs.Prepared.{ArePrepared};
-ghost use Rattle.gn_load.specs.Current.{base_now, IsCurrent};
+ghost use Rattle.gn_load.specs.Current.{base_now};
 ghost use Rattle.gn_load.specs.Rounds.{IsWanted, WillBeRight};
-ghost use Rattle.gn_load.specs.Executed.{IsReadyOf, PutsReady, AddsReady, TakesLast};
+ghost use Rattle.gn_load.specs.Executed.{IsExecutedOver, IsReadyOf, PutsReady, AddsReady, TakesLast};
 ghost use Rattle.gn_load.specs.declared.current.CurrentBase.{CurrentBase};
 
-use crate::driver::Driver;
 use crate::found::Found;
 use crate::ready::Ready;
 use gn_answers::Filed;
 use gn_book::KeyId;
 use gn_items::Key;
 use gn_paths::{Path, Text};
-use gn_prepared::{Wanted, contents_are_included, prepare};
+use gn_prepared::{Wanted, contents_are_included};
 use std::alloc::{AllocError, Global};
 use std::collections::VecDeque;
-use std::thread::Threads;
 
 // The directory and the toolchain of the key of a build file.
 fn names_of(key: Key) -> Option<(Path, Text)>
@@ -123,14 +120,14 @@ fn take_last(
     }
 }
 
-// What build files leave that were executed ahead.
-fn all_ready(
+/// What build files leave that were executed ahead over a part of what is filed.
+pub(crate) fn all_ready(
     alloc: Global,
     found: Found,
     answers: Vec<Option<Filed>>,
 ) -> Result<VecDeque<Ready>, AllocError>
-    ensures { IfOk result (λ all. (b : CurrentBase) (filed : Answers) → IsCurrent b filed → Each (IsWanted b filed) found.wanted.items → ArePrepared (base_now b) filed found.wanted.items answers.items →
-        Each (WillBeRight b.start filed) all.items) }
+    ensures { IfOk result (λ all. (b : CurrentBase) (part filed : Answers) → IsExecutedOver b part filed → Each (IsWanted b) found.wanted.items →
+        ArePrepared (base_now b) part found.wanted.items answers.items → Each (WillBeRight b.start filed) all.items) }
 {
     contents_are_included();
     let mut found = found;
@@ -140,23 +137,4 @@ fn all_ready(
         add_ready(&mut all, last)?;
     }
     Ok(all)
-}
-
-/// The build files that were found are executed.
-pub(crate) fn execute<R: Threads + Sync>(
-    rt: &R,
-    alloc: Global,
-    driver: &Driver,
-    found: Found,
-) -> Result<VecDeque<Ready>, AllocError>
-    ensures { IfOk result (λ all. IsCurrent driver.now.base (state_of driver.now.book).filed → Each (IsWanted driver.now.base (state_of driver.now.book).filed) found.wanted.items →
-        Each (WillBeRight driver.now.base.start (state_of driver.now.book).filed) all.items) }
-{
-    match prepare(rt, alloc, driver.base.base(), &driver.book, &found.wanted) {
-        Ok(answers) => all_ready(alloc, found, answers),
-        Err(error) => {
-            drop(found);
-            Err(error)
-        }
-    }
 }

@@ -1,18 +1,15 @@
 // Build files that may be claimed are read ahead.
 
 ghost use Rattle.std.specs.Prelude.{◌≡◌, ◌<◌, option_map, ◌≤◌, ◌+◌, ◌∷◌, ◌++◌, ℕ, List, [], Some, None, IfOk, OnOk, length, true};
-ghost use Rattle.gn_outside.specs.Tree.{Tree, read_of};
 ghost use Rattle.gn_outside.specs.States.{SourceState};
 ghost use Rattle.gn_outside.specs.Lists.{Each};
 ghost use Rattle.gn_values.specs.Tables.{with_name};
 ghost use Rattle.gn_core.specs.Machine.{read_limit};
 ghost use Rattle.gn_book.specs.Graphs.{UnitsHaveNumbers};
 ghost use Rattle.gn_book.specs.Keys.{key_of};
-ghost use Rattle.gn_book.specs.Logs.{state_of, key_at};
 ghost use Rattle.gn_book.specs.Next.{IsReadyNumber};
 ghost use Rattle.gn_projects.specs.Loaded.{is_build_file};
 ghost use Rattle.gn_builds.specs.Driving.{IsOfLayer};
-ghost use Rattle.gn_answers.specs.Answers.{content_view};
 ghost use Rattle.gn_load.specs.Current.{layer_now};
 ghost use Rattle.gn_load.specs.Turns.{Goes};
 ghost use Rattle.gn_load.specs.Rebased.{IsRebased};
@@ -242,7 +239,7 @@ fn find_at<S: Source>(
     requires numbers { UnitsHaveNumbers driver.old.book }
     requires number { number < length driver.old.book.keys }
     ensures { (known : List (List ℕ)) (before : SourceState) → IsRebased known before (S.state source.old) driver.old [] total.old →
-        Each (IsWanted driver.old.base (state_of driver.old.book).filed) found.old.wanted.items → FindsAt known before (S.state source.new) driver.old driver.new total.new found.new result }
+        Each (IsWanted driver.old.base) found.old.wanted.items → FindsAt known before (S.state source.new) driver.old driver.new total.new found.new result }
 {
     if *total >= MAX_PATHS {
         return Ok(());
@@ -256,24 +253,32 @@ fn find_at<S: Source>(
     }
 }
 
-/// The build files of numbers from this one on that may be claimed: their files are read ahead.
+/// No build files. It takes no memory.
+pub(crate) fn no_files(alloc: Global) -> Found
+    ensures { result.wanted.items ≡ [] }
+{
+    Found {
+        numbers: Vec::new(alloc),
+        wanted: Vec::new(alloc),
+    }
+}
+
+/// The build files of numbers from this one on, up to another, that may be claimed: their files are read ahead.
 pub(crate) fn find_from<S: Source>(
     alloc: Global,
     driver: &mut Driver,
     source: &mut S,
     from: KeyId,
+    end: KeyId,
     total: &mut usize,
 ) -> Result<Found, Stop>
     requires goes { (known : List (List ℕ)) × (before : SourceState) × IsRebased known before (S.state source.old) driver.old [] total.old }
     requires numbers { UnitsHaveNumbers driver.old.book }
+    requires end { end ≤ length driver.old.book.keys }
     ensures { (known : List (List ℕ)) (before : SourceState) → IsRebased known before (S.state source.old) driver.old [] total.old →
         FindsFiles known before (S.state source.new) driver.old driver.new total.new result }
 {
-    let mut found = Found {
-        numbers: Vec::new(alloc),
-        wanted: Vec::new(alloc),
-    };
-    let end = driver.book.len();
+    let mut found = no_files(alloc);
     let mut number = from;
     'numbers: while number < end {
         find_at(alloc, driver, source, number, total, &mut found)?;

@@ -10,6 +10,7 @@ mod own_file;
 mod plain;
 mod ready;
 mod round;
+mod stage;
 
 pub use ahead::load_ahead;
 pub use gn_answers::PerformStop;

@@ -57,9 +57,10 @@ pub struct Plain {
 pub(crate) fn start(alloc: Global, base: Base, known: Known) -> Result<Driver, AllocError>
     ensures { IfOk result (IsStarted base known.entries) }
 {
+    let base = CurrentBase::new(alloc, base)?;
     let book = Book::new(alloc, 1)?;
     Ok(Driver {
-        base: CurrentBase::new(alloc, base),
+        base,
         book,
         waiting: VecDeque::new(alloc),
         known,

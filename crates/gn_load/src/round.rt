@@ -1,6 +1,6 @@
-// A round of looking ahead: build files that may be claimed are read and executed ahead, and then loaded one by one.
+// Rounds of looking ahead: which build files are read next, and how those are loaded that were executed.
 
-ghost use Rattle.std.specs.Prelude.{◌≡◌, ◌+◌, ◌<◌, ◌≤◌, [], ℕ, List, IfOk, IfErr, true};
+ghost use Rattle.std.specs.Prelude.{◌≡◌, ◌+◌, ◌<◌, ◌≤◌, [], ℕ, List, true};
 ghost use Rattle.std.specs.Bool.{OnTrue, OnFalse};
 ghost use Rattle.gn_outside.specs.Lists.{Each};
 ghost use Rattle.gn_outside.specs.States.{SourceState};
@@ -9,31 +9,37 @@ ghost use Rattle.gn_book.specs.Graphs.{UnitsHaveNumbers};
 ghost use Rattle.gn_book.specs.Logs.{state_of};
 ghost use Rattle.gn_builds.specs.Driving.{files_begun};
 ghost use Rattle.gn_load.specs.Turns.{Goes};
-ghost use Rattle.gn_load.specs.Ahead.{GoesAhead, IsStopAhead};
-ghost use Rattle.gn_load.specs.Rebased.{IsRebased};
-ghost use Rattle.gn_load.specs.Rounds.{WillBeRight, HasReady, GivesOut, LoadsMore, LooksAhead};
+ghost use Rattle.gn_load.specs.Ahead.{GoesAhead};
+ghost use Rattle.gn_load.specs.Rounds.{WillBeRight, GivesOut, LoadsMore, FindsFiles, FindsNext};
 
 use crate::driver::{Driver, MAX_PATHS, Stop};
-use crate::executed::execute;
-use crate::found::{find_from, is_open};
+use crate::found::{Found, find_from, is_open, no_files};
 use crate::plain::{claim_unit, number_units};
 use crate::ready::{Ready, finish_ready};
 use gn_book::{Claim, KeyId};
 use gn_outside::Source;
 use std::alloc::Global;
 use std::collections::VecDeque;
-use std::thread::Threads;
 
 // From how many new keys on it is worth while to look ahead.
-const LEAST_KEYS: usize = 64;
+const LEAST_KEYS: usize = 16;
 
-/// How far was looked ahead, and how many files were read before the reads of the driver began.
+// The least and the most keys of a round, and which part of those that are new is one.
+const LEAST_ROUND: usize = 64;
+
+const MOST_ROUND: usize = 1024;
+
+const PARTS: usize = 2;
+
+/// How far was looked ahead, how many files were read before the reads of the driver began, and how many threads execute build files.
 #[derive(Drop)]
 pub(crate) struct Ahead {
     /// How many numbers were looked at.
     pub(crate) seen: KeyId,
     /// How many files were read, by the driver or ahead of it.
     pub(crate) total: usize,
+    /// How many threads execute build files beside the one that loads.
+    pub(crate) threads: usize,
 }
 
 // The seat, which has no claim, claims the build file of a number, if that has no answer yet.
@@ -83,22 +89,21 @@ fn load_ready<S: Source>(
     }
 }
 
-// Build files that were executed ahead are loaded one by one.
-fn load_all<S: Source>(
+/// Build files that were executed ahead are loaded one by one.
+pub(crate) fn load_all<S: Source>(
     alloc: Global,
     driver: &mut Driver,
     source: &mut S,
     units: &mut u64,
-    all: VecDeque<Ready>,
+    all: &mut VecDeque<Ready>,
 ) -> Result<(), Stop>
     requires goes { (known : List (List ℕ)) × (before : SourceState) × Goes known before (S.state source.old) driver.old [] }
     requires waiting { driver.old.waiting.items ≡ [] }
     requires counted { units.old ≡ files_begun driver.old.book }
-    requires right { Each (WillBeRight driver.old.base.start (state_of driver.old.book).filed) all.items }
+    requires right { Each (WillBeRight driver.old.base.start (state_of driver.old.book).filed) all.old.items }
     ensures { (known : List (List ℕ)) (before : SourceState) → Goes known before (S.state source.old) driver.old [] →
         LoadsMore known before (S.state source.new) driver.old driver.new units.new result }
 {
-    let mut all = all;
     'files: while let Some(ready) = all.pop_front() {
         load_ready(alloc, driver, source, units, ready)?;
     }
@@ -120,51 +125,6 @@ fn count_reads(driver: &mut Driver, total: &mut usize)
     driver.reads = 0;
 }
 
-// Build files from a number on that may be claimed are read and executed ahead.
-fn find_ready<R: Threads + Sync, S: Source>(
-    rt: &R,
-    alloc: Global,
-    driver: &mut Driver,
-    source: &mut S,
-    from: KeyId,
-    total: &mut usize,
-) -> Result<VecDeque<Ready>, Stop>
-    requires goes { (known : List (List ℕ)) × (before : SourceState) × IsRebased known before (S.state source.old) driver.old [] total.old }
-    requires numbers { UnitsHaveNumbers driver.old.book }
-    ensures ok { IfOk result (λ ready. (known : List (List ℕ)) (before : SourceState) → IsRebased known before (S.state source.old) driver.old [] total.old →
-        HasReady known before (S.state source.new) driver.old driver.new total.new ready.items) }
-    ensures err { IfErr result (λ stop. (known : List (List ℕ)) (before : SourceState) → IsRebased known before (S.state source.old) driver.old [] total.old →
-        IsStopAhead driver.old.base.start known before (S.state source.new) stop) }
-{
-    let found = find_from(alloc, driver, source, from, total)?;
-    let ready = execute(rt, alloc, driver, found)?;
-    Ok(ready)
-}
-
-// Build files that may be claimed are read and executed ahead, and loaded one by one.
-fn round<R: Threads + Sync, S: Source>(
-    rt: &R,
-    alloc: Global,
-    driver: &mut Driver,
-    source: &mut S,
-    units: &mut u64,
-    ahead: &mut Ahead,
-) -> Result<(), Stop>
-    requires goes { (known : List (List ℕ)) × (before : SourceState) × GoesAhead known before (S.state source.old) driver.old [] ahead.old.total }
-    requires waiting { driver.old.waiting.items ≡ [] }
-    requires counted { units.old ≡ files_begun driver.old.book }
-    requires numbers { UnitsHaveNumbers driver.old.book }
-    requires few { ahead.old.total + driver.old.reads ≤ read_limit }
-    ensures { (known : List (List ℕ)) (before : SourceState) → GoesAhead known before (S.state source.old) driver.old [] ahead.old.total →
-        LooksAhead known before (S.state source.new) driver.old driver.new units.new ahead.new.total result }
-{
-    let from = ahead.seen;
-    ahead.seen = driver.book.len();
-    count_reads(driver, &mut ahead.total);
-    let ready = find_ready(rt, alloc, driver, source, from, &mut ahead.total)?;
-    load_all(alloc, driver, source, units, ready)
-}
-
 /// Whether so many reads behind others are no more in all than a build may ask for.
 #[tactic(auto, unfolding(gn_core::specs::Machine::read_limit))]
 pub(crate) fn may_read(total: usize, reads: usize) -> bool
@@ -184,26 +144,51 @@ fn is_worth_while(driver: &Driver, ahead: &Ahead) -> bool
         && may_read(ahead.total, driver.reads)
 }
 
-/// Where many keys have got numbers since this was done last, the build files among them that may be claimed are read ahead, several
-/// threads execute them, and they are loaded.
-pub(crate) fn look_ahead<R: Threads + Sync, S: Source>(
-    rt: &R,
+// Where a round ends that begins with a number: it is some part of the keys that are new.
+fn round_end(from: KeyId, len: usize) -> KeyId
+    ensures { result ≤ len }
+{
+    let part = len.saturating_sub(from) / PARTS;
+    let keys = part.max(LEAST_ROUND).min(MOST_ROUND);
+    from.saturating_add(keys).min(len)
+}
+
+// The files of the build files of a round that may be claimed are read ahead.
+fn find_round<S: Source>(
     alloc: Global,
     driver: &mut Driver,
     source: &mut S,
-    units: &mut u64,
     ahead: &mut Ahead,
-) -> Result<(), Stop>
+) -> Result<Found, Stop>
     requires goes { (known : List (List ℕ)) × (before : SourceState) × GoesAhead known before (S.state source.old) driver.old [] ahead.old.total }
-    requires waiting { driver.old.waiting.items ≡ [] }
-    requires counted { units.old ≡ files_begun driver.old.book }
+    requires numbers { UnitsHaveNumbers driver.old.book }
+    requires few { ahead.old.total + driver.old.reads ≤ read_limit }
     ensures { (known : List (List ℕ)) (before : SourceState) → GoesAhead known before (S.state source.old) driver.old [] ahead.old.total →
-        LooksAhead known before (S.state source.new) driver.old driver.new units.new ahead.new.total result }
+        FindsFiles known before (S.state source.new) driver.old driver.new ahead.new.total result }
+{
+    let from = ahead.seen;
+    let end = round_end(from, driver.book.len());
+    ahead.seen = end;
+    count_reads(driver, &mut ahead.total);
+    find_from(alloc, driver, source, from, end, &mut ahead.total)
+}
+
+/// Where many keys have got numbers that weren't looked at, the files of the next build files among them are read ahead that may be
+/// claimed.
+pub(crate) fn find_next<S: Source>(
+    alloc: Global,
+    driver: &mut Driver,
+    source: &mut S,
+    ahead: &mut Ahead,
+) -> Result<Found, Stop>
+    requires goes { (known : List (List ℕ)) × (before : SourceState) × GoesAhead known before (S.state source.old) driver.old [] ahead.old.total }
+    ensures { (known : List (List ℕ)) (before : SourceState) → GoesAhead known before (S.state source.old) driver.old [] ahead.old.total →
+        FindsNext known before (S.state source.new) driver.old driver.new ahead.new.total result }
 {
     number_units(driver)?;
     if is_worth_while(driver, ahead) {
-        round(rt, alloc, driver, source, units, ahead)
+        find_round(alloc, driver, source, ahead)
     } else {
-        Ok(())
+        Ok(no_files(alloc))
     }
 }

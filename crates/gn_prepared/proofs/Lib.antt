@@ -2,7 +2,9 @@ mod Definitions
 mod Imported
 mod Bases
 mod Answered
-mod Books
+mod Copied
+mod Copying
 mod Crossing
 mod Included
-mod Collected
+mod Placing
+mod Gathered

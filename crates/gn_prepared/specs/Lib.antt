@@ -1,3 +1,4 @@
 pub mod Contents
+pub mod Copies
 pub mod Captures
 pub mod Prepared

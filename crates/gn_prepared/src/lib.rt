@@ -1,11 +1,16 @@
-//! Build files that are executed ahead by several threads, over what is filed and the content of their own files.
+//! Build files that are executed ahead by several threads, over copies of what is filed and the content of their own files, while the
+//! thread that asks for them does other work.
 #![tactic(auto)]
 
+mod beside;
+mod copies;
+mod placed;
 mod prepared;
 mod shared;
 mod wanted;
 mod with_content;
 
-pub use prepared::prepare;
+pub use copies::{Copies, copies_have_no_units};
+pub use prepared::{prepare_beside, threads_beside};
 pub use wanted::Wanted;
 pub use with_content::contents_are_included;

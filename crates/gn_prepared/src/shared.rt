@@ -14,16 +14,13 @@ ghost use Rattle.gn_define.specs.contracts.fields.Fields as FieldsRow;
 ghost use Rattle.gn_items.specs.contracts.outcome.Outcome as OutcomeRow;
 ghost use Rattle.gn_answers.specs.contracts.answer.Filed as FiledRow;
 ghost use Rattle.gn_answers.specs.contracts.answer.Answer as AnswerRow;
-ghost use Rattle.gn_answers.specs.contracts.answer.AnswerAnswer.TheImpl as AnswerMeans;
-ghost use Rattle.gn_book.specs.contracts.book.Book as BookRow;
-ghost use Rattle.gn_graph.specs.contracts.graph.Graph as GraphRow;
 ghost use Rattle.gn_prepared.specs.Captures.{captures};
-ghost use Rattle.gn_prepared.specs.contracts.wanted.Wanted as WantedRow;
+ghost use Rattle.gn_prepared.specs.contracts.copies.Copies as CopiesRow;
+ghost use Rattle.gn_prepared.specs.contracts.placed.Placed as PlacedRow;
 ghost use Rattle.gn_tree.specs.contracts.tree.Block as BlockRow;
 
 use gn_define::Fields;
 use gn_definitions::KeptScope;
-use gn_graph::Graph;
 use gn_tree::Block;
 use gn_values::Bindings;
 
@@ -131,30 +128,19 @@ fn answers_cross()
     imports_cross()
 }
 
-// Threads may share graphs of units.
-fn graphs_are_shared()
-    ensures { IsSync GraphRow.the_row }
+// Threads may share copies of what is filed.
+fn copies_are_shared()
+    ensures { IsSync CopiesRow.the_row }
 {
-    is_shared::<Graph>(None)
+    answers_cross()
 }
 
-// Threads may share the book of loading.
-fn books_are_shared()
-    ensures { IsSync (BookRow.the_row AnswerRow.the_row AnswerMeans.ghosts) }
-{
-    answers_cross();
-    graphs_are_shared()
-}
-
-/// Threads may take and share a closure that captures what build files are worked on with, share those that are wanted, and hand over
-/// what is filed. It does nothing.
+/// Threads may share a closure that captures what build files are worked on with, and hand over answers. It does nothing.
 pub(crate) fn work_is_shared()
-    ensures send { (name : Sym) (alloc base book : NamedLft) → IsSend (TupleAt name (captures alloc base book)) }
-    ensures sync { (name : Sym) (alloc base book : NamedLft) → IsSync (TupleAt name (captures alloc base book)) }
-    ensures wanted { IsSync WantedRow.the_row }
-    ensures filed { IsSend FiledRow.the_row }
+    ensures sync { (name : Sym) (alloc base copies wanted taken : NamedLft) → IsSync (TupleAt name (captures alloc base copies wanted taken)) }
+    ensures placed { IsSend PlacedRow.the_row }
 {
     bases_are_shared();
-    books_are_shared();
+    copies_are_shared();
     answers_cross()
 }

@@ -1,37 +1,37 @@
-// What is filed, and the content of one more path.
+// Copies of what is filed, and the content of one more path.
 
 ghost use Rattle.std.specs.Prelude.{◌≡◌, IfOk, Some};
-ghost use Rattle.gn_core.specs.Keys.{Read, found, put, same_key};
+ghost use Rattle.gn_core.specs.Keys.{Read, put, same_key};
 ghost use Rattle.gn_book.specs.Keys.{key_of};
-ghost use Rattle.gn_book.specs.Logs.{state_of};
 ghost use Rattle.gn_answers.specs.Answers.{content_view, meaning_of};
-ghost use Rattle.gn_prepared.specs.Contents.{with_content, IsIncludedLater, IncludesFiled};
+ghost use Rattle.gn_prepared.specs.Contents.{with_content, IsIncludedLater, BasesStand, KeepsNoUnits};
+ghost use Rattle.gn_prepared.specs.Copies.{answers_of};
 
-use gn_answers::{Answer, FileContent, Filed, Part, find};
-use gn_book::Book;
+use crate::copies::Copies;
+use gn_answers::{FileContent, Filed, Part};
 use gn_items::Key;
 use gn_paths::Path;
 use std::alloc::AllocError;
 
-/// What is filed, and the content of one more path.
+/// Copies of what is filed, and the content of one more path.
 #[derive(Drop)]
 pub(crate) struct WithContent<'a> {
-    book: &'a Book<Answer>,
+    copies: &'a Copies,
     path: &'a Path,
     content: Filed,
 }
 
 impl<'a> WithContent<'a> {
-    /// What is filed in a book, and what there is at a path. The bytes of a file aren't copied.
+    /// Copies of what is filed, and what there is at a path. The bytes of a file aren't copied.
     pub(crate) fn new(
-        book: &'a Book<Answer>,
+        copies: &'a Copies,
         path: &'a Path,
         content: &FileContent,
     ) -> Result<WithContent<'a>, AllocError>
-        ensures { IfOk result (λ part. put (state_of part.book.now).filed (Read part.path.now) (Some (meaning_of part.content)) ≡ with_content (state_of book.now).filed path.now (content_view content.now)) }
+        ensures { IfOk result (λ part. put (answers_of part.copies.now) (Read part.path.now) (Some (meaning_of part.content)) ≡ with_content (answers_of copies.now) path.now (content_view content.now)) }
     {
         Ok(WithContent {
-            book,
+            copies,
             path,
             content: Filed::Content(content.copy()?),
         })
@@ -52,20 +52,22 @@ fn is_read_at(key: &Key, path: &Path) -> bool
 }
 
 impl Part for WithContent<'_> {
-    ghost answers = { λ part. put (state_of part.book.now).filed (Read part.path.now) (Some (meaning_of part.content)) };
+    ghost answers = { λ part. put (answers_of part.copies.now) (Read part.path.now) (Some (meaning_of part.content)) };
 
     fn find(&self, key: &Key) -> Option<&Filed> {
         if is_read_at(key, self.path) {
             Some(&self.content)
         } else {
-            find(self.book, key)
+            self.copies.find(key)
         }
     }
 }
 
-/// What is filed later includes what was filed with the content of one more path, where it has that content itself; and what was
-/// filed is included there, where it had nothing at the path. It does nothing.
+/// What is filed later includes what was filed with the content of one more path, where it has that content itself. With such a
+/// content there are no answers of units where there were none; and where there are none, the base of each layer is the one at the
+/// start. It does nothing.
 pub fn contents_are_included()
     ensures later { IsIncludedLater }
-    ensures filed { IncludesFiled }
+    ensures base { BasesStand }
+    ensures content { KeepsNoUnits }
 {}

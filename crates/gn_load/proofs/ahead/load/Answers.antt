@@ -1,5 +1,6 @@
 use Rattle.std.proofs.Common.{[], arith, sym, ◌∙◌, subst}
 use Rattle.gn_executions.specs.Base.{BaseState}
+use Rattle.gn_book.specs.Logs.{state_of}
 use Rattle.gn_load.specs.Turns.{known_paths}
 use Rattle.gn_load.specs.Plain.{IsLoad, IsLoadedAs}
 use Rattle.gn_load.proofs.EndLemmas.{nothing_loaded, load_lost}
@@ -25,6 +26,9 @@ drive-requires-clause-waiting g c = λ l lives. c.in_ok-driver.ensures.waiting
 
 pub drive-requires-clause-counted : goal.drive-requires-clause-counted
 drive-requires-clause-counted g c = λ l lives. c.requires.units ∙ sym c.in_ok-driver.ensures.counted
+
+pub drive-requires-clause-copied : goal.drive-requires-clause-copied
+drive-requires-clause-copied g c = λ l lives. c.new-copies.ensures (state_of c.in_ok-driver.driver.book).filed
 
 pub ended_ahead-requires-clause-rest : goal.ended_ahead-requires-clause-rest
 ended_ahead-requires-clause-rest g c =

@@ -5,7 +5,7 @@ use Rattle.gn_load.proofs.FoundLemmas.{each_on, found_on, stops_on, nothing_foun
 use Rattle.gn_load.proofs.found.find_from.Goals as goal
 
 pub numbers-init : goal.numbers-init
-numbers-init g c = λ known before is. nothing_found known before (g.S.Source.state c.args.source.now) c.args.driver.now c.args.total.now _ c.new-2.ensures.items is
+numbers-init g c = λ known before is. nothing_found known before (g.S.Source.state c.args.source.now) c.args.driver.now c.args.total.now _ c.no_files-found.ensures is
 
 pub find_at-requires-clause-goes : goal.find_at-requires-clause-goes
 find_at-requires-clause-goes g c = (c.requires.goes.0, c.requires.goes.1, (c.numbers.invariant c.requires.goes.0 c.requires.goes.1 c.requires.goes.2).goes)
@@ -15,7 +15,7 @@ find_at-requires-clause-numbers g c = subst UnitsHaveNumbers (sym (c.numbers.inv
 
 pub find_at-requires-clause-number : goal.find_at-requires-clause-number
 find_at-requires-clause-number g c =
-    subst (λ (l : Log). c.numbers.number < length l.keys) (sym (c.numbers.invariant c.requires.goes.0 c.requires.goes.1 c.requires.goes.2).book) (omega (arith, c.len-end.ensures, c.numbers-test.true))
+    subst (λ (l : Log). c.numbers.number < length l.keys) (sym (c.numbers.invariant c.requires.goes.0 c.requires.goes.1 c.requires.goes.2).book) (omega (arith, c.requires.end, c.numbers-test.true))
 
 pub numbers-preserved : goal.numbers-preserved
 numbers-preserved g c = λ known before is.

@@ -1,4 +1,4 @@
-use Rattle.std.proofs.Common.{◌≡◌, ◌<◌, [], ◌∷◌, List, length, sym, subst, arith}
+use Rattle.std.proofs.Common.{◌<◌, [], List, length, sym, subst, arith}
 use Rattle.gn_outside.specs.Lists.{Each}
 use Rattle.gn_book.specs.Logs.{state_of}
 use Rattle.gn_load.specs.Rounds.{WillBeRight}
