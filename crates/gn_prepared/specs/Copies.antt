@@ -24,6 +24,7 @@ answers_in answers (Import layer path) = copied answers (Import layer path)
 answers_in answers (Unit_of unit) = None
 answers_in answers (Resolve label) = None
 
+-- the answers of copies; what they say is seen only where this is opened
 unfoldable pub answers_of : Copies → Filed
 answers_of copies = answers_in copies.answers
 

@@ -56,7 +56,8 @@ pub(crate) fn in_places(
     wanted: &[Wanted],
     shares: Result<Vec<Result<Vec<Placed>, AllocError>>, AllocError>,
 ) -> Result<Vec<Option<Filed>>, AllocError>
-    ensures { (base : BaseState) (filed : Answers) → IfOk shares (λ all. AreSharesPrepared base filed wanted.now all.items) → IfOk result (λ prepared. ArePrepared base filed wanted.now prepared.items) }
+    ensures { (base : BaseState) (filed : Answers) → IfOk shares (λ all. AreSharesPrepared base filed wanted.now all.items) →
+        IfOk result (λ prepared. ArePrepared base filed wanted.now prepared.items) }
 {
     let mut left = shares?;
     let mut all = none_of(alloc, wanted.len())?;

@@ -28,7 +28,8 @@ impl<'a> WithContent<'a> {
         path: &'a Path,
         content: &FileContent,
     ) -> Result<WithContent<'a>, AllocError>
-        ensures { IfOk result (λ part. put (answers_of part.copies.now) (Read part.path.now) (Some (meaning_of part.content)) ≡ with_content (answers_of copies.now) path.now (content_view content.now)) }
+        ensures { IfOk result (λ part. put (answers_of part.copies.now) (Read part.path.now) (Some (meaning_of part.content)) ≡
+            with_content (answers_of copies.now) path.now (content_view content.now)) }
     {
         Ok(WithContent {
             copies,
