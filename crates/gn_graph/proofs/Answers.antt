@@ -58,3 +58,12 @@ rules_more rs r n = by (default_in (units_in rs (Setup []))) ∙ ap (λ z. start
     by : (o : Option (List ℕ)) → (start_rules ++ rules_by o rs) ++ more_rules o (named r) rs r ≡ start_rules ++ rules_by (after o (named r)) (rs ++ r ∷ [])
     by None = refl
     by (Some t) = append_assoc start_rules (rules_by (Some t) rs) (reply_rules t r) ∙ ap (λ z. start_rules ++ z) (sym (flat_more (reply_rules t) rs r))
+
+-- where the default toolchain is known, the rules of one more answer don't hang on the answers before
+pub early_more : (o q : Option (List ℕ)) (es rs : List Reply) (r : Reply) → (o ≡ None → es ≡ rs) → more_rules o q es r ≡ more_rules o q rs r
+early_more None q es rs r same = ap (λ (z : List Reply). rules_by q (z ++ r ∷ [])) (same refl)
+early_more (Some t) q es rs r same = refl
+
+pub after_none : (o q : Option (List ℕ)) → after o q ≡ None → o ≡ None
+after_none None q e = refl
+after_none (Some t) q e = e

@@ -1,5 +1,6 @@
 -- What the graph is over, and what was found.
 use Rattle.std.specs.Prelude.{List}
+use Rattle.std.specs.declared.snapshot.Snapshot.{Snapshot}
 use Rattle.gn_closure.specs.Ground.{Step}
 use Rattle.gn_graph.specs.declared.graph.Answered.{Answered}
 use Rattle.gn_graph.specs.Facts.{unit_of}
@@ -13,3 +14,7 @@ pub record Answers : Type 0 where
 
 abbrev pub reply_of : Answered → Reply
 reply_of a = reply (unit_of a.unit) (done_in a.needs)
+
+-- the same of an answer that contracts alone see
+abbrev pub told_by : Snapshot Answered → Reply
+told_by s = reply_of s.value

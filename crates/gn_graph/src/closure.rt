@@ -79,6 +79,8 @@ fn take_or_leave(
 pub(crate) struct Closure {
     alloc: Global,
     parts: Parts,
+    // Numbers are listed here while a rule is taken in.
+    needs: Vec<usize>,
 }
 
 impl Model for Closure {
@@ -102,6 +104,7 @@ impl Closure {
         Closure {
             alloc,
             parts: no_parts(alloc),
+            needs: Vec::new(alloc),
         }
     }
 
@@ -110,10 +113,7 @@ impl Closure {
         ensures added { OnOk result (HasAdded self.old self.new (unit_rules_in rules.now)) }
         ensures err { OnErr result (self.new ≡ self.old) }
     {
-        let mut needs = Vec::new(self.alloc);
-        let done = take_or_leave(self.alloc, &mut self.parts, &mut needs, rules);
-        drop(needs);
-        done
+        take_or_leave(self.alloc, &mut self.parts, &mut self.needs, rules)
     }
 
     /// How many facts follow. It takes no memory.

@@ -10,7 +10,7 @@ ghost use Rattle.gn_graph.specs.Facts.{step_of, unit_of, unit_rules_in};
 ghost use Rattle.gn_graph.specs.Needs.{home, done_in};
 ghost use Rattle.gn_graph.specs.Numbers.{IsMore, IsTable, IsWhole, HasAdded};
 ghost use Rattle.gn_graph.specs.Replies.{reply, units_in, rules_by, reply_rules, more_rules, named, after};
-ghost use Rattle.gn_graph.specs.Graphs.{reply_of};
+ghost use Rattle.gn_graph.specs.Graphs.{reply_of, told_by};
 ghost use Rattle.gn_graph.specs.Counts.{AreCounts};
 
 use crate::closure::Closure;
@@ -24,6 +24,7 @@ use crate::unit_rules::unit_rules;
 use gn_paths::Text;
 use std::alloc::{AllocError, Global};
 use std::marker::Model;
+use std::snapshot::Snapshot;
 
 // The greatest number of build files that may be reached, each under each of its toolchains, and of build configurations.
 const LOAD_LIMIT: usize = 1048576;
@@ -200,12 +201,23 @@ fn set_default(default: &mut Option<DefaultToolchain>, named: Option<DefaultTool
     }
 }
 
-// One more answer, for which there is room.
-fn keep(answers: &mut Vec<Answered>, answered: Answered)
-    requires { vec_len answers.old < vec_capacity answers.old }
-    ensures { answers.new.items ≡ answers.old.items ++ answered ∷ [] }
+// One more answer, for which there is room, as contracts see it.
+fn note(told: &mut Vec<Snapshot<Answered>>, answered: &Answered)
+    requires { vec_len told.old < vec_capacity told.old }
+    ensures { map told_by told.new.items ≡ map told_by told.old.items ++ reply_of answered.now ∷ [] }
 {
-    let _ = answers.push(answered);
+    told.push_reserved(Snapshot::of(answered));
+}
+
+// One more answer is kept where its rules wait for the default toolchain; there is room for it.
+fn keep(before: Option<&DefaultToolchain>, early: &mut Vec<Answered>, answered: Answered)
+    requires { vec_len early.old < vec_capacity early.old }
+    ensures { option_copied before.entry ≡ None → early.new.items ≡ early.old.items ++ answered ∷ [] }
+{
+    match before {
+        Some(_) => drop(answered),
+        None => early.push_reserved(answered),
+    }
 }
 
 // One more answer's rules are added, and there is room for it.
@@ -213,17 +225,19 @@ fn follow_with_room(
     alloc: Global,
     closure: &mut Closure,
     before: Option<&DefaultToolchain>,
-    answers: &mut Vec<Answered>,
+    told: &mut Vec<Snapshot<Answered>>,
+    early: &mut Vec<Answered>,
     last: &Answered,
 ) -> Result<Option<DefaultToolchain>, AllocError>
     ensures named { IfOk result (λ default. default ≡ named (reply_of last.now)) }
-    ensures room { OnOk result (vec_len answers.new < vec_capacity answers.new) }
-    ensures items { answers.new.items ≡ answers.old.items }
-    ensures added { OnOk result (HasAdded closure.old closure.new (more_rules (option_copied before.entry) (named (reply_of last.now)) (map reply_of answers.old.items) (reply_of last.now))) }
+    ensures room { OnOk result ((vec_len told.new < vec_capacity told.new) × (vec_len early.new < vec_capacity early.new)) }
+    ensures items { (told.new.items ≡ told.old.items) × (early.new.items ≡ early.old.items) }
+    ensures added { OnOk result (HasAdded closure.old closure.new (more_rules (option_copied before.entry) (named (reply_of last.now)) (map reply_of early.old.items) (reply_of last.now))) }
     ensures err { OnErr result (closure.new ≡ closure.old) }
 {
-    answers.reserve(1)?;
-    follow_named(alloc, closure, before, answers, last)
+    told.reserve(1)?;
+    early.reserve(1)?;
+    follow_named(alloc, closure, before, early, last)
 }
 
 // One more answer and its rules.
@@ -231,18 +245,21 @@ fn take(
     alloc: Global,
     closure: &mut Closure,
     before: Option<&DefaultToolchain>,
-    answers: &mut Vec<Answered>,
+    told: &mut Vec<Snapshot<Answered>>,
+    early: &mut Vec<Answered>,
     answered: Answered,
 ) -> Result<Option<DefaultToolchain>, AllocError>
     ensures named { IfOk result (λ default. default ≡ named (reply_of answered)) }
-    ensures answers { OnOk result (answers.new.items ≡ answers.old.items ++ answered ∷ []) }
-    ensures added { OnOk result (HasAdded closure.old closure.new (more_rules (option_copied before.entry) (named (reply_of answered)) (map reply_of answers.old.items) (reply_of answered))) }
-    ensures err { OnErr result ((closure.new ≡ closure.old) × (answers.new.items ≡ answers.old.items)) }
+    ensures told { OnOk result (map told_by told.new.items ≡ map told_by told.old.items ++ reply_of answered ∷ []) }
+    ensures early { OnOk result (option_copied before.entry ≡ None → early.new.items ≡ early.old.items ++ answered ∷ []) }
+    ensures added { OnOk result (HasAdded closure.old closure.new (more_rules (option_copied before.entry) (named (reply_of answered)) (map reply_of early.old.items) (reply_of answered))) }
+    ensures err { OnErr result ((closure.new ≡ closure.old) × (told.new.items ≡ told.old.items) × (early.new.items ≡ early.old.items)) }
 {
-    let followed = follow_with_room(alloc, closure, before, answers, &answered);
+    let followed = follow_with_room(alloc, closure, before, told, early, &answered);
     match followed {
         Ok(default) => {
-            keep(answers, answered);
+            note(told, &answered);
+            keep(before, early, answered);
             Ok(default)
         }
         Err(error) => {
@@ -252,12 +269,16 @@ fn take(
     }
 }
 
-/// Which units are reached and which labels are generated over the answers of units that were added. It keeps the answers,
-/// and the facts that hold over them, in the order in which they were found. Each answer is looked at once, and so is each edge.
+/// Which units are reached and which labels are generated over the answers of units that were added. It keeps the facts that hold
+/// over them, in the order in which they were found, and of the answers what contracts see. Each answer is looked at once, and so
+/// is each edge.
 #[derive(Drop)]
 pub struct Graph {
     alloc: Global,
-    answers: Vec<Answered>,
+    // The answers, as contracts see them. They take no memory.
+    told: Vec<Snapshot<Answered>>,
+    // The answers whose rules wait for the default toolchain, as long as it isn't known.
+    early: Vec<Answered>,
     default: Option<DefaultToolchain>,
     closure: Closure,
     counts: Counts,
@@ -321,7 +342,8 @@ pub fn start_graph(alloc: Global) -> Result<Graph, AllocError>
     let counts = all_counted(&closure);
     Ok(Graph {
         alloc,
-        answers: Vec::new(alloc),
+        told: Vec::new(alloc),
+        early: Vec::new(alloc),
         default: None,
         closure,
         counts,
@@ -342,7 +364,8 @@ impl Graph {
             self.alloc,
             &mut self.closure,
             self.default.as_ref(),
-            &mut self.answers,
+            &mut self.told,
+            &mut self.early,
             Answered { unit, needs },
         )?;
         self.counts = counted(&self.closure, self.counts);

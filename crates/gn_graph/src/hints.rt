@@ -1,89 +1,85 @@
-// The numbers of facts that were named a moment ago.
+// The numbers of facts that were named before.
 
 ghost use Rattle.std.specs.Prelude.{◌≡◌, [], IsTrue, IfSome, Some, slice_get};
 ghost use Rattle.gn_graph.specs.Facts.{step_of, unit_of, meant, steps_in};
 ghost use Rattle.gn_closure.specs.Reach.{Load, label};
-ghost use Rattle.gn_closure.specs.Ground.{Used, Set_up};
+ghost use Rattle.gn_closure.specs.Ground.{Asked, Used, Set_up};
 ghost use Rattle.gn_closure.specs.Computed.{is_reached, is_wanted, is_generated};
 
 use crate::fact::{Fact, Mention, Place};
 use crate::unit_key::UnitKey;
+use gn_labels::Label;
 use gn_paths::{Path, Text};
 use indexmap::IndexSet;
+use std::alloc::{AllocError, Global};
+use std::hash::{FoldHasher, Hasher};
 
-/// For some kinds of facts the number of the one that was named last: rules name the same facts again and again. Of wanted and of
-/// reached files the first that was named is kept too, which is mostly that of the default toolchain. Any number may stand here,
-/// since whoever takes one looks at the fact that has it.
-#[derive(Clone, Copy)]
+/// Numbers of facts that were named, each at a place that the texts of its fact choose: rules name the same facts again and again. Any
+/// number may stand at a place, since whoever takes one looks at the fact that has it.
+#[derive(Drop)]
 pub(crate) struct Hints {
-    reached: usize,
-    loaded: usize,
-    loaded_first: usize,
-    wanted: usize,
-    wanted_first: usize,
-    generated: usize,
-    used: usize,
-    set_up: usize,
+    numbers: Vec<usize>,
+}
+
+// A number that two texts choose.
+fn mixed(first: &[u8], second: &[u8]) -> u64 {
+    let mut hasher = FoldHasher::default();
+    hasher.write(first);
+    hasher.write(second);
+    hasher.finish()
+}
+
+fn mixed_unit(unit: &UnitKey) -> u64 {
+    match unit {
+        UnitKey::Setup(toolchain) => mixed(toolchain.as_bytes(), &[]),
+        UnitKey::Load(dir, toolchain) => mixed(dir.as_bytes(), toolchain.as_bytes()),
+    }
+}
+
+/// A number that the fact that is named chooses, mostly another one than other facts do.
+pub(crate) fn mixed_fact(mention: Mention<'_>) -> u64 {
+    match mention {
+        Mention::Reached(unit) => mixed_unit(unit),
+        Mention::ReachedLoad(Place::Dir(dir), toolchain) => {
+            mixed(dir.as_bytes(), toolchain.as_bytes())
+        }
+        Mention::Wanted(Place::Dir(dir), toolchain) => {
+            mixed(dir.as_bytes(), toolchain.as_bytes()) ^ 1
+        }
+        Mention::Generated(dir, name, _) => mixed(name.as_bytes(), dir.as_bytes()),
+        Mention::Asked(label) => mixed(label.name.as_bytes(), label.dir.as_bytes()) ^ 1,
+        Mention::AskedFor(dir, name, _) => mixed(name.as_bytes(), dir.as_bytes()) ^ 1,
+        Mention::Used(toolchain) => mixed(toolchain.as_bytes(), &[]) ^ 1,
+        _ => 0,
+    }
 }
 
 impl Hints {
-    /// Nothing was named.
-    pub(crate) fn new() -> Hints {
+    /// Nothing was named. It takes no memory.
+    pub(crate) fn new(alloc: Global) -> Hints {
         Hints {
-            reached: 0,
-            loaded: 0,
-            loaded_first: 0,
-            wanted: 0,
-            wanted_first: 0,
-            generated: 0,
-            used: 0,
-            set_up: 0,
+            numbers: Vec::new(alloc),
         }
     }
 
-    fn of(self, mention: Mention<'_>) -> usize {
-        match mention {
-            Mention::Reached(_) => self.reached,
-            Mention::ReachedLoad(_, _) => self.loaded,
-            Mention::Wanted(_, _) => self.wanted,
-            Mention::Generated(_, _, _) => self.generated,
-            Mention::Used(_) => self.used,
-            _ => self.set_up,
-        }
+    // The place of a fact that chooses a number.
+    fn place(&self, mixed: u64) -> usize {
+        mixed as usize & self.numbers.len().saturating_sub(1)
     }
 
-    fn first_of(self, mention: Mention<'_>) -> usize {
-        match mention {
-            Mention::ReachedLoad(_, _) => self.loaded_first,
-            Mention::Wanted(_, _) => self.wanted_first,
-            _ => self.set_up,
+    /// There is a place for each of so many facts, as far as they choose places of their own.
+    pub(crate) fn make_room(&mut self, facts: usize) -> Result<(), AllocError> {
+        if facts < self.numbers.len() / 2 {
+            return Ok(());
         }
+        self.numbers.resize((2 * self.numbers.len()).max(64), 0)
     }
 
-    fn note_loaded(&mut self, number: usize) {
-        self.loaded = number;
-        if self.loaded_first == 0 {
-            self.loaded_first = number;
-        }
-    }
-
-    fn note_wanted(&mut self, number: usize) {
-        self.wanted = number;
-        if self.wanted_first == 0 {
-            self.wanted_first = number;
-        }
-    }
-
-    /// The fact that is named has the number.
-    pub(crate) fn note(&mut self, mention: Mention<'_>, number: usize) {
-        match mention {
-            Mention::Reached(_) => self.reached = number,
-            Mention::ReachedLoad(Place::Dir(_), _) => self.note_loaded(number),
-            Mention::Wanted(Place::Dir(_), _) => self.note_wanted(number),
-            Mention::Generated(_, _, _) => self.generated = number,
-            Mention::Used(_) => self.used = number,
-            Mention::SetUpFirst => self.set_up = number,
-            _ => {}
+    /// The fact that chooses a number has this number.
+    pub(crate) fn note(&mut self, mixed: u64, number: usize) {
+        let place = self.place(mixed);
+        if place < self.numbers.len() {
+            self.numbers[place] = number;
         }
     }
 }
@@ -133,6 +129,24 @@ fn uses(fact: &Fact, toolchain: &Text) -> bool
     }
 }
 
+fn asks(fact: &Fact, label: &Label) -> bool
+    ensures { IsTrue result → step_of fact.now ≡ Asked label.now }
+{
+    match fact {
+        Fact::Asked(own) => own == label,
+        _ => false,
+    }
+}
+
+fn asks_for(fact: &Fact, dir: &Path, name: &Text, toolchain: &Text) -> bool
+    ensures { IsTrue result → step_of fact.now ≡ Asked (label dir.now name.now toolchain.now) }
+{
+    match fact {
+        Fact::Asked(own) => own.name == *name && own.dir == *dir && own.toolchain == *toolchain,
+        _ => false,
+    }
+}
+
 fn sets_up_first(fact: &Fact) -> bool
     ensures { IsTrue result → step_of fact.now ≡ Set_up [] }
 {
@@ -151,6 +165,8 @@ fn is_named(fact: &Fact, mention: Mention<'_>) -> bool
         Mention::ReachedLoad(Place::Dir(dir), toolchain) => reaches_load(fact, dir, toolchain),
         Mention::Wanted(Place::Dir(dir), toolchain) => wants(fact, dir, toolchain),
         Mention::Generated(dir, name, toolchain) => generates(fact, dir, name, toolchain),
+        Mention::Asked(label) => asks(fact, label),
+        Mention::AskedFor(dir, name, toolchain) => asks_for(fact, dir, name, toolchain),
         Mention::Used(toolchain) => uses(fact, toolchain),
         Mention::SetUpFirst => sets_up_first(fact),
         _ => false,
@@ -173,12 +189,17 @@ fn checked(facts: &IndexSet<Fact>, number: usize, mention: Mention<'_>) -> Optio
     }
 }
 
-/// The number of the fact that is named, where that fact was the last one of its kind, or the first.
-pub(crate) fn hinted(facts: &IndexSet<Fact>, hints: Hints, mention: Mention<'_>) -> Option<usize>
+/// The number of the fact that is named, where it stands at the fact's place.
+pub(crate) fn hinted(
+    facts: &IndexSet<Fact>,
+    hints: &Hints,
+    mixed: u64,
+    mention: Mention<'_>,
+) -> Option<usize>
     ensures { IfSome result (λ n. slice_get (steps_in facts.now.keys) n ≡ Some (meant mention.entry)) }
 {
-    match checked(facts, hints.of(mention), mention) {
-        Some(number) => Some(number),
-        None => checked(facts, hints.first_of(mention), mention),
+    match hints.numbers.get(hints.place(mixed)) {
+        Some(number) => checked(facts, *number, mention),
+        None => None,
     }
 }

@@ -8,7 +8,7 @@ ghost use Rattle.gn_graph.specs.States.{IsNumbered};
 
 use crate::fact::{Fact, Mention};
 use crate::held::Held;
-use crate::hints::{Hints, hinted};
+use crate::hints::{Hints, hinted, mixed_fact};
 use crate::rule::{Needs, Rule};
 use crate::unit_key::UnitKey;
 use indexmap::IndexSet;
@@ -35,7 +35,7 @@ fn new_number(
     number(facts, fact)
 }
 
-/// The number of the fact that is named: it isn't made where it was named a moment ago.
+/// The number of the fact that is named: mostly it isn't made where it has one.
 pub(crate) fn number_of(
     alloc: Global,
     facts: &mut IndexSet<Fact>,
@@ -45,11 +45,13 @@ pub(crate) fn number_of(
     ensures grows { Extends (steps_in facts.old.keys) (steps_in facts.new.keys) }
     ensures at { IfOk result (λ n. slice_get (steps_in facts.new.keys) n ≡ Some (meant mention.entry)) }
 {
-    if let Some(number) = hinted(facts, *hints, mention) {
+    let mixed = mixed_fact(mention);
+    if let Some(number) = hinted(facts, hints, mixed, mention) {
         return Ok(number);
     }
+    hints.make_room(facts.len())?;
     let number = new_number(alloc, facts, mention)?;
-    hints.note(mention, number);
+    hints.note(mixed, number);
     Ok(number)
 }
 

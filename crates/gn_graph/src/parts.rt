@@ -29,7 +29,7 @@ pub(crate) fn no_parts(alloc: Global) -> Parts
 {
     Parts {
         facts: IndexSet::new(alloc),
-        hints: Hints::new(),
+        hints: Hints::new(alloc),
         clauses: Vec::new(alloc),
         held: Held::new(alloc),
         uses: Vec::new(alloc),

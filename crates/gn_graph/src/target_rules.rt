@@ -149,6 +149,13 @@ fn want_rules<'a>(
     wants(file, &target.name, &target.others, rules)
 }
 
+// How many rules a target gives, where its labels have the default toolchain.
+fn rule_count(target: &TargetNeeds) -> usize {
+    let by_deps = target.deps.len().saturating_mul(3);
+    let by_others = target.others.len().saturating_mul(2);
+    by_deps.saturating_add(by_others).saturating_add(5)
+}
+
 fn target_rules<'a>(
     file: File<'a>,
     target: &'a TargetNeeds,
@@ -156,6 +163,7 @@ fn target_rules<'a>(
 ) -> Result<(), AllocError>
     ensures { OnOk result (rules_in rules.new.items ≡ rules_in rules.old.items ++ target_rules home file.entry.default.now file.entry.dir.now file.entry.toolchain.now (target_of target.now)) }
 {
+    rules.reserve(rule_count(target))?;
     own_rules(file, target, rules)?;
     ask_rules(file, target, rules)?;
     find_rules(file, target, rules)?;

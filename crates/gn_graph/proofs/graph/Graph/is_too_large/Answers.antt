@@ -4,7 +4,7 @@ use Rattle.gn_closure.specs.Computed.{is_load, is_setup, load_limit, setup_limit
 use Rattle.gn_closure.specs.Ground.{Step}
 use Rattle.gn_graph.specs.Needs.{home}
 use Rattle.gn_graph.specs.Counts.{count_of}
-use Rattle.gn_graph.specs.Graphs.{Answers, reply_of}
+use Rattle.gn_graph.specs.Graphs.{Answers, told_by}
 use Rattle.gn_graph.specs.Replies.{units_in, all_rules}
 use Rattle.gn_graph.proofs.Counting.{limits_found}
 use Rattle.gn_graph.proofs.Reached.{graph_whole}
@@ -13,7 +13,7 @@ use Rattle.gn_graph.proofs.graph.Graph.is_too_large.Goals as goal
 pub returns : goal.returns
 returns c =
     let found : List Step = c.self.inside.closure.found in
-    let rs = map reply_of c.self.inside.answers.items in
+    let rs = map told_by c.self.inside.told.items in
     let n : ℕ = c.self.inside.counts.seen in
     let l : c.self.inside.counts.loads ≡ count_of is_load found = c.self.invariant.counts.loads ∙ ap (count_of is_load) (take_all n found c.self.invariant.all) in
     let s : c.self.inside.counts.setups ≡ count_of is_setup found = c.self.invariant.counts.setups ∙ ap (count_of is_setup) (take_all n found c.self.invariant.all) in
