@@ -8,7 +8,7 @@ use Rattle.std.specs.Cmp.Lexicographic.{slice_cmp, lists_total, lists_ties, text
 use Rattle.gn_labels.specs.declared.label.Label.{Label}
 use Rattle.gn_closure.specs.Reach.{Setup, Load}
 use Rattle.gn_core.specs.Keys.{Key, Read, Import, Unit_of, Resolve}
-use Rattle.gn_book.specs.Tasks.{is_task, turn_of, turn_order}
+use Rattle.gn_book.specs.Tasks.{is_task, turn_of, turn_order, IsNoLater}
 use Rattle.gn_book.specs.NextLaws.{KindsAreInOrder, TasksHaveNoTies}
 
 pub kinds_ordered : KindsAreInOrder
@@ -59,3 +59,34 @@ one_task (Resolve l) (Resolve m) a b e = ap Resolve (one_label l m e)
 pub no_ties : TasksHaveNoTies
 no_ties k q a b first second =
     one_task k q a b (texts_same (turn_of k) (turn_of q) (level (turn_order k q) first (sym (ap is_gt (texts_total.antisymm (turn_of q) (turn_of k))) ∙ second)))
+
+-- no key is later than itself, nor than one that is later than it, and of three the last is no sooner than the first
+reversed : (r : Ordering) → r ≡ ordering_reverse r → r ≡ Equal
+reversed Less e = absurd (cc e)
+reversed Equal e = refl
+reversed Greater e = absurd (cc e)
+
+pub later_self : (k : Key) → IsNoLater k k
+later_self k = ap is_gt (reversed (turn_order k k) (texts_total.antisymm (turn_of k) (turn_of k)))
+
+pub later_back : (k q : Key) → is_gt (turn_order k q) ≡ true → IsNoLater q k
+later_back k q e = ap is_gt (texts_total.antisymm (turn_of q) (turn_of k)) ∙ by (turn_order k q) e
+  where
+    by : (r : Ordering) → is_gt r ≡ true → is_gt (ordering_reverse r) ≡ false
+    by Less h = absurd (true≢false (sym h))
+    by Equal h = absurd (true≢false (sym h))
+    by Greater h = refl
+
+pub later_trans : (k q p : Key) → IsNoLater k q → IsNoLater q p → IsNoLater k p
+later_trans k q p a b = by (turn_order k q) (turn_order q p) refl refl a b
+  where
+    by : (r s : Ordering) → turn_order k q ≡ r → turn_order q p ≡ s → is_gt r ≡ false → is_gt s ≡ false → IsNoLater k p
+    by Greater s e f h i = absurd (true≢false h)
+    by Equal s e f h i = ap is_gt (texts_total.congr (turn_of k) (turn_of q) (turn_of p) e ∙ f) ∙ i
+    by Less Greater e f h i = absurd (true≢false i)
+    by Less Less e f h i = ap is_gt (texts_total.trans (turn_of k) (turn_of q) (turn_of p) e f)
+    by Less Equal e f h i =
+        let back : turn_order p q ≡ Equal = texts_total.antisymm (turn_of p) (turn_of q) ∙ ap ordering_reverse f in
+        let same : turn_order p k ≡ turn_order q k = texts_total.congr (turn_of p) (turn_of q) (turn_of k) back in
+        let greater : turn_order q k ≡ Greater = texts_total.antisymm (turn_of q) (turn_of k) ∙ ap ordering_reverse e in
+        ap is_gt (texts_total.antisymm (turn_of k) (turn_of p) ∙ ap ordering_reverse (same ∙ greater))

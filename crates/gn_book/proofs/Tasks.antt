@@ -12,8 +12,11 @@ use Rattle.gn_closure.specs.Reach.{Setup, Load}
 use Rattle.gn_core.specs.Keys.{Key, Read, Import, Unit_of, Resolve, same_key}
 use Rattle.gn_book.specs.declared.task.Task.{Task}
 use Rattle.gn_book.specs.declared.task.Task.TheVariants as task
+use Rattle.gn_book.specs.declared.task.Turn.{Turn}
+use Rattle.gn_book.specs.declared.task.Turn.TheVariants as turn
 use Rattle.gn_book.specs.contracts.task.TaskOrd.TheImpl.{cmp-value}
-use Rattle.gn_book.specs.Tasks.{is_task, turn_order, key_in, Numbers, Seats, IsTaskOf, IsPut, AreKept, IsSeated, IsFirst}
+use Rattle.gn_book.specs.contracts.task.TurnOrd.TheImpl as lent
+use Rattle.gn_book.specs.Tasks.{is_task, turn_order, texts_in, key_in, Numbers, Seats, IsTaskOf, IsPut, AreKept, IsSeated, IsFirst}
 
 -- a comparison that comes last decides alone
 then_equal : (r : Ordering) → r ≡ ordering_then r Equal
@@ -33,6 +36,26 @@ tasks_ordered (task.Resolve l) (task.Setup b) = refl
 tasks_ordered (task.Resolve l) (task.Load e b) = refl
 tasks_ordered (task.Resolve l) (task.Resolve m) =
     ap (λ (z : Ordering). ordering_then (slice_cmp nat_cmp l.dir m.dir) (ordering_then (slice_cmp nat_cmp l.name m.name) z)) (then_equal (slice_cmp nat_cmp l.toolchain m.toolchain))
+
+-- the same of keys that are lent
+pub turns_ordered : (t u : Turn) → lent.cmp-value.it t u ≡ slice_cmp (slice_cmp nat_cmp) (texts_in t) (texts_in u)
+turns_ordered turn.NoTask turn.NoTask = refl
+turns_ordered turn.NoTask (turn.Setup b) = refl
+turns_ordered turn.NoTask (turn.Load e b) = refl
+turns_ordered turn.NoTask (turn.Resolve m) = refl
+turns_ordered (turn.Setup a) turn.NoTask = refl
+turns_ordered (turn.Setup a) (turn.Setup b) = then_equal (slice_cmp nat_cmp a.now b.now)
+turns_ordered (turn.Setup a) (turn.Load e b) = refl
+turns_ordered (turn.Setup a) (turn.Resolve m) = refl
+turns_ordered (turn.Load d a) turn.NoTask = refl
+turns_ordered (turn.Load d a) (turn.Setup b) = refl
+turns_ordered (turn.Load d a) (turn.Load e b) = ap (ordering_then (slice_cmp nat_cmp d.now e.now)) (then_equal (slice_cmp nat_cmp a.now b.now))
+turns_ordered (turn.Load d a) (turn.Resolve m) = refl
+turns_ordered (turn.Resolve l) turn.NoTask = refl
+turns_ordered (turn.Resolve l) (turn.Setup b) = refl
+turns_ordered (turn.Resolve l) (turn.Load e b) = refl
+turns_ordered (turn.Resolve l) (turn.Resolve m) =
+    ap (λ (z : Ordering). ordering_then (slice_cmp nat_cmp l.now.dir m.now.dir) (ordering_then (slice_cmp nat_cmp l.now.name m.now.name) z)) (then_equal (slice_cmp nat_cmp l.now.toolchain m.now.toolchain))
 
 -- tasks compare equal exactly where their keys are one
 equal_then : (r s : Ordering) → is_eq (ordering_then r s) ≡ (is_eq r && is_eq s)

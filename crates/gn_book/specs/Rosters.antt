@@ -1,5 +1,5 @@
 -- Keys by number, how each stands, and which of them are ready and which are claimed.
-use Rattle.std.specs.Prelude.{◌≡◌, ℕ, List, [], ◌∷◌, ◌++◌, length, Option, Some, None, slice_get, slice_set, true, false, if◌then◌else◌}
+use Rattle.std.specs.Prelude.{◌≡◌, ℕ, ◌<◌, ◌≤◌, Bool, List, [], ◌∷◌, ◌++◌, length, Option, Some, None, slice_get, slice_set, true, false, if◌then◌else◌}
 use Rattle.std.specs.List.{list_any}
 use Rattle.gn_core.specs.Keys.{Key, same_key}
 use Rattle.gn_book.specs.declared.task.Task.{Task}
@@ -43,15 +43,26 @@ abbrev pub IsFirstReady : Table → Option ℕ → Type 0
 IsFirstReady t None = (n : ℕ) (k : Key) → IsReadyAt t n k → ⊥
 IsFirstReady t (Some n) = (k : Key) × IsReadyAt t n k × ((m : ℕ) (q : Key) → IsReadyAt t m q → IsNoLater k q)
 
+-- the first of those below a number
+abbrev pub IsFirstBelow : Table → ℕ → Option ℕ → Type 0
+IsFirstBelow t end None = (n : ℕ) (k : Key) → n < end → IsReadyAt t n k → ⊥
+IsFirstBelow t end (Some n) = (k : Key) × IsReadyAt t n k × ((m : ℕ) (q : Key) → m < end → IsReadyAt t m q → IsNoLater k q)
+
+-- whether a number is one of them
+abbrev pub TellsReady : Table → ℕ → Bool → Type 0
+TellsReady t n true = (k : Key) × IsReadyAt t n k
+TellsReady t n false = (k : Key) → IsReadyAt t n k → ⊥
+
 -- a number whose key a seat has claimed, and that seat
 abbrev pub IsOneHeld : Table → Option (ℕ × ℕ) → Type 0
 IsOneHeld t None = (n : ℕ) → seat_in (slice_get t.standings n) ≡ None
 IsOneHeld t (Some held) = seat_in (slice_get t.standings held.0) ≡ Some held.1
 
--- what is kept of keys: no key has two numbers, just the tasks that stand open are ready, and each key that a seat has claimed is held
-pub record IsRoster (ks : List Key) (xs : List Standing) (ready : Numbers) (held : Seats) : Type 0 where
+-- what is kept of keys: no key has two numbers, of the numbers below one just the tasks that stand open are listed as ready, and each key that a seat has claimed is held
+pub record IsRoster (ks : List Key) (xs : List Standing) (ready : Numbers) (held : Seats) (fresh : ℕ) : Type 0 where
   pub table : IsTable ks
   pub sized : length xs ≡ length ks
-  pub sound : (t : Task) (n : ℕ) → ready t ≡ Some n → (slice_get ks n ≡ Some (key_in t)) × (slice_get xs n ≡ Some is_open)
-  pub whole : (t : Task) (n : ℕ) → slice_get ks n ≡ Some (key_in t) → slice_get xs n ≡ Some is_open → ready t ≡ Some n
+  pub within : fresh ≤ length ks
+  pub sound : (t : Task) (n : ℕ) → ready t ≡ Some n → (slice_get ks n ≡ Some (key_in t)) × (slice_get xs n ≡ Some is_open) × (n < fresh)
+  pub whole : (t : Task) (n : ℕ) → slice_get ks n ≡ Some (key_in t) → slice_get xs n ≡ Some is_open → n < fresh → ready t ≡ Some n
   pub seated : (n : ℕ) → held n ≡ seat_in (slice_get xs n)

@@ -1,5 +1,5 @@
 -- How keys stand, by their numbers in a list of keys.
-use Rattle.std.specs.Prelude.{◌≡◌, ℕ, List, [], ◌∷◌, Option, Some, None, slice_get, unwrap_or, option_map, cond}
+use Rattle.std.specs.Prelude.{◌≡◌, ℕ, List, [], ◌∷◌, Option, Some, None, slice_get, unwrap_or, option_map, cond, Bool, true, false}
 use Rattle.gn_core.specs.Keys.{Key, Read, Answer, record_is, same_key}
 use Rattle.gn_core.specs.Machine.{State, Blocked}
 use Rattle.gn_book.specs.declared.status.Status.{Status}
@@ -17,6 +17,12 @@ standing_of meaning status.Open = is_open
 standing_of meaning (status.Claimed seat) = is_claimed seat
 standing_of meaning (status.Blocked seat on) = is_blocked seat on
 standing_of meaning (status.Filed answer) = is_filed (meaning answer)
+
+abbrev pub stands_open : Standing → Bool
+stands_open is_open = true
+stands_open (is_claimed seat) = false
+stands_open (is_blocked seat on) = false
+stands_open (is_filed answer) = false
 
 -- the seat that has claimed the key, the number of the key for which it waits, and its answer
 abbrev pub seat_in : Option Standing → Option ℕ

@@ -9,6 +9,8 @@ use Rattle.gn_items.specs.declared.key.Key.{Key as Named}
 use Rattle.gn_items.specs.declared.key.Key.TheVariants.{Setup as setup_key, Load as load_key, Resolve as resolve_key}
 use Rattle.gn_book.specs.declared.task.Task.{Task}
 use Rattle.gn_book.specs.declared.task.Task.TheVariants as task
+use Rattle.gn_book.specs.declared.task.Turn.{Turn}
+use Rattle.gn_book.specs.declared.task.Turn.TheVariants as turn
 use Rattle.gn_book.specs.Keys.{key_of}
 
 -- units and labels are tasks; reads and imports are claimed only by what needs them
@@ -29,6 +31,13 @@ turn_of (Resolve label) = (2 ∷ []) ∷ label.dir ∷ label.name ∷ label.tool
 
 abbrev pub turn_order : Key → Key → Ordering
 turn_order k q = slice_cmp (slice_cmp nat_cmp) (turn_of k) (turn_of q)
+
+-- those of a key that is lent
+abbrev pub texts_in : Turn → List (List ℕ)
+texts_in turn.NoTask = []
+texts_in (turn.Setup toolchain) = (0 ∷ []) ∷ toolchain.now ∷ []
+texts_in (turn.Load dir toolchain) = (1 ∷ []) ∷ dir.now ∷ toolchain.now ∷ []
+texts_in (turn.Resolve label) = (2 ∷ []) ∷ label.now.dir ∷ label.now.name ∷ label.now.toolchain ∷ []
 
 -- the first of two tasks isn't given out after the second
 abbrev pub IsNoLater : Key → Key → Type 0

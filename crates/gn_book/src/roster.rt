@@ -1,14 +1,15 @@
 // The keys that have numbers, and how each stands.
 
-ghost use Rattle.std.specs.Prelude.{◌≡◌, ◌<◌, ◌++◌, ◌∷◌, [], Some, IfOk, OnOk, OnErr, IsTrue, ◌↔◌, length, slice_get, slice_set, option_map, false, map, vec_len, vec_capacity};
+ghost use Rattle.std.specs.Prelude.{◌≡◌, ◌<◌, ◌+◌, ◌&&◌, ◌++◌, ◌∷◌, [], Some, IfOk, OnOk, OnErr, IsTrue, ◌↔◌, length, slice_get, slice_set, option_map, false, map, vec_len, vec_capacity};
 ghost use Rattle.std.specs.List.{list_any};
 ghost use Rattle.indexmap.specs.IndexSet.{spare};
 ghost use Rattle.gn_core.specs.Keys.{same_key};
 ghost use Rattle.gn_book.specs.Chains.{LeadsTo};
 ghost use Rattle.gn_book.specs.Holders.{HoldsAs};
 ghost use Rattle.gn_book.specs.Keys.{key_of};
-ghost use Rattle.gn_book.specs.Rosters.{with_standing, with_key, with_number, IsNumberOf, IsHeld, IsFirstReady, IsOneHeld};
-ghost use Rattle.gn_book.specs.Standings.{is_open, is_claimed, is_blocked, is_filed, seat_in, answer_in, next_of, standing_at};
+ghost use Rattle.gn_book.specs.Rosters.{with_standing, with_key, with_number, IsNumberOf, IsHeld, IsFirstReady, IsFirstBelow, TellsReady, IsOneHeld};
+ghost use Rattle.gn_book.specs.Tasks.{is_task};
+ghost use Rattle.gn_book.specs.Standings.{standing_of, stands_open, is_open, is_claimed, is_blocked, is_filed, seat_in, answer_in, next_of, standing_at};
 ghost use Rattle.gn_book.specs.declared.status.Status.TheVariants.{Open};
 
 use crate::answer::Answer;
@@ -17,12 +18,14 @@ use crate::event::KeyId;
 use crate::held::{Held, first_held, hold, release};
 use crate::ready::{Ready, first_ready, offer, withdraw};
 use crate::status::{Holder, Status, status_at};
-use crate::task::Task;
+use crate::task::{Task, is_later, is_task};
 use gn_items::Key;
 use indexmap::IndexSet;
 use std::alloc::{AllocError, Global};
 use std::collections::BTreeMap;
 use std::marker::Model;
+use std::sync::atomic::AtomicUsize;
+use std::sync::atomic::Ordering::SeqCst;
 
 // A key stands otherwise.
 fn stand<A: Drop>(statuses: &mut Vec<Status<A>>, key: KeyId, status: Status<A>)
@@ -50,6 +53,17 @@ fn number_of(keys: &IndexSet<Key>, key: &Key) -> Option<KeyId>
     keys.get_index_of(key)
 }
 
+// The key of a number.
+fn key_at(keys: &IndexSet<Key>, number: KeyId) -> &Key
+    requires { number < length keys.now.keys }
+    ensures { slice_get keys.now.keys number ≡ Some result.now }
+{
+    match keys.get_index(number) {
+        Some(key) => key,
+        None => unreachable!(),
+    }
+}
+
 // A new key, for which there is room.
 fn put_key(keys: &mut IndexSet<Key>, key: Key)
     requires room { 0 < spare keys.old }
@@ -70,6 +84,13 @@ fn put_open<A: Drop>(statuses: &mut Vec<Status<A>>)
     let _ = statuses.push(Status::Open);
 }
 
+// Whether a key is a task that nobody has claimed and that has no answer.
+fn is_ready<A: Answer>(status: &Status<A>, key: &Key) -> bool
+    ensures { result ≡ (stands_open (standing_of A.meaning status.now) && is_task (key_of key.now)) }
+{
+    status.is_open() && is_task(key)
+}
+
 // The keys that have numbers, and how each stands. Contracts see these; which keys are ready and which are held is kept beside
 // them.
 #[derive(Drop)]
@@ -78,7 +99,12 @@ pub(crate) struct Roster<A: Answer> {
     keys: IndexSet<Key>,
     // How each key stands, by its number.
     statuses: Vec<Status<A>>,
+    // The tasks that are ready, of the numbers below `fresh`.
     ready: Ready,
+    fresh: KeyId,
+    // How many of the other numbers were looked at for the first task, since that map was last filled. Any number may stand
+    // here.
+    looks: AtomicUsize,
     held: Held,
 }
 
@@ -99,7 +125,7 @@ impl<A: Answer> Model for Roster<A> {
 
     ghost view = { λ r. table_of (map key_of r.keys.keys) (map (standing_of A.meaning) r.statuses.items) };
 
-    ghost invariant = { λ r. IsRoster (map key_of r.keys.keys) (map (standing_of A.meaning) r.statuses.items) (get ⟦<Task as Ord>⟧.cmp r.ready) (get nat_cmp r.held) };
+    ghost invariant = { λ r. IsRoster (map key_of r.keys.keys) (map (standing_of A.meaning) r.statuses.items) (get ⟦<Task as Ord>⟧.cmp r.ready) (get nat_cmp r.held) r.fresh };
 }
 
 impl<A: Answer> Roster<A> {
@@ -112,6 +138,8 @@ impl<A: Answer> Roster<A> {
             keys: IndexSet::new(alloc),
             statuses: Vec::new(alloc),
             ready: BTreeMap::new(alloc),
+            fresh: 0,
+            looks: AtomicUsize::new(0),
             held: BTreeMap::new(alloc),
         }
     }
@@ -167,11 +195,46 @@ impl<A: Answer> Roster<A> {
         leads_to(&self.statuses, from, to)
     }
 
+    // Whether the key of a number is ready.
+    fn tells_ready(&self, number: KeyId) -> bool
+        requires { number < length self.now.keys }
+        ensures { TellsReady self.now number result }
+    {
+        is_ready(status_at(&self.statuses, number), self.key(number))
+    }
+
+    // The first of a key that is ready and of the key of a number, if that is ready.
+    fn sooner(&self, first: Option<KeyId>, number: KeyId) -> Option<KeyId>
+        requires number { number < length self.now.keys }
+        requires first { IsFirstBelow self.now number first }
+        ensures { IsFirstBelow self.now (number + 1) result }
+    {
+        if !self.tells_ready(number) {
+            return first;
+        }
+        match first {
+            None => Some(number),
+            Some(other) => {
+                if is_later(self.key(other), self.key(number)) {
+                    Some(number)
+                } else {
+                    Some(other)
+                }
+            }
+        }
+    }
+
     // The number of the first key that is ready.
     pub(crate) fn first_ready(&self) -> Option<KeyId>
         ensures { IsFirstReady self.now result }
     {
-        first_ready(&self.ready)
+        self.looks
+            .fetch_add(self.keys.len().saturating_sub(self.fresh), SeqCst);
+        let mut first = first_ready(&self.ready);
+        for number in self.fresh..self.keys.len() {
+            first = self.sooner(first, number);
+        }
+        first
     }
 
     // A key that a seat has claimed, if there is one.
@@ -211,21 +274,101 @@ impl<A: Answer> Roster<A> {
             }
         }
         let number = self.keys.len();
-        match offer(self.alloc, &mut self.ready, &key, number) {
-            Ok(()) => {
-                put_key(&mut self.keys, key);
-                put_open(&mut self.statuses);
-                Ok(number)
+        put_key(&mut self.keys, key);
+        put_open(&mut self.statuses);
+        Ok(number)
+    }
+
+    // The number `fresh` is passed, if its key isn't open. Contracts see no difference, here and in the next calls.
+    fn skip(&mut self) -> bool
+        ensures { self.new ≡ self.old }
+    {
+        if self.fresh < self.keys.len() && !status_at(&self.statuses, self.fresh).is_open() {
+            self.fresh += 1;
+            true
+        } else {
+            false
+        }
+    }
+
+    // The number `fresh` is passed, if its key is open: the map has that key then, if it is a task.
+    fn offer_next(&mut self) -> Result<(), AllocError>
+        ensures { self.new ≡ self.old }
+    {
+        if self.fresh < self.keys.len() && status_at(&self.statuses, self.fresh).is_open() {
+            offer(
+                self.alloc,
+                &mut self.ready,
+                key_at(&self.keys, self.fresh),
+                self.fresh,
+            )?;
+            self.fresh += 1;
+            return Ok(());
+        }
+        Ok(())
+    }
+
+    // The number `fresh` is passed.
+    fn pass(&mut self) -> Result<(), AllocError>
+        ensures { self.new ≡ self.old }
+    {
+        if self.skip() {
+            Ok(())
+        } else {
+            self.offer_next()
+        }
+    }
+
+    // Numbers are passed up to the first one whose key is open.
+    fn skip_all(&mut self)
+        ensures { self.new ≡ self.old }
+    {
+        for _step in self.fresh..self.keys.len() {
+            if !self.skip() {
+                return;
             }
-            Err(error) => {
-                drop(key);
-                Err(error)
-            }
+        }
+    }
+
+    // All numbers are passed.
+    fn pass_all(&mut self) -> Result<(), AllocError>
+        ensures { self.new ≡ self.old }
+    {
+        for _step in self.fresh..self.keys.len() {
+            self.pass()?;
+        }
+        self.looks.store(0, SeqCst);
+        Ok(())
+    }
+
+    // The map is filled where the numbers that it lacks were looked at again and again. So a key that is looked at costs no more than
+    // it would cost in the map, up to a few looks.
+    fn settle(&mut self) -> Result<(), AllocError>
+        ensures { self.new ≡ self.old }
+    {
+        self.skip_all();
+        let few = self.keys.len().saturating_sub(self.fresh);
+        if self.looks.load(SeqCst) / 4 > few.saturating_add(16) {
+            self.pass_all()
+        } else {
+            Ok(())
         }
     }
 
     // A seat claims an open key, of which a copy is given out. After want of memory nothing is changed.
     pub(crate) fn claim(&mut self, number: KeyId, seat: u32) -> Result<Key, AllocError>
+        requires number { number < length self.old.keys }
+        requires is_open { slice_get self.old.standings number ≡ Some is_open }
+        ensures key { IfOk result (λ key. slice_get self.old.keys number ≡ Some (key_of key)) }
+        ensures ok { OnOk result (self.new ≡ with_standing self.old number (is_claimed seat)) }
+        ensures err { OnErr result (self.new ≡ self.old) }
+    {
+        self.settle()?;
+        self.claim_open(number, seat)
+    }
+
+    // The same, whatever was looked at.
+    fn claim_open(&mut self, number: KeyId, seat: u32) -> Result<Key, AllocError>
         requires number { number < length self.old.keys }
         requires is_open { slice_get self.old.standings number ≡ Some is_open }
         ensures key { IfOk result (λ key. slice_get self.old.keys number ≡ Some (key_of key)) }

@@ -1,7 +1,7 @@
 // How a key stands.
 
 ghost use Rattle.std.specs.Prelude.{◌≡◌, ◌<◌, Some, option_map, length, slice_get};
-ghost use Rattle.gn_book.specs.Standings.{standing_of, answer_in, on_in};
+ghost use Rattle.gn_book.specs.Standings.{standing_of, stands_open, answer_in, on_in};
 ghost use Rattle.gn_book.specs.Holders.{HoldsAs};
 
 use crate::answer::Answer;
@@ -54,6 +54,18 @@ impl<A: Answer> Status<A> {
             Status::Filed(answer) => Some(answer),
         }
     }
+    // Whether nobody has claimed the key, and it has no answer.
+    pub(crate) fn is_open(&self) -> bool
+        ensures { result ≡ stands_open (standing_of A.meaning self.now) }
+    {
+        match self {
+            Status::Open => true,
+            Status::Claimed(_) => false,
+            Status::Blocked(..) => false,
+            Status::Filed(_) => false,
+        }
+    }
+
     // The key for which the key waits.
     pub(crate) fn waits_for(&self) -> Option<KeyId>
         ensures { result ≡ on_in (Some (standing_of A.meaning self.now)) }

@@ -2,7 +2,8 @@
 
 ghost use Rattle.std.specs.Prelude.{◌≡◌, IfOk, IfErr, Some, false};
 ghost use Rattle.gn_book.specs.Keys.{key_of};
-ghost use Rattle.gn_book.specs.Tasks.{is_task, named_by, IsTaskOf};
+ghost use Rattle.gn_book.specs.Tasks.{is_task, named_by, turn_of, turn_order, texts_in, IsTaskOf};
+ghost use Rattle.std.specs.Ordering.{is_gt};
 ghost use Rattle.gn_book.specs.declared.task.Task.TheVariants as variant;
 
 use gn_items::Key;
@@ -19,6 +20,51 @@ pub(crate) enum Task {
     Load(Path, Text),
     // The record of a target.
     Resolve(Label),
+}
+
+// A key that is lent. Tasks are in the order in which they are given out, and what is none comes first.
+#[derive(Clone, Copy, PartialEq, Eq, PartialOrd, Ord)]
+pub(crate) enum Turn<'a> {
+    // The key is no task.
+    NoTask,
+    // The build configuration under a toolchain.
+    Setup(&'a Text),
+    // The build file of a directory under a toolchain.
+    Load(&'a Path, &'a Text),
+    // The record of a target.
+    Resolve(&'a Label),
+}
+
+fn turn_of(key: &Key) -> Turn<'_>
+    ensures { texts_in result ≡ turn_of (key_of key.now) }
+{
+    match key {
+        Key::Read(_) => Turn::NoTask,
+        Key::Import(..) => Turn::NoTask,
+        Key::Setup(toolchain) => Turn::Setup(toolchain),
+        Key::Load(dir, toolchain) => Turn::Load(dir, toolchain),
+        Key::Resolve(label) => Turn::Resolve(label),
+    }
+}
+
+// Whether a key is given out after another.
+pub(crate) fn is_later(key: &Key, other: &Key) -> bool
+    ensures { result ≡ is_gt (turn_order (key_of key.now) (key_of other.now)) }
+{
+    turn_of(key).cmp(&turn_of(other)).is_gt()
+}
+
+// Whether a key is a task.
+pub(crate) fn is_task(key: &Key) -> bool
+    ensures { result ≡ is_task (key_of key.now) }
+{
+    match key {
+        Key::Read(_) => false,
+        Key::Import(..) => false,
+        Key::Setup(_) => true,
+        Key::Load(..) => true,
+        Key::Resolve(_) => true,
+    }
 }
 
 fn setup_task(alloc: Global, toolchain: &Text) -> Result<Option<Task>, AllocError>

@@ -6,7 +6,7 @@ use Rattle.gn_book.specs.Keys.{key_of}
 use Rattle.gn_book.specs.Standings.{standing_of, is_claimed}
 use Rattle.gn_book.proofs.Keeping.{map_set}
 use Rattle.gn_book.proofs.Rostering.{statuses_within, roster_same, roster_set, roster_at, within_table, named_as, set_table}
-use Rattle.gn_book.proofs.roster.Roster.claim.Goals as goal
+use Rattle.gn_book.proofs.roster.Roster.claim_open.Goals as goal
 
 pub invariant_of-self-in-Err : goal.invariant_of-self-in-Err
 invariant_of-self-in-Err g c =
