@@ -1,10 +1,14 @@
--- What threads may share, where they may share the fields of items.
+-- What threads may share, where they may share the fields of items, and what they may hand over.
 use mir.Syntax.{Sym}
 use denote.Ref.{NamedLft}
-use denote.Param.Send.{IsSend, IsSync, sendable, view_sync, shr_send, shr_sync}
+use denote.Param.Send.{IsSend, IsSync, sendable, view_sync, shr_send, shr_sync, shr_slice_sync, recorded_send, struct_send}
+use denote.Struct.Declared.{shape}
 use denote.Struct.Tuple.{TupleAt}
 use Rattle.std.proofs.Crossing.{crosses}
 use Rattle.gn_paths.specs.contracts.text.Text as Text
+use Rattle.gn_paths.specs.contracts.texts.Texts as Texts
+use Rattle.gn_faults.specs.contracts.code.Code as Code
+use Rattle.gn_faults.specs.contracts.fault.Fault as Fault
 use Rattle.gn_labels.specs.contracts.label.Label as Label
 use Rattle.gn_define.specs.contracts.fields.Fields as Fields
 use Rattle.gn_items.specs.contracts.tool.Tool as Tool
@@ -14,11 +18,12 @@ use Rattle.gn_items.specs.contracts.item.Item as Item
 use Rattle.gn_labelled.specs.contracts.index.ItemIndex as ItemIndex
 use Rattle.gn_labelled.specs.contracts.index.ItemIndex.TheInside as TheIndex
 use Rattle.gn_toolchains.specs.contracts.frames.Frames as Frames
-use Rattle.gn_threads.proofs.Captured.{captured_send, captured_sync}
+use Rattle.gn_threads.proofs.Captured.{captured_sync}
+use Rattle.gn_build_faults.specs.contracts.examined.Examined as Examined
 use Rattle.gn_build_faults.specs.contracts.settling.SettledItems as SettledItems
-use Rattle.gn_build_faults.specs.Captures.{captures, linking, finding}
+use Rattle.gn_build_faults.specs.Captures.{examining, linking, finding}
 
-pub label : IsSync Label.the_row
+label : IsSync Label.the_row
 label = search (sendable, crosses) depth 40 fits 10000
 
 text : IsSync Text.the_row
@@ -26,6 +31,21 @@ text = search (sendable, crosses) depth 40 fits 10000
 
 settled : IsSync SettledItems.the_row
 settled = search (sendable, crosses) depth 40 fits 10000
+
+-- what threads hand over of what targets have by themselves
+code_send : IsSend (Code.the_field).row
+code_send = search sendable depth 400 fits 10000
+
+fault_send : IsSend (Fault.the_field).row
+fault_send = struct_send (shape Fault.the_type)
+    (search (sendable, crosses) depth 40, (search (sendable, crosses) depth 40 fits 10000, (search (sendable, crosses) depth 40, (code_send, (search (sendable, crosses) depth 40 fits 10000, tt)))))
+
+texts_send : IsSend Texts.the_row
+texts_send = search (sendable, crosses) depth 40 fits 10000
+
+pub examined_send : (a : NamedLft) → IsSend (Examined.the_row a)
+examined_send a = recorded_send _ _ _ (Examined.the_type a).to_one
+    (struct_send (shape (Examined.the_type a)) (shr_send _ _ _ label, (search (fault_send, sendable, crosses) depth 40 fits 10000, (texts_send, tt))))
 
 -- each part by itself: together they have more parts than one search goes through
 module _ (fields : IsSync Fields.the_row) where
@@ -50,24 +70,13 @@ module _ (fields : IsSync Fields.the_row) where
   frames : (a : NamedLft) → IsSync (Frames.the_row a)
   frames a = search (tools, sendable, crosses) depth 60 fits 10000
 
-  pub captures_send : (name : Sym) (alloc default items lent settled frames framed : NamedLft) → IsSend (TupleAt name (captures alloc default items lent settled frames framed))
-  captures_send name a d i l s f g =
-      captured_send name (captures a d i l s f g)
-      (search (sendable, crosses) depth 30, (shr_send _ _ _ text, (shr_send _ _ _ (index l), (shr_send _ _ _ settled, (shr_send _ _ _ (frames g), tt)))))
-
-  pub captures_sync : (name : Sym) (alloc default items lent settled frames framed : NamedLft) → IsSync (TupleAt name (captures alloc default items lent settled frames framed))
-  captures_sync name a d i l s f g =
-      captured_sync name (captures a d i l s f g)
-      (search (sendable, crosses) depth 30, (shr_sync _ _ _ text, (shr_sync _ _ _ (index l), (shr_sync _ _ _ settled, (shr_sync _ _ _ (frames g), tt)))))
-
-  pub linking_send : (name : Sym) (alloc items lent : NamedLft) → IsSend (TupleAt name (linking alloc items lent))
-  linking_send name a i l = captured_send name (linking a i l) (search (sendable, crosses) depth 30, (shr_send _ _ _ (index l), tt))
-
   pub linking_sync : (name : Sym) (alloc items lent : NamedLft) → IsSync (TupleAt name (linking alloc items lent))
   linking_sync name a i l = captured_sync name (linking a i l) (search (sendable, crosses) depth 30, (shr_sync _ _ _ (index l), tt))
 
-  pub finding_send : (name : Sym) (items lent : NamedLft) → IsSend (TupleAt name (finding items lent))
-  finding_send name i l = captured_send name (finding i l) (shr_send _ _ _ (index l), tt)
+  pub finding_sync : (name : Sym) (items lent labels : NamedLft) → IsSync (TupleAt name (finding items lent labels))
+  finding_sync name i l n = captured_sync name (finding i l n) (shr_sync _ _ _ (index l), (shr_slice_sync _ _ _ label, tt))
 
-  pub finding_sync : (name : Sym) (items lent : NamedLft) → IsSync (TupleAt name (finding items lent))
-  finding_sync name i l = captured_sync name (finding i l) (shr_sync _ _ _ (index l), tt)
+  pub examining_sync : (name : Sym) (alloc default items lent settled frames framed targets : NamedLft) → IsSync (TupleAt name (examining alloc default items lent settled frames framed targets))
+  examining_sync name a d i l s f g t =
+      captured_sync name (examining a d i l s f g t)
+      (search (sendable, crosses) depth 30, (shr_sync _ _ _ text, (shr_sync _ _ _ (index l), (shr_sync _ _ _ settled, (shr_sync _ _ _ (frames g), (shr_slice_sync _ _ _ label, tt))))))

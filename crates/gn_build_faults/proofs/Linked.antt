@@ -1,6 +1,6 @@
 -- What is said of items by their places.
-use Rattle.std.proofs.Common.{◌≡◌, ◌+◌, ℕ, zero, suc, length, arith, List, [], ◌∷◌, ◌++◌, Bool, ◌&&◌, Option, Some, None, option_map, map, slice_get, Bor, refl, sym, ◌∙◌, ap, append_assoc}
-use Rattle.std.specs.List.{list_all, range_with_len}
+use Rattle.std.proofs.Common.{◌≡◌, ℕ, suc, length, List, [], ◌∷◌, ◌++◌, Bool, ◌&&◌, Option, Some, None, option_map, map, slice_get, Bor, refl, sym, ◌∙◌, ap, append_assoc}
+use Rattle.std.specs.List.{list_all}
 use Rattle.std.proofs.lemmas.List.{map-append}
 use Rattle.std.proofs.lemmas.List.Folds.{list_all-map}
 use Rattle.std.proofs.lemmas.Option.{slice_get-map}
@@ -17,16 +17,6 @@ use Rattle.gn_build_faults.proofs.Marked.{placed}
 pub lent_length : (items : List (Bor Item)) → length items ≡ length (lent items)
 lent_length [] = refl
 lent_length (x ∷ items) = ap suc (lent_length items)
-
--- what is made of the numbers from the next one on
-shifted : {Y : Type 0} (f : ℕ → Y) (a n : ℕ) → map f (range_with_len (a + 1) n) ≡ map (λ k. f (suc k)) (range_with_len a n)
-shifted f a zero = refl
-shifted f a (suc n) = let one : a + 1 ≡ suc a = omega arith in (λ i. f (one i) ∷ shifted f (a + 1) n i)
-
--- what is made of the items at all places
-pub ranged : {Y : Type 0} (f : Option Item → Y) (items : List Item) → map (λ n. f (slice_get items n)) (range_with_len 0 (length items)) ≡ map (λ x. f (Some x)) items
-ranged f [] = refl
-ranged f (x ∷ items) = ap (λ ys. f (Some x) ∷ ys) (shifted (λ n. f (slice_get (x ∷ items) n)) 0 (length items) ∙ ranged f items)
 
 pub map_same : {X : Type 0} (xs : List X) → map (λ (x : X). x) xs ≡ xs
 map_same [] = refl

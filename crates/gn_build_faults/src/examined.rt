@@ -1,8 +1,9 @@
 // What targets have by themselves, for which several threads look.
 
-ghost use Rattle.std.specs.Prelude.{◌≡◌, ◌∷◌, [], None, IfOk, map, option_map};
+ghost use Rattle.std.specs.Prelude.{◌≡◌, ◌<◌, ◌∷◌, [], None, IfOk, length, map, option_map, slice_index_or};
 ghost use Rattle.gn_cycles.specs.Settled.{AreSettled};
 ghost use Rattle.gn_labelled.specs.Graphs.{shape_of};
+ghost use Rattle.gn_labels.specs.declared.label.Label.{Label as Name};
 ghost use Rattle.gn_records.specs.Around.{around};
 ghost use Rattle.gn_toolchains.specs.Frames.{known_of};
 ghost use Rattle.gn_build_faults.specs.Tools.{tool_fault as tool_meant};
@@ -16,6 +17,7 @@ use crate::paths::path_fault;
 use crate::settling::{SettledItems, alone_settled};
 use crate::shared::graphs_are_shared;
 use crate::tools::tool_fault;
+use gn_beside::deal;
 use gn_chains::Firsts;
 use gn_faults::{Code, Fault};
 use gn_graph_faults::least_fault;
@@ -25,13 +27,12 @@ use gn_labels::Label;
 use gn_paths::{Text, Texts};
 use gn_records::Context;
 use gn_toolchains::Frames;
-use rayon::prelude::*;
 use std::alloc::{AllocError, Global};
 use std::slice;
 use std::thread::Threads;
 
-// How many targets are worth a thread of their own.
-const LEAST_TARGETS: usize = 64;
+// How many targets a thread takes at once.
+const PIECE: usize = 4;
 
 /// What a target has by itself: its first fault besides those of its outputs, and what it makes, as the build directory sees it.
 #[derive(Drop)]
@@ -199,7 +200,7 @@ fn examine<'a>(
 }
 
 /// What these targets have by themselves, in their order, by the frames of toolchains and by which items reach no cycle. Several
-/// threads look for it, each for that of some targets.
+/// threads look for it, each for that of the next targets that none has taken.
 pub(crate) fn examine_all<'a, R: Threads + Sync>(
     rt: &R,
     alloc: Global,
@@ -213,15 +214,10 @@ pub(crate) fn examine_all<'a, R: Threads + Sync>(
     ensures { IfOk result (λ examined. map examined_state examined.items ≡ map (examined_of default.now items.now (known_of frames.now)) targets.now) }
 {
     graphs_are_shared();
-    let examined: Result<Vec<Examined<'a>>, AllocError> = targets
-        .par_iter()
-        .with_min_len(LEAST_TARGETS)
-        .map(
-            |target: &Label| -> Result<Examined<'_>, AllocError>
-                requires { AreMarked items.now settled.now.marks.items }
-                ensures { IfOk result (λ found. examined_state found ≡ examined_of default.entry.now items.entry.now (known_of frames.entry.now) target.now) }
-            { examine(alloc, default, items, settled, frames, target) },
-        )
-        .collect(rt, alloc)?;
-    examined
+    let make = |place: usize| -> Result<Examined<'_>, AllocError>
+        requires marked { AreMarked items.now settled.now.marks.items }
+        requires within { place < length targets.now }
+        ensures { (other : Name) → IfOk result (λ found. examined_state found ≡ examined_of default.entry.now items.entry.now (known_of frames.entry.now) (slice_index_or targets.entry.now place other)) }
+    { examine(alloc, default, items, settled, frames, &targets[place]) };
+    deal(rt, alloc, targets.len(), PIECE, &make)
 }

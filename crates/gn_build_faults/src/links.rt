@@ -1,21 +1,22 @@
 // Where the items stand that labels name, for which several threads look.
 
-ghost use Rattle.std.specs.Prelude.{◌≡◌, ◌++◌, Some, IfOk, OnOk, option_map};
+ghost use Rattle.std.specs.Prelude.{◌≡◌, ◌<◌, ◌++◌, Some, IfOk, OnOk, length, option_map, slice_index_or};
 ghost use Rattle.gn_labelled.specs.Index.{place_of, item_in};
+ghost use Rattle.gn_labels.specs.declared.label.Label.{Label as Name};
 ghost use Rattle.gn_build_faults.specs.Settling.{dependencies_at};
 ghost use Rattle.gn_build_faults.specs.Links.{AreLinks, places_of, links_at, links_in};
 
 use crate::shared::items_are_shared;
+use gn_beside::deal;
 use gn_items::Item;
 use gn_labelled::ItemIndex;
 use gn_labels::Label;
 use gn_rows::Variable;
-use rayon::prelude::*;
 use std::alloc::{AllocError, Global};
 use std::thread::Threads;
 
-// How many items, or labels, are worth a thread of their own.
-const LEAST_ITEMS: usize = 256;
+// How many items, or labels, a thread takes at once.
+const PIECE: usize = 128;
 
 /// Where the items stand that an item depends on: public, private, of data. What no item has stands nowhere.
 #[derive(Drop)]
@@ -81,7 +82,7 @@ fn links_from(alloc: Global, items: &ItemIndex<'_>, place: usize) -> Result<Link
     links_of(alloc, items, item)
 }
 
-/// The places of the dependencies of each item. Several threads look for them, each for those of some items.
+/// The places of the dependencies of each item. Several threads look for them, each for those of the next items that none has taken.
 pub(crate) fn all_links<R: Threads + Sync>(
     rt: &R,
     alloc: Global,
@@ -90,16 +91,10 @@ pub(crate) fn all_links<R: Threads + Sync>(
     ensures { IfOk result (λ links. AreLinks items.now links.items) }
 {
     items_are_shared();
-    let links: Result<Vec<Links>, AllocError> = (0..items.items().len())
-        .into_par_iter()
-        .with_min_len(LEAST_ITEMS)
-        .map(
-            |place: usize| -> Result<Links, AllocError>
-                ensures { IfOk result (λ links. links.places.items ≡ places_of items.entry.now (dependencies_at (item_in items.entry.now (Some place)))) }
-            { links_from(alloc, items, place) },
-        )
-        .collect(rt, alloc)?;
-    links
+    let make = |place: usize| -> Result<Links, AllocError>
+        ensures { IfOk result (λ links. links.places.items ≡ places_of items.entry.now (dependencies_at (item_in items.entry.now (Some place)))) }
+    { links_from(alloc, items, place) };
+    deal(rt, alloc, items.items().len(), PIECE, &make)
 }
 
 // The place of a label. It takes no memory.
@@ -109,7 +104,7 @@ fn found(items: &ItemIndex<'_>, label: &Label) -> Result<Option<usize>, AllocErr
     Ok(items.place(label))
 }
 
-/// The places of labels. Several threads look for them, each for those of some labels.
+/// The places of labels. Several threads look for them, each for those of the next labels that none has taken.
 pub(crate) fn places_of<R: Threads + Sync>(
     rt: &R,
     alloc: Global,
@@ -119,16 +114,11 @@ pub(crate) fn places_of<R: Threads + Sync>(
     ensures { IfOk result (λ places. places.items ≡ places_of items.now labels.now) }
 {
     items_are_shared();
-    let places: Result<Vec<Option<usize>>, AllocError> = labels
-        .par_iter()
-        .with_min_len(LEAST_ITEMS)
-        .map(
-            |label: &Label| -> Result<Option<usize>, AllocError>
-                ensures { IfOk result (λ place. place ≡ place_of label.now items.entry.now) }
-            { found(items, label) },
-        )
-        .collect(rt, alloc)?;
-    places
+    let make = |place: usize| -> Result<Option<usize>, AllocError>
+        requires { place < length labels.now }
+        ensures { (other : Name) → IfOk result (λ found. found ≡ place_of (slice_index_or labels.entry.now place other) items.entry.now) }
+    { found(items, &labels[place]) };
+    deal(rt, alloc, labels.len(), PIECE, &make)
 }
 
 /// The places of the dependencies of the item at a place; none where there is no item.

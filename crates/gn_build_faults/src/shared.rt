@@ -4,18 +4,15 @@ ghost use mir.Syntax.{Sym};
 ghost use denote.Ref.{NamedLft};
 ghost use denote.Param.Send.{IsSend, IsSync};
 ghost use denote.Struct.Tuple.{TupleAt};
-ghost use Rattle.gn_labels.specs.contracts.label.Label as LabelRow;
-ghost use Rattle.gn_build_faults.specs.Captures.{captures, linking, finding};
+ghost use Rattle.gn_build_faults.specs.Captures.{examining, linking, finding};
+ghost use Rattle.gn_build_faults.specs.contracts.examined.Examined as ExaminedRow;
 
 use gn_define::Fields;
 
-/// Threads may take and share a closure that captures items and the allocator, or the items alone, and share labels. It does nothing.
+/// Threads may share a closure that captures items and the allocator, or items and labels. It does nothing.
 pub(crate) fn items_are_shared()
-    ensures linking_send { (name : Sym) (alloc items lent : NamedLft) → IsSend (TupleAt name (linking alloc items lent)) }
-    ensures linking_sync { (name : Sym) (alloc items lent : NamedLft) → IsSync (TupleAt name (linking alloc items lent)) }
-    ensures finding_send { (name : Sym) (items lent : NamedLft) → IsSend (TupleAt name (finding items lent)) }
-    ensures finding_sync { (name : Sym) (items lent : NamedLft) → IsSync (TupleAt name (finding items lent)) }
-    ensures label { IsSync LabelRow.the_row }
+    ensures linking { (name : Sym) (alloc items lent : NamedLft) → IsSync (TupleAt name (linking alloc items lent)) }
+    ensures finding { (name : Sym) (items lent labels : NamedLft) → IsSync (TupleAt name (finding items lent labels)) }
 {
     is_shared::<Fields>(None)
 }
@@ -25,11 +22,11 @@ fn is_shared<T: Sync>(_value: Option<&T>)
     ensures { IsSync T.row }
 {}
 
-/// Threads may take and share a closure that captures what the faults of targets are looked for in, and share labels. It does nothing.
+/// Threads may share a closure that captures targets and what their faults are looked for in, and hand over what targets have by
+/// themselves. It does nothing.
 pub(crate) fn graphs_are_shared()
-    ensures send { (name : Sym) (alloc default items lent settled frames framed : NamedLft) → IsSend (TupleAt name (captures alloc default items lent settled frames framed)) }
-    ensures sync { (name : Sym) (alloc default items lent settled frames framed : NamedLft) → IsSync (TupleAt name (captures alloc default items lent settled frames framed)) }
-    ensures label { IsSync LabelRow.the_row }
+    ensures examining { (name : Sym) (alloc default items lent settled frames framed targets : NamedLft) → IsSync (TupleAt name (examining alloc default items lent settled frames framed targets)) }
+    ensures examined { (a : NamedLft) → IsSend (ExaminedRow.the_row a) }
 {
     is_shared::<Fields>(None)
 }

@@ -19,6 +19,7 @@ use gn_out_files::OutFile;
 use gn_resolve::{Resolved, resolve_all};
 use gn_toolchains::{Frames, Surroundings};
 use std::alloc::{AllocError, Global};
+use std::mem::forget;
 use std::thread::Threads;
 
 // What never changes for the targets that are reached, and their records.
@@ -85,6 +86,7 @@ pub fn ninja_files<'a, R: Threads + Sync>(
 {
     let project = project_of(rt, alloc, surroundings, items, reached, targets)?;
     let files = known_files(rt, alloc, &project);
-    drop(project);
+    // Nothing is made behind the files, so their parts needn't be let go one by one.
+    forget(project);
     files
 }

@@ -1,22 +1,23 @@
 // Files that several threads make: those of targets, and build.ninja.
 
-ghost use Rattle.std.specs.Prelude.{◌≡◌, IfOk, map};
+ghost use Rattle.std.specs.Prelude.{◌≡◌, ◌<◌, IfOk, length, map, slice_index_or};
 ghost use Rattle.gn_out_files.specs.Files.{put_of};
+ghost use Rattle.gn_files.specs.declared.target_files.Piece.{Piece as PieceState};
 ghost use Rattle.gn_files.specs.Making.{text_of, file_of, piece_of};
 
 use crate::paths::path_of_target;
 use crate::root::root_file;
+use gn_beside::deal;
 use gn_labels::Label;
 use gn_ninja::{Claimant, Root, append_target};
 use gn_out_files::OutFile;
 use gn_paths::{Path, Text};
 use gn_writing::Written;
-use rayon::prelude::*;
 use std::alloc::{AllocError, Global};
 use std::thread::Threads;
 
-// How many files are worth a thread of their own.
-const LEAST_FILES: usize = 64;
+// How many files a thread takes at once.
+const FILES_AT_ONCE: usize = 16;
 
 /// What the file of a target is made of: no more than threads need to know.
 #[derive(Clone, Copy)]
@@ -95,7 +96,7 @@ fn make_piece(alloc: Global, piece: &Piece<'_>) -> Result<OutFile, AllocError>
     }
 }
 
-/// The files of pieces, in their order. Several threads make them, each those of some pieces.
+/// The files of pieces, in their order. Several threads make them, each those of the next pieces that none has taken.
 #[tactic(auto, using(crate::proofs::Crossing::label, crate::proofs::Crossing::path, crate::proofs::Crossing::written, crate::proofs::Crossing::root, crate::proofs::Crossing::out_file))]
 pub(crate) fn make_all<R: Threads + Sync>(
     rt: &R,
@@ -104,14 +105,9 @@ pub(crate) fn make_all<R: Threads + Sync>(
 ) -> Result<Vec<OutFile>, AllocError>
     ensures { IfOk result (λ made. map put_of made.items ≡ map piece_of pieces.now) }
 {
-    let made: Result<Vec<OutFile>, AllocError> = pieces
-        .par_iter()
-        .with_min_len(LEAST_FILES)
-        .map(
-            |piece: &Piece<'_>| -> Result<OutFile, AllocError>
-                ensures { IfOk result (λ made. put_of made ≡ piece_of piece.now) }
-            { make_piece(alloc, piece) },
-        )
-        .collect(rt, alloc)?;
-    made
+    let make = |place: usize| -> Result<OutFile, AllocError>
+        requires { place < length pieces.now }
+        ensures { (other : PieceState) → IfOk result (λ made. put_of made ≡ piece_of (slice_index_or pieces.entry.now place other)) }
+    { make_piece(alloc, &pieces[place]) };
+    deal(rt, alloc, pieces.len(), FILES_AT_ONCE, &make)
 }

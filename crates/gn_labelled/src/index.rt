@@ -91,12 +91,26 @@ impl<'a> ItemIndex<'a> {
     pub fn of(alloc: Global, items: &[&'a Item]) -> Result<ItemIndex<'a>, AllocError>
         ensures { IfOk result (λ index. index ≡ lent items.now) }
     {
-        let mut index = ItemIndex::new(alloc);
+        let mut index = ItemIndex::with_room(alloc, items.len())?;
         if let Err(error) = index.add_lent(items) {
             drop(index);
             return Err(error);
         }
         Ok(index)
+    }
+
+    // No items, and there is room for so many.
+    fn with_room(alloc: Global, count: usize) -> Result<ItemIndex<'a>, AllocError>
+        ensures { IfOk result (λ index. index ≡ []) }
+    {
+        let mut firsts = IndexMap::new(alloc);
+        firsts.reserve_exact(count)?;
+        let items = Vec::with_capacity(alloc, count)?;
+        Ok(ItemIndex {
+            items,
+            firsts,
+            repeated: Vec::new(alloc),
+        })
     }
 
     // Puts the items behind the others. After want of memory some of them are there.

@@ -25,11 +25,12 @@ use crate::plain::{LoadEnd, Plain, end_or_memory, ended, start, stopped, take_up
 use crate::round::{Ahead, may_read};
 use crate::stage::look_ahead;
 use gn_bases::{Known, Setup};
+use gn_beside::threads_beside;
 use gn_book::Claim;
 use gn_builds::only_what_is_asked_is_loaded;
 use gn_judging::too_large;
 use gn_outside::Source;
-use gn_prepared::{Copies, threads_beside};
+use gn_prepared::Copies;
 use gn_unit::Base;
 use std::alloc::{AllocError, Global};
 use std::thread::Threads;

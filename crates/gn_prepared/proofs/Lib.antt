@@ -7,4 +7,3 @@ mod Copying
 mod Crossing
 mod Included
 mod Placing
-mod Gathered

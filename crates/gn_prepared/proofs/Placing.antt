@@ -1,20 +1,25 @@
--- What is put at places of a list whose items are related to those of another.
-use Rattle.std.proofs.Common.{◌≡◌, ℕ, zero, suc, ◌<◌, List, [], ◌∷◌, length, replicate}
+-- What the answers for the places of a list are for its items.
+use Rattle.std.proofs.Common.{◌≡◌, ◌+◌, ◌<◌, ℕ, zero, suc, List, [], ◌∷◌, length, subst, ◌∙◌}
 use native.Mathlib.Omega.{arith}
-use Rattle.std.specs.Prelude.{slice_index_or, slice_set}
+use Rattle.std.specs.Prelude.{slice_index_or}
 use Rattle.std.specs.List.{AllZip}
+use Rattle.gn_threads.specs.Places.{AllFrom}
 
 module _ {X Y : Type 0} (Is : X → Y → Type 0) where
-  -- an item that is related to each
-  pub each_related : (y : Y) → ((x : X) → Is x y) → (xs : List X) → AllZip Is xs (replicate (length xs) y)
-  each_related y all [] = tt
-  each_related y all (x ∷ xs) = (all x, each_related y all xs)
+  related_from : (At : ℕ → Y → Type 0) (n : ℕ) (xs : List X) (ys : List Y) → length ys ≡ length xs
+      → ((place : ℕ) (y : Y) (d : X) → place < length xs → At (n + place) y → Is (slice_index_or xs place d) y)
+      → AllFrom At n ys → AllZip Is xs ys
+  related_from At n [] [] same relates each = tt
+  related_from At n [] (y ∷ ys) same relates each = absurd (omega (arith, same))
+  related_from At n (x ∷ xs) [] same relates each = absurd (omega (arith, same))
+  related_from At n (x ∷ xs) (y ∷ ys) same relates each =
+      let here : n ≡ n + zero = omega arith in
+      let later = λ (place : ℕ) (z : Y) (d : X) (within : place < length xs) (at : At (suc n + place) z).
+      let next : suc n + place ≡ n + suc place = omega arith in relates (suc place) z d (omega (arith, within)) (subst (λ k. At k z) next at) in
+      (relates zero y x (omega arith) (subst (λ k. At k y) here each.0), related_from At (suc n) xs ys (omega (arith, same)) later each.1)
 
-  -- an item at the place of one that it is related to
-  pub put_related : (xs : List X) (ys : List Y) (place : ℕ) (y : Y) → AllZip Is xs ys
-      → ((x : X) → place < length xs → Is (slice_index_or xs place x) y) → AllZip Is xs (slice_set ys place y)
-  put_related [] [] place y are is = tt
-  put_related [] (z ∷ ys) place y are is = absurd are
-  put_related (x ∷ xs) [] place y are is = absurd are
-  put_related (x ∷ xs) (z ∷ ys) zero y are is = (is x (omega arith), are.1)
-  put_related (x ∷ xs) (z ∷ ys) (suc place) y are is = (are.0, put_related xs ys place y are.1 (λ d within. is d (omega (arith, within))))
+  -- where each is related to the item at its place, all are to all, in their order
+  pub related : {At : ℕ → Y → Type 0} (count : ℕ) (xs : List X) (ys : List Y) → count ≡ length xs → length ys ≡ count → AllFrom At 0 ys
+      → ((place : ℕ) (y : Y) (d : X) → place < length xs → At place y → Is (slice_index_or xs place d) y) → AllZip Is xs ys
+  related {At} count xs ys same whole each relates = related_from At 0 xs ys (whole ∙ same) (λ place y d within is.
+      let here : 0 + place ≡ place = omega arith in relates place y d within (subst (λ k. At k y) here is)) each

@@ -2,15 +2,13 @@
 //! thread that asks for them does other work.
 #![tactic(auto)]
 
-mod beside;
 mod copies;
-mod placed;
 mod prepared;
 mod shared;
 mod wanted;
 mod with_content;
 
 pub use copies::{Copies, copies_have_no_units};
-pub use prepared::{prepare_beside, threads_beside};
+pub use prepared::prepare_beside;
 pub use wanted::Wanted;
 pub use with_content::contents_are_included;

@@ -1,31 +1,24 @@
 // The answers of build files that are wanted before they are claimed.
 
-ghost use Rattle.std.specs.Prelude.{◌≤◌, IfOk, IfSome};
+ghost use Rattle.std.specs.Prelude.{◌<◌, IfOk, length, slice_index_or};
 ghost use Rattle.gn_prepared.specs.Copies.{answers_of};
-ghost use Rattle.gn_prepared.specs.Prepared.{IsPrepared, ArePrepared, IsPreparedAt, ArePreparedAt};
+ghost use Rattle.gn_prepared.specs.Prepared.{IsPrepared, ArePrepared};
+ghost use Rattle.gn_prepared.specs.declared.wanted.Wanted.{Wanted as File};
 
-use crate::beside::call_beside;
 use crate::copies::Copies;
-use crate::placed::{Placed, in_places};
 use crate::shared::work_is_shared;
 use crate::wanted::Wanted;
 use crate::with_content::WithContent;
 use gn_answers::Filed;
+use gn_beside::deal_out;
 use gn_evaluation_base::Base;
 use gn_items::Key;
 use gn_perform::load_answer;
 use std::alloc::{AllocError, Global};
-use std::sync::atomic::{AtomicUsize, Ordering};
-use std::thread::{Threads, available_parallelism};
+use std::thread::Threads;
 
-// How many build files are worth a thread of their own.
-const LEAST_FILES: usize = 4;
-
-// How many threads pay at most.
-const MOST_THREADS: usize = 7;
-
-// How many threads are made where nothing says how many processors there are.
-const USUAL_THREADS: usize = 3;
+// How many build files a thread takes at once.
+const PIECE: usize = 1;
 
 // The answer of a build file over copies of what is filed and the content of its file, if the work on it needs nothing else.
 fn prepare_file(
@@ -42,57 +35,6 @@ fn prepare_file(
             load_answer(alloc, base, &part, directory, toolchain)
         }
         _ => Ok(None),
-    }
-}
-
-// The answer of the next build file that no thread has taken, if there is one: the count of those that are taken is shared.
-fn prepare_next(
-    alloc: Global,
-    base: &Base,
-    copies: &Copies,
-    wanted: &[Wanted],
-    taken: &AtomicUsize,
-) -> Result<Option<Placed>, AllocError>
-    ensures { IfOk result (λ next. IfSome next (IsPreparedAt base.now (answers_of copies.now) wanted.now)) }
-{
-    let place = taken.fetch_add(1, Ordering::SeqCst);
-    if place >= wanted.len() {
-        return Ok(None);
-    }
-    let answer = prepare_file(alloc, base, copies, &wanted[place])?;
-    Ok(Some(Placed { place, answer }))
-}
-
-// The answers of build files that no other thread has taken, one after the other, until all are taken.
-fn prepare_some(
-    alloc: Global,
-    base: &Base,
-    copies: &Copies,
-    wanted: &[Wanted],
-    taken: &AtomicUsize,
-) -> Result<Vec<Placed>, AllocError>
-    ensures { IfOk result (λ answers. ArePreparedAt base.now (answers_of copies.now) wanted.now answers.items) }
-{
-    let mut answers = Vec::new(alloc);
-    let mut left = wanted.len();
-    'files: while left > 0 {
-        match prepare_next(alloc, base, copies, wanted, taken)? {
-            Some(one) => answers.push(one)?,
-            None => return Ok(answers),
-        }
-        left -= 1;
-    }
-    Ok(answers)
-}
-
-/// How many threads pay beside the one that asks: one for each other processor, but at least one and at most seven; three where nothing
-/// says how many processors there are.
-pub fn threads_beside<R: Threads>(rt: &R) -> usize
-    ensures { result ≤ 7 }
-{
-    match available_parallelism(rt) {
-        Ok(processors) => processors.get().saturating_sub(1).clamp(1, MOST_THREADS),
-        Err(_) => USUAL_THREADS,
     }
 }
 
@@ -114,11 +56,9 @@ pub fn prepare_beside<R: Threads + Sync, G: FnMut() -> B, B>(
     ensures worked { G.step work.old result.1 work.new }
 {
     work_is_shared();
-    let taken = AtomicUsize::new(0);
-    let take = || -> Result<Vec<Placed>, AllocError>
-        ensures { IfOk result (λ answers. ArePreparedAt base.entry.now (answers_of copies.entry.now) wanted.entry.now answers.items) }
-    { prepare_some(alloc, base, copies, wanted, &taken) };
-    let threads = threads.min(wanted.len() / LEAST_FILES);
-    let (shares, worked) = call_beside(rt, alloc, threads, &take, work);
-    (in_places(alloc, wanted, shares), worked)
+    let make = |place: usize| -> Result<Option<Filed>, AllocError>
+        requires { place < length wanted.now }
+        ensures { (other : File) → IfOk result (IsPrepared base.entry.now (answers_of copies.entry.now) (slice_index_or wanted.entry.now place other)) }
+    { prepare_file(alloc, base, copies, &wanted[place]) };
+    deal_out(rt, alloc, threads, wanted.len(), PIECE, &make, work)
 }

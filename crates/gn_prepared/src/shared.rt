@@ -16,7 +16,6 @@ ghost use Rattle.gn_answers.specs.contracts.answer.Filed as FiledRow;
 ghost use Rattle.gn_answers.specs.contracts.answer.Answer as AnswerRow;
 ghost use Rattle.gn_prepared.specs.Captures.{captures};
 ghost use Rattle.gn_prepared.specs.contracts.copies.Copies as CopiesRow;
-ghost use Rattle.gn_prepared.specs.contracts.placed.Placed as PlacedRow;
 ghost use Rattle.gn_tree.specs.contracts.tree.Block as BlockRow;
 
 use gn_define::Fields;
@@ -137,8 +136,8 @@ fn copies_are_shared()
 
 /// Threads may share a closure that captures what build files are worked on with, and hand over answers. It does nothing.
 pub(crate) fn work_is_shared()
-    ensures sync { (name : Sym) (alloc base copies wanted taken : NamedLft) → IsSync (TupleAt name (captures alloc base copies wanted taken)) }
-    ensures placed { IsSend PlacedRow.the_row }
+    ensures sync { (name : Sym) (alloc base copies wanted : NamedLft) → IsSync (TupleAt name (captures alloc base copies wanted)) }
+    ensures filed { IsSend FiledRow.the_row }
 {
     bases_are_shared();
     copies_are_shared();

@@ -3,7 +3,7 @@ use mir.Syntax.{Sym}
 use denote.Enum.Declared as enums
 use denote.Struct.Declared as structs
 use denote.Ref.{NamedLft}
-use denote.Param.Send.{IsSend, IsSync, EachSend, EachSync, sendable, view_sync, shr_send, shr_sync, recorded_send, recorded_sync, enum_send, enum_sync, struct_send, struct_sync}
+use denote.Param.Send.{IsSend, IsSync, EachSend, EachSync, sendable, view_sync, shr_sync, shr_slice_sync, recorded_send, recorded_sync, enum_send, enum_sync, struct_send, struct_sync}
 use denote.Struct.Tuple.{TupleAt}
 use Rattle.std.proofs.Crossing.{crosses}
 use Rattle.gn_labels.specs.contracts.label.Label as Label
@@ -25,10 +25,10 @@ use Rattle.gn_records.specs.contracts.records.Exports as Exports
 use Rattle.gn_records.specs.contracts.records.Record as Record
 use Rattle.gn_resolve.specs.contracts.table.Entry as Entry
 use Rattle.gn_resolve.specs.contracts.table.Resolved as Resolved
-use Rattle.gn_threads.proofs.Captured.{captured_send, captured_sync}
+use Rattle.gn_threads.proofs.Captured.{captured_sync}
 use Rattle.gn_resolve.specs.Captures.{captures}
 
-pub label : IsSync Label.the_row
+label : IsSync Label.the_row
 label = search (sendable, crosses) depth 40 fits 10000
 
 -- each kind of target by itself, as a part of what is written: together they have more parts than one search goes through
@@ -62,7 +62,7 @@ resolved : IsSync Resolved.the_row
 resolved = search (entry, label, sendable, crosses) depth 40 fits 10000
 
 -- what threads hand over of what is kept
-label_send : IsSend Label.the_row
+pub label_send : IsSend Label.the_row
 label_send = search (sendable, crosses) depth 40 fits 10000
 
 group_send : IsSend (structs.field Group.the_type).row
@@ -117,10 +117,6 @@ module _ (fields : IsSync Fields.the_row) where
   frames : (a : NamedLft) → IsSync (Frames.the_row a)
   frames a = search (tools, sendable, crosses) depth 60 fits 10000
 
-  pub captures_send : (name : Sym) (alloc frames lent graph items : NamedLft) → IsSend (TupleAt name (captures alloc frames lent graph items))
-  captures_send name a f l g i =
-      captured_send name (captures a f l g i) (search (sendable, crosses) depth 30, (shr_send _ _ _ (frames l), (shr_send _ _ _ (graph i), tt)))
-
-  pub captures_sync : (name : Sym) (alloc frames lent graph items : NamedLft) → IsSync (TupleAt name (captures alloc frames lent graph items))
-  captures_sync name a f l g i =
-      captured_sync name (captures a f l g i) (search (sendable, crosses) depth 30, (shr_sync _ _ _ (frames l), (shr_sync _ _ _ (graph i), tt)))
+  pub captures_sync : (name : Sym) (alloc frames lent graph items targets : NamedLft) → IsSync (TupleAt name (captures alloc frames lent graph items targets))
+  captures_sync name a f l g i t =
+      captured_sync name (captures a f l g i t) (search (sendable, crosses) depth 30, (shr_sync _ _ _ (frames l), (shr_sync _ _ _ (graph i), (shr_slice_sync _ _ _ label, tt))))

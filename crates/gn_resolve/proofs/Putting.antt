@@ -1,8 +1,7 @@
 -- What several threads make of targets is put with what is kept.
-use Rattle.std.proofs.Common.{◌≡◌, List, [], ◌∷◌, ◌++◌, Option, Some, None, Ok, Err, map, subst, sym}
-use Rattle.std.specs.Prelude.{Result, IfOk, MatchResult, Contains}
-use Rattle.std.specs.List.{AllZip}
-use Rattle.std.specs.declared.vec.Vec.{Vec}
+use Rattle.std.proofs.Common.{◌≡◌, ◌+◌, ◌<◌, ℕ, suc, List, [], ◌∷◌, ◌++◌, length, Option, Some, None, subst}
+use native.Mathlib.Omega.{arith}
+use Rattle.gn_threads.specs.Places.{AllFrom}
 use Rattle.gn_labels.specs.declared.label.Label.{Label}
 use Rattle.gn_items.specs.declared.item.Item.{Item}
 use Rattle.gn_toolchains.specs.Toolchains.{Surroundings}
@@ -13,23 +12,16 @@ use Rattle.gn_resolve.specs.Putting.{CanBePut, AllCanBePut, Takes, TakesAll}
 use Rattle.gn_resolve.proofs.Put.{kept, stays_held}
 
 -- ---- what threads give
-module _ (s : Surroundings) (items : List Item) (r : Resolved) {X : Type 0} where
-  -- what is made of an item can be put, if it is made
-  abbrev pub Given : (E : Type 0) → X → Result (Option (Label × Entry)) E → Type 0
-  Given E x one = IfOk one (CanBePut s items r)
+-- where each is an answer for its place, and what is one can be put, all of it can
+module _ (s : Surroundings) (items : List Item) (r : Resolved) where
+  given_from : {At : ℕ → Option (Label × Entry) → Type 0} (n count : ℕ) (made : List (Option (Label × Entry))) → n + length made ≡ count → AllFrom At n made
+      → ((place : ℕ) (one : Option (Label × Entry)) → place < count → At place one → CanBePut s items r one) → AllCanBePut s items r made
+  given_from n count [] whole each right = tt
+  given_from n count (one ∷ made) whole each right = (right n one (omega (arith, whole)) each.0, given_from (suc n) count made (omega (arith, whole)) each.1 right)
 
-  all_given : (E : Type 0) (xs : List X) (made : List (Option (Label × Entry))) → AllZip (Given E) xs (map Ok made) → AllCanBePut s items r made
-  all_given E [] [] h = tt
-  all_given E [] (one ∷ made) h = absurd h
-  all_given E (x ∷ xs) [] h = absurd h
-  all_given E (x ∷ xs) (one ∷ made) h = (h.0, all_given E xs made h.1)
-
-  -- so all of it can
-  pub gathered : {E Z : Type 0} (xs : List X) (each : List (Result (Option (Label × Entry)) E)) (all : Result (Vec (Option (Label × Entry)) Z) E) → AllZip (Given E) xs each
-      → MatchResult all (λ v. (made : List (Option (Label × Entry))) × (each ≡ map Ok made) × (v.items ≡ made)) (λ e. Contains each (Err e))
-      → IfOk all (λ v. AllCanBePut s items r v.items)
-  gathered {E} xs each (Ok v) given h = subst (AllCanBePut s items r) (sym h.2) (all_given E xs h.0 (subst (AllZip (Given E) xs) h.1 given))
-  gathered xs each (Err e) given h = tt
+  pub all_given : {At : ℕ → Option (Label × Entry) → Type 0} (count : ℕ) (made : List (Option (Label × Entry))) → length made ≡ count → AllFrom At 0 made
+      → ((place : ℕ) (one : Option (Label × Entry)) → place < count → At place one → CanBePut s items r one) → AllCanBePut s items r made
+  all_given count made whole each right = given_from 0 count made (omega (arith, whole)) each right
 
 -- ---- what is put
 pub takes_none : (r : Resolved) → TakesAll r r []

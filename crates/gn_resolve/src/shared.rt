@@ -2,9 +2,8 @@
 
 ghost use mir.Syntax.{Sym};
 ghost use denote.Ref.{NamedLft};
-ghost use denote.Param.Send.{IsSend, IsSync};
+ghost use denote.Param.Send.{IsSync};
 ghost use denote.Struct.Tuple.{TupleAt};
-ghost use Rattle.gn_labels.specs.contracts.label.Label as LabelRow;
 ghost use Rattle.gn_resolve.specs.Captures.{captures};
 
 use gn_define::Fields;
@@ -14,11 +13,9 @@ fn is_shared<T: Sync>(_value: Option<&T>)
     ensures { IsSync T.row }
 {}
 
-/// Threads may take and share a closure that captures what targets are resolved in, and share labels. It does nothing.
+/// Threads may share a closure that captures what targets are resolved in, and targets. It does nothing.
 pub(crate) fn graphs_are_shared()
-    ensures send { (name : Sym) (alloc frames lent graph items : NamedLft) → IsSend (TupleAt name (captures alloc frames lent graph items)) }
-    ensures sync { (name : Sym) (alloc frames lent graph items : NamedLft) → IsSync (TupleAt name (captures alloc frames lent graph items)) }
-    ensures label { IsSync LabelRow.the_row }
+    ensures { (name : Sym) (alloc frames lent graph items targets : NamedLft) → IsSync (TupleAt name (captures alloc frames lent graph items targets)) }
 {
     is_shared::<Fields>(None)
 }

@@ -1,6 +1,6 @@
 // Targets are resolved level by level of their dependencies, those of a large level by several threads.
 
-ghost use Rattle.std.specs.Prelude.{◌≡◌, ◌∷◌, [], IfOk, OnOk};
+ghost use Rattle.std.specs.Prelude.{◌≡◌, ◌<◌, ◌∷◌, [], IfOk, OnOk, length};
 ghost use Rattle.gn_dependencies.specs.Shape.{all_deps};
 ghost use Rattle.gn_labelled.specs.Graphs.{shape_of};
 ghost use Rattle.gn_records.specs.Around.{around};
@@ -12,15 +12,15 @@ use crate::making::resolve;
 use crate::resolving::is_ready;
 use crate::shared::graphs_are_shared;
 use crate::table::{Entry, Known, Resolved};
+use gn_beside::deal;
 use gn_labels::Label;
 use gn_records::Context;
 use gn_toolchains::Frames;
-use rayon::prelude::*;
 use std::alloc::{AllocError, Global};
 use std::thread::Threads;
 
-// How many targets are worth a thread of their own.
-const LEAST_TARGETS: usize = 16;
+// How many targets a thread takes at once.
+const PIECE: usize = 4;
 
 // What is kept of a target, with its label.
 fn labelled_entry(
@@ -74,7 +74,8 @@ fn ready_entry(
     Ok(None)
 }
 
-// What is kept of those of the targets whose dependencies are resolved. Several threads make it, each that of some targets.
+// What is kept of those of the targets whose dependencies are resolved. Several threads make it, each that of the next targets that
+// none has taken.
 fn ready_entries<R: Threads + Sync>(
     rt: &R,
     alloc: Global,
@@ -87,18 +88,13 @@ fn ready_entries<R: Threads + Sync>(
     ensures { IfOk result (λ made. AllCanBePut (surroundings_of frames.now) graph.now.items graph.now.records made.items) }
 {
     graphs_are_shared();
-    let made: Result<Vec<Option<(Label, Entry)>>, AllocError> = targets
-        .par_iter()
-        .with_min_len(LEAST_TARGETS)
-        .map(
-            |target: &Label| -> Result<Option<(Label, Entry)>, AllocError>
-                requires fit { IsFit frames.now graph.now.default.now graph.now.items }
-                requires held { IsHeld (surroundings_of frames.now) graph.now.items graph.now.records }
-                ensures { IfOk result (CanBePut (surroundings_of frames.entry.now) graph.entry.now.items graph.entry.now.records) }
-            { ready_entry(alloc, frames, graph, target) },
-        )
-        .collect(rt, alloc)?;
-    made
+    let make = |place: usize| -> Result<Option<(Label, Entry)>, AllocError>
+        requires fit { IsFit frames.now graph.now.default.now graph.now.items }
+        requires held { IsHeld (surroundings_of frames.now) graph.now.items graph.now.records }
+        requires within { place < length targets.now }
+        ensures { IfOk result (CanBePut (surroundings_of frames.entry.now) graph.entry.now.items graph.entry.now.records) }
+    { ready_entry(alloc, frames, graph, &targets[place]) };
+    deal(rt, alloc, targets.len(), PIECE, &make)
 }
 
 // Puts what is kept of a target with the others, if something is.

@@ -1,2 +1,3 @@
-//! Lemmas on what several threads make of the items of a list, and on the closures that they call.
+//! What is said of a list by the places of its items, and lemmas on the answers that several threads make for places, and on the
+//! closures that they call.
 #![tactic(auto)]

@@ -1,11 +1,8 @@
-use Rattle.gn_build_faults.proofs.Crossing.{label, captures_send, captures_sync}
+use Rattle.gn_build_faults.proofs.Crossing.{examining_sync, examined_send}
 use Rattle.gn_build_faults.proofs.shared.graphs_are_shared.Goals as goal
 
-pub returns-clause-send : goal.returns-clause-send
-returns-clause-send c = captures_send (record { shared = λ d b o κ. c.is_shared.ensures.shared d b o κ })
+pub returns-clause-examining : goal.returns-clause-examining
+returns-clause-examining c = examining_sync (record { shared = λ d b o κ. c.is_shared.ensures.shared d b o κ })
 
-pub returns-clause-sync : goal.returns-clause-sync
-returns-clause-sync c = captures_sync (record { shared = λ d b o κ. c.is_shared.ensures.shared d b o κ })
-
-pub returns-clause-label : goal.returns-clause-label
-returns-clause-label c = label
+pub returns-clause-examined : goal.returns-clause-examined
+returns-clause-examined c = examined_send

@@ -1,5 +1,5 @@
 use Prim.Native.Nat.{◌+◌, ◌*◌}
-use Rattle.gn_prepared.proofs.beside.+call_beside.Given as goal
+use Rattle.gn_beside.proofs.beside.+call_beside.Given as goal
 
 abbrev pub decreases-call_beside : goal.decreases-call_beside
 decreases-call_beside g l = 2 * l.threads

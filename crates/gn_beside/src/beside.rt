@@ -1,11 +1,29 @@
 // Calls in several threads beside other work.
 
-ghost use Rattle.std.specs.Prelude.{◌≡◌, ◌++◌, ◌∷◌, [], IfOk, IsOkAnd};
+ghost use Rattle.std.specs.Prelude.{◌≡◌, ◌≤◌, ◌++◌, ◌∷◌, [], IfOk, IsOkAnd};
 ghost use Rattle.std.specs.List.{All};
 ghost use Rattle.std.specs.Thread.{IsSync, IsSend};
 
 use std::alloc::{AllocError, Global};
-use std::thread::{Threads, join_mut};
+use std::thread::{Threads, available_parallelism, join_mut};
+
+// How many threads pay at most.
+const MOST_THREADS: usize = 7;
+
+// How many threads are made where nothing says how many processors there are.
+const USUAL_THREADS: usize = 4;
+
+/// How many threads pay beside the one that asks: one for each processor, but at most seven; four where nothing says how many
+/// processors there are. It is one more than there are other processors, since the first thread of several is often put on the processor
+/// of the thread that makes it, and begins when that waits.
+pub fn threads_beside<R: Threads>(rt: &R) -> usize
+    ensures { result ≤ 7 }
+{
+    match available_parallelism(rt) {
+        Ok(processors) => processors.get().min(MOST_THREADS),
+        Err(_) => USUAL_THREADS,
+    }
+}
 
 // A list and one item more.
 fn with_one<A: Drop>(others: Result<Vec<A>, AllocError>, one: A) -> Result<Vec<A>, AllocError>
@@ -20,13 +38,13 @@ fn with_one<A: Drop>(others: Result<Vec<A>, AllocError>, one: A) -> Result<Vec<A
 /// This thread makes the others, and no other makes one; where none can be made, this one does its call. Err comes for want of memory
 /// alone, and all calls are made all the same.
 #[cycle(call_beside)]
-pub(crate) fn call_beside<
-    R: Threads + Sync,
-    F: Fn() -> A + Sync,
-    G: FnMut() -> B,
-    A: Send + Drop,
-    B,
->(rt: &R, alloc: Global, threads: usize, take: &F, work: &mut G) -> (Result<Vec<A>, AllocError>, B)
+pub fn call_beside<R: Threads + Sync, F: Fn() -> A + Sync, G: FnMut() -> B, A: Send + Drop, B>(
+    rt: &R,
+    alloc: Global,
+    threads: usize,
+    take: &F,
+    work: &mut G,
+) -> (Result<Vec<A>, AllocError>, B)
     requires take { F.pre take.now }
     requires work { G.pre work.old }
     ensures taken { IfOk result.0 (λ all. All (λ one. F.post take.now one) all.items) }
