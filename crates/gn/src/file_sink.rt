@@ -53,41 +53,27 @@ impl<R: Files + Print + Drop + AllocGlobal> Sink for FileSink<R> {
     }
 }
 
-// Writes a file whole, unless it holds these bytes already, and makes the folders above it where they are missing.
+// Writes a file whole, unless it holds these bytes already, and makes the folders above it where they are missing. So the time at which
+// it was changed stays with what it holds.
 fn write_file<R: Files + AllocGlobal>(rt: &R, name: &str, bytes: &[u8]) -> io::Result<()> {
-    let Some((folder, _)) = name.rsplit_once('/') else {
-        return write_changed(rt, UNFINISHED, name, bytes);
-    };
-    let is_new = make_folder(rt, folder)?;
-    let beside = format!(in rt.alloc(); "{folder}/{UNFINISHED}")?;
-    if is_new {
-        write_beside(rt, beside.as_str(), name, bytes)
-    } else {
-        write_changed(rt, beside.as_str(), name, bytes)
-    }
-}
-
-// Makes a folder and those above it, where they are missing. It is true only where this one is new, so that nothing stands in it.
-fn make_folder<R: Files>(rt: &R, folder: &str) -> io::Result<bool> {
-    match fs::create_dir(rt, folder) {
-        Ok(()) => return Ok(true),
-        Err(error) if error.kind() == ErrorKind::AlreadyExists => {}
-        Err(_) => fs::create_dir_all(rt, folder)?,
-    }
-    Ok(false)
-}
-
-// Writes a file by the first name, unless it holds these bytes already. So the time at which it was changed stays with what it holds.
-fn write_changed<R: Files + AllocGlobal>(
-    rt: &R,
-    beside: &str,
-    name: &str,
-    bytes: &[u8],
-) -> io::Result<()> {
     if holds(rt, name, bytes) {
         return Ok(());
     }
-    write_beside(rt, beside, name, bytes)
+    let Some((folder, _)) = name.rsplit_once('/') else {
+        return write_beside(rt, UNFINISHED, name, bytes);
+    };
+    make_folder(rt, folder)?;
+    let beside = format!(in rt.alloc(); "{folder}/{UNFINISHED}")?;
+    write_beside(rt, beside.as_str(), name, bytes)
+}
+
+// Makes a folder and those above it, where they are missing.
+fn make_folder<R: Files>(rt: &R, folder: &str) -> io::Result<()> {
+    match fs::create_dir(rt, folder) {
+        Ok(()) => Ok(()),
+        Err(error) if error.kind() == ErrorKind::AlreadyExists => Ok(()),
+        Err(_) => fs::create_dir_all(rt, folder),
+    }
 }
 
 // Whether a file holds just these bytes. A link, a folder and a named pipe don't, and aren't opened; neither does what can't be read.
