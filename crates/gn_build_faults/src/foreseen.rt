@@ -107,37 +107,3 @@ pub(crate) fn foresee<R: Threads + Sync>(
     forget(links);
     foreseen
 }
-
-// Whether it is known that the targets that are generated are all the targets of which faults are told, by the places of the
-// dependencies of all items.
-fn is_whole_by<R: Threads + Sync>(
-    rt: &R,
-    alloc: Global,
-    default: &Text,
-    items: &ItemIndex<'_>,
-    links: &[Links],
-    generated: &[Label],
-) -> Result<bool, AllocError>
-    requires { AreLinks items.now links.now }
-    ensures { IfOk result (λ whole. whole ≡ true → generated.now ≡ targets_of default.now items.now generated.now) }
-{
-    let places = places_of(rt, alloc, items, generated)?;
-    is_whole(alloc, default, items, links, places.as_slice(), generated)
-}
-
-/// Whether it is known that the targets that are generated are all the targets of which faults are told. The places that were looked
-/// up for it aren't let go, as in `foresee`.
-pub(crate) fn is_foreseen_whole<R: Threads + Sync>(
-    rt: &R,
-    alloc: Global,
-    default: &Text,
-    items: &ItemIndex<'_>,
-    generated: &[Label],
-) -> Result<bool, AllocError>
-    ensures { IfOk result (λ whole. whole ≡ true → generated.now ≡ targets_of default.now items.now generated.now) }
-{
-    let links = all_links(rt, alloc, items)?;
-    let whole = is_whole_by(rt, alloc, default, items, links.as_slice(), generated);
-    forget(links);
-    whole
-}

@@ -179,18 +179,28 @@ fn those_or<'a>(generated: &'a [Label], others: &'a Option<Vec<Label>>) -> &'a [
     }
 }
 
-// The fault that is told of the targets that are generated and of all that dependencies lead to from them, by what is foreseen of them.
-fn fault_foreseen<'a, R: Threads + Sync>(
+/// What is told of the targets that are generated and of all that dependencies lead to from them.
+#[derive(Drop)]
+pub struct JudgedTargets {
+    /// The fault that is told of them, if there is one.
+    pub fault: Option<Fault>,
+    /// These targets, in label order; None where they are just those that are generated, as it is mostly, and these stand in label order.
+    pub others: Option<Vec<Label>>,
+}
+
+// What is told of them, by what is foreseen of those that are generated.
+fn judge_foreseen<'a, R: Threads + Sync>(
     rt: &R,
     alloc: Global,
     surroundings: Surroundings<'a>,
     items: &'a ItemIndex<'_>,
     foreseen: &Foreseen,
     generated: &[Label],
-) -> Result<Option<Fault>, AllocError>
+) -> Result<JudgedTargets, AllocError>
     requires whole { foreseen.now.is_whole ≡ true → generated.now ≡ targets_of (given surroundings).default items.now generated.now }
     requires settled { AreMarked items.now foreseen.now.settled.marks.items }
-    ensures { IfOk result (λ fault. fault ≡ fault_of_labels (given surroundings.entry) items.now (targets_of (given surroundings.entry).default items.now generated.now)) }
+    ensures fault { IfOk result (λ judged. judged.fault ≡ fault_of_labels (given surroundings.entry) items.now (targets_of (given surroundings.entry).default items.now generated.now)) }
+    ensures others { IfOk result (λ judged. those_or generated.now (option_map (λ targets. targets.items) judged.others) ≡ targets_of (given surroundings.entry).default items.now generated.now) }
 {
     let others = targets_unless_whole(
         alloc,
@@ -200,24 +210,29 @@ fn fault_foreseen<'a, R: Threads + Sync>(
         generated,
     )?;
     let targets = those_or(generated, &others);
-    let fault = fault_of_settled(rt, alloc, surroundings, items, &foreseen.settled, targets);
-    drop(others);
-    fault
+    match fault_of_settled(rt, alloc, surroundings, items, &foreseen.settled, targets) {
+        Ok(fault) => Ok(JudgedTargets { fault, others }),
+        Err(error) => {
+            drop(others);
+            Err(error)
+        }
+    }
 }
 
-/// The fault that is told of the targets that are generated and of all that dependencies lead to from them, as it is told of labels, by
-/// what never changes in the build and the items that it defines. It keeps memory as `fault_of_labels` does.
-pub fn fault_of_generated<'a, R: Threads + Sync>(
+/// What is told of the targets that are generated and of all that dependencies lead to from them: the fault, as it is told of labels, by
+/// what never changes in the build and the items that it defines, and which targets these are. It keeps memory as `fault_of_labels` does.
+pub fn judge_generated<'a, R: Threads + Sync>(
     rt: &R,
     alloc: Global,
     surroundings: Surroundings<'a>,
     items: &'a ItemIndex<'_>,
     generated: &[Label],
-) -> Result<Option<Fault>, AllocError>
-    ensures { IfOk result (λ fault. fault ≡ fault_of_labels (given surroundings.entry) items.now (targets_of (given surroundings.entry).default items.now generated.now)) }
+) -> Result<JudgedTargets, AllocError>
+    ensures fault { IfOk result (λ judged. judged.fault ≡ fault_of_labels (given surroundings.entry) items.now (targets_of (given surroundings.entry).default items.now generated.now)) }
+    ensures others { IfOk result (λ judged. those_or generated.now (option_map (λ targets. targets.items) judged.others) ≡ targets_of (given surroundings.entry).default items.now generated.now) }
 {
     let foreseen = foresee(rt, alloc, surroundings.default, items, generated)?;
-    let fault = fault_foreseen(rt, alloc, surroundings, items, &foreseen, generated);
+    let judged = judge_foreseen(rt, alloc, surroundings, items, &foreseen, generated);
     drop(foreseen);
-    fault
+    judged
 }

@@ -19,7 +19,7 @@ mod told;
 mod tools;
 mod whole;
 
-pub use labels::{fault_of_generated, fault_of_labels};
+pub use labels::{JudgedTargets, fault_of_labels, judge_generated};
 pub use laws::{faultless_targets_can_be_resolved, targets_have_their_dependencies};
 pub use made::made_by;
-pub use reaching::{other_targets, targets_of};
+pub use reaching::targets_of;

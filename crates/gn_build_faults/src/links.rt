@@ -16,7 +16,7 @@ use std::alloc::{AllocError, Global};
 use std::thread::Threads;
 
 // How many items, or labels, a thread takes at once.
-const PIECE: usize = 128;
+const PIECE: usize = 32;
 
 /// Where the items stand that an item depends on: public, private, of data. What no item has stands nowhere.
 #[derive(Drop)]

@@ -4,14 +4,12 @@ ghost use Rattle.std.specs.Prelude.{◌≡◌, true, IfOk, option_map};
 ghost use Rattle.gn_build_faults.specs.Reaching.{targets_of};
 ghost use Rattle.gn_build_faults.specs.Whole.{those_or};
 
-use crate::foreseen::is_foreseen_whole;
 use gn_graph_meant::the_labels_of_items_are_enough;
 use gn_labelled::{ItemIndex, LentGraph};
 use gn_labels::Label;
 use gn_paths::Text;
 use gn_reached::reached;
 use std::alloc::{AllocError, Global};
-use std::thread::Threads;
 
 /// The targets that are generated and all that dependencies lead to from them, in label order, by the items of a build.
 #[tactic(auto, unfolding(crate::specs::Reaching::targets_of))]
@@ -45,20 +43,4 @@ pub(crate) fn targets_unless_whole(
     }
     let targets = targets_of(alloc, default, items, generated)?;
     Ok(Some(targets))
-}
-
-/// The targets that are generated and all that dependencies lead to from them, where these aren't all of them; None where they are,
-/// as it is mostly, and stand in label order. Several threads look for it. The places that are looked up aren't given back to the
-/// allocator: a call keeps that memory until the process ends.
-pub fn other_targets<R: Threads + Sync>(
-    rt: &R,
-    alloc: Global,
-    default: &Text,
-    items: &ItemIndex<'_>,
-    generated: &[Label],
-) -> Result<Option<Vec<Label>>, AllocError>
-    ensures { IfOk result (λ others. those_or generated.now (option_map (λ targets. targets.items) others) ≡ targets_of default.now items.now generated.now) }
-{
-    let is_whole = is_foreseen_whole(rt, alloc, default, items, generated)?;
-    targets_unless_whole(alloc, default, items, is_whole, generated)
 }

@@ -7,6 +7,7 @@ use Rattle.std.specs.declared.cmp.Ordering.TheVariants.{Equal}
 use Rattle.std.specs.Ordering.{nat_cmp}
 use Rattle.std.specs.Cmp.Lexicographic.{slice_cmp}
 use Rattle.std.proofs.lemmas.Cmp.{nat_list_cmp_total, tied_itself}
+use Rattle.gn_faults.specs.declared.fault.Fault.{Fault}
 use Rattle.gn_labels.specs.declared.error.PatternFault.{PatternFault}
 use Rattle.gn_labels.specs.declared.pattern.Pattern.{Pattern}
 use Rattle.gn_outside.specs.Tree.{Tree}
@@ -19,15 +20,15 @@ use Rattle.gn_command_line.specs.Words.{Line}
 use Rattle.gn_top.specs.declared.answered.Answered.{Answered}
 use Rattle.gn_top.specs.declared.answered.RunStop.{RunStop}
 use Rattle.gn_top.specs.declared.answered.RunStop.TheVariants.{CannotRead, Memory}
-use Rattle.gn_top.specs.declared.faultless.Faultless.{Faultless}
+use Rattle.gn_top.specs.declared.building.Build.{Build as BuildCode}
 use Rattle.gn_top.specs.declared.building.BuildEnd.{BuildEnd}
 use Rattle.gn_top.specs.declared.building.BuildEnd.TheVariants as build_end
 use Rattle.gn_top.specs.declared.building.Failure.{Failure as FailureCode}
-use Rattle.gn_top.specs.Stages.{Request, Build}
+use Rattle.gn_top.specs.Stages.{Request, Build, build_failed, graph_judged}
 use Rattle.gn_top.specs.Texts.{done_line}
 use Rattle.gn_top.specs.Said.{Said, Wanted, Labels, Files, build_said, wanted_said, loaded_said, pattern_asked, warning}
 use Rattle.gn_top.specs.Steps.{IsSaying, IfCannotRead}
-use Rattle.gn_top.specs.Building.{faultless_view, SaysEnd, SaysFault, ReadsOf}
+use Rattle.gn_top.specs.Building.{build_view, SaysEnd, SaysFault, ReadsOf}
 
 -- words that say something have a form
 pub has_form : (line : Line) (found : Option Line) → Some line ≡ found → found ≡ None → ⊥
@@ -118,19 +119,31 @@ module _ (before after : SourceState) where
 -- What is said of the end of a build
 
 module _ (wanted : Wanted) (request : Request) where
-  pub built_says : (a : Answered) (build : Faultless) → IsSaying a (wanted_said wanted request (faultless_view build)) → SaysEnd a wanted request (build_end.Built build)
+  pub built_says : (a : Answered) (build : BuildCode) → IsSaying a (loaded_said wanted request (graph_judged (build_view build))) → SaysEnd a wanted request (build_end.Built build)
   built_says a build says meaning is = subst (λ (m : Result Build Failure). IsSaying a (loaded_said wanted request m)) (sym is) says
 
   pub failed_says : (a : Answered) (failure : FailureCode) → SaysFault a failure.fault failure.units → SaysEnd a wanted request (build_end.Failed failure)
   failed_says a failure says meaning (units, is, count) = subst (λ (m : Result Build Failure). IsSaying a (loaded_said wanted request m)) (sym is) (says units count)
 
-  pub built_ends : {E : Type 0} (r : Result Answered E) (end : BuildEnd) (build : Faultless) → end ≡ build_end.Built build → IfOk r (λ a. IsSaying a (wanted_said wanted request (faultless_view build))) → IfOk r (λ a. SaysEnd a wanted request end)
+  pub built_ends : {E : Type 0} (r : Result Answered E) (end : BuildEnd) (build : BuildCode) → end ≡ build_end.Built build → IfOk r (λ a. IsSaying a (loaded_said wanted request (graph_judged (build_view build)))) → IfOk r (λ a. SaysEnd a wanted request end)
   built_ends (Ok a) end build is says = subst (λ (e : BuildEnd). SaysEnd a wanted request e) (sym is) (built_says a build says)
   built_ends (Err e) end build is says = tt
 
   pub failed_ends : {E : Type 0} (r : Result Answered E) (end : BuildEnd) (failure : FailureCode) → end ≡ build_end.Failed failure → IfOk r (λ a. SaysFault a failure.fault failure.units) → IfOk r (λ a. SaysEnd a wanted request end)
   failed_ends (Ok a) end failure is says = subst (λ (e : BuildEnd). SaysEnd a wanted request e) (sym is) (failed_says a failure says)
   failed_ends (Err e) end failure is says = tt
+
+-- what is told of its graph: a fault, or none
+module _ (wanted : Wanted) (request : Request) (build : Build) where
+  pub wrong_said : {E : Type 0} (r : Result Answered E) (fault : Fault) → graph_judged build ≡ build_failed fault (Exactly build.files) → IfOk r (λ a. SaysFault a fault build.files)
+      → IfOk r (λ a. IsSaying a (loaded_said wanted request (graph_judged build)))
+  wrong_said (Ok a) fault is says = subst (λ (m : Result Build Failure). IsSaying a (loaded_said wanted request m)) (sym is) (says (Exactly build.files) refl)
+  wrong_said (Err e) fault is says = tt
+
+  pub right_said : {E : Type 0} (r : Result Answered E) → graph_judged build ≡ Ok build → IfOk r (λ a. IsSaying a (wanted_said wanted request build))
+      → IfOk r (λ a. IsSaying a (loaded_said wanted request (graph_judged build)))
+  right_said (Ok a) is says = subst (λ (m : Result Build Failure). IsSaying a (loaded_said wanted request m)) (sym is) says
+  right_said (Err e) is says = tt
 
 -- whether a pattern is asked for or not
 build_range : (a : Answered) (pattern : Result (Option Pattern) PatternFault) (build : Build) → IsSaying a (build_said pattern build) → a.status ≤ 1
@@ -141,8 +154,12 @@ wanted_range : (a : Answered) (wanted : Wanted) (request : Request) (build : Bui
 wanted_range a (Labels pattern) request build says = build_range a (pattern_asked pattern) build says
 wanted_range a Files request build says = let is = says.status in omega (arith, is)
 
+loaded_range : (a : Answered) (wanted : Wanted) (request : Request) (meaning : Result Build Failure) → IsSaying a (loaded_said wanted request meaning) → a.status ≤ 1
+loaded_range a wanted request (Ok build) says = wanted_range a wanted request build says
+loaded_range a wanted request (Err failure) says = let is = says.status in omega (arith, is)
+
 pub end_range : (a : Answered) (wanted : Wanted) (request : Request) (end : BuildEnd) → SaysEnd a wanted request end → a.status ≤ 1
-end_range a wanted request (build_end.Built build) says = wanted_range a wanted request (faultless_view build) (says (Ok (faultless_view build)) refl)
+end_range a wanted request (build_end.Built build) says = loaded_range a wanted request (graph_judged (build_view build)) (says (graph_judged (build_view build)) refl)
 end_range a wanted request (build_end.Failed failure) says =
     let is = (says (Err (record { fault = failure.fault; units = Exactly failure.units })) (Exactly failure.units, refl, refl)).status in omega (arith, is)
 

@@ -21,7 +21,7 @@ use Rattle.gn_built.specs.declared.built.Built.{Built}
 use Rattle.gn_load.specs.declared.plain.LoadEnd.{LoadEnd}
 use Rattle.gn_load.specs.declared.plain.LoadEnd.TheVariants as load_end
 use Rattle.gn_top.specs.Hosts.{HostTexts}
-use Rattle.gn_top.specs.Stages.{Request, First, Build, first_said, first_paths, configuration_base, files_behind, surroundings_of, without_fault, graph_judged, behind_loading, behind_first, loaded, IsAskedBehind, IsReadFor}
+use Rattle.gn_top.specs.Stages.{Request, First, Build, first_said, first_paths, configuration_base, files_behind, surroundings_of, build_failed, without_fault, graph_judged, behind_loading, behind_first, loaded, IsAskedBehind, IsReadFor}
 use Rattle.gn_top.specs.GraphFaults.{graph_fault}
 use Rattle.gn_top.specs.Steps.{IfCannotRead, CountsFault}
 use Rattle.gn_top.specs.declared.answered.RunStop.{RunStop}
@@ -77,9 +77,8 @@ known_same paths known knows path = (λ one. elim ((knows path).0 one) [ inl non
 
 -- The third stage
 
-pub judged_fault : (build : Build) (fault : Fault) (units : ℕ) → graph_fault (surroundings_of build) build.loaded ≡ Some fault → units ≡ build.files
-    → IsBuild (build_end.Failed (record { fault = fault; units = units })) (graph_judged build)
-judged_fault build fault units is all = (Exactly build.files, ap (without_fault build) is, all)
+pub judged_wrong : (build : Build) (fault : Fault) → graph_fault (surroundings_of build) build.loaded ≡ Some fault → graph_judged build ≡ build_failed fault (Exactly build.files)
+judged_wrong build fault is = ap (without_fault build) is
 
 pub judged_right : (build : Build) → graph_fault (surroundings_of build) build.loaded ≡ None → graph_judged build ≡ Ok build
 judged_right build is = ap (without_fault build) is

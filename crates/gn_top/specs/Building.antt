@@ -18,12 +18,12 @@ use Rattle.gn_answers.specs.declared.answer.FileContent.{FileContent}
 use Rattle.gn_load.specs.declared.plain.LoadEnd.{LoadEnd}
 use Rattle.gn_load.specs.declared.plain.LoadEnd.TheVariants as load_end
 use Rattle.gn_top.specs.Hosts.{HostTexts}
-use Rattle.gn_top.specs.Stages.{Request, First, Build, IsReadFor, configuration_base}
+use Rattle.gn_top.specs.Stages.{Request, First, Build, IsReadFor, configuration_base, graph_judged}
 use Rattle.gn_top.specs.Said.{failure_said, Wanted, Labels, Files, loaded_said}
 use Rattle.gn_top.specs.declared.answer.Wanted.{Wanted as WantedCode}
 use Rattle.gn_top.specs.declared.answer.Wanted.TheVariants as wanted
 use Rattle.gn_top.specs.Steps.{IsSaying, IfCannotRead, CountsFault}
-pub use Rattle.gn_top.specs.Views.{started_view, build_view, shared_view}
+pub use Rattle.gn_top.specs.Views.{started_view, build_view}
 use Rattle.gn_top.specs.declared.answered.Answered.{Answered}
 use Rattle.gn_top.specs.declared.answered.RunStop.{RunStop}
 use Rattle.gn_top.specs.declared.answered.RunStop.TheVariants.{CannotRead, Memory}
@@ -57,7 +57,7 @@ pub record IsStarted (host : HostTexts) (request : Request) (first : First) (kno
   pub read : start.setup.known.entries ≡ known
 
 abbrev pub faultless_view : Faultless → Build
-faultless_view build = shared_view build.build
+faultless_view build = build_view build.build.now
 
 -- the first stage has ended as it means
 abbrev pub IsFirst : FirstEnd → Result First Fault → Type 0
@@ -77,9 +77,9 @@ abbrev pub AreArgumentsEnd : ArgumentsEnd → Result (Table Val × List (List �
 AreArgumentsEnd (arguments_end.Said given prints) meaning = meaning ≡ Ok (given, prints)
 AreArgumentsEnd (arguments_end.Failed fault) meaning = meaning ≡ Err fault
 
--- a build has ended as it means
+-- a build has ended as it means, where its graph is judged
 abbrev pub IsBuild : BuildEnd → Result Build Failure → Type 0
-IsBuild (build_end.Built build) meaning = meaning ≡ Ok (faultless_view build)
+IsBuild (build_end.Built build) meaning = meaning ≡ graph_judged (build_view build)
 IsBuild (build_end.Failed failure) meaning =
     (units : UnitCount) × (meaning ≡ Err (record { fault = failure.fault; units = units })) × IsCount failure.units units
 

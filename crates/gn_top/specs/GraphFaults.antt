@@ -1,5 +1,5 @@
 -- The fault of the graph of a build.
-use Rattle.std.specs.Prelude.{ℕ, Bool, List, [], ◌∷◌, false, true, ◌&&◌, Option, Some, None, map, if◌then◌else◌}
+use Rattle.std.specs.Prelude.{◌≡◌, ℕ, Bool, List, [], ◌∷◌, false, true, ◌&&◌, Option, Some, None, map, if◌then◌else◌}
 use Rattle.std.specs.List.{list_any}
 use Rattle.std.specs.Str.{bytes_eq}
 use Rattle.gn_faults.specs.declared.fault.Fault.{Fault}
@@ -8,6 +8,7 @@ use Rattle.gn_build_faults.specs.Faults.{first_of}
 use Rattle.gn_build_faults.specs.Labels.{fault_of_labels}
 use Rattle.gn_build_faults.specs.Made.{made_by}
 use Rattle.gn_build_faults.specs.Reaching.{targets_of}
+use Rattle.gn_build_faults.specs.Whole.{those_or}
 use Rattle.gn_file_faults.specs.Faults.{Facts, file_fault}
 use Rattle.gn_file_faults.specs.Writes.{Execution}
 use Rattle.gn_items.specs.declared.default_toolchain.DefaultToolchain.{DefaultToolchain}
@@ -19,6 +20,10 @@ use Rattle.gn_toolchains.specs.Toolchains.{Surroundings, is_toolchain}
 -- the targets of which faults are told: those that are generated and all that dependencies lead to from them
 abbrev pub targets_in : Build → List Label
 targets_in build = targets_of build.default (items_of_build build) build.generated
+
+-- these are just those that are generated, or else they stand beside them
+abbrev pub AreTargets : Build → Option (List Label) → Type 0
+AreTargets build others = those_or build.generated others ≡ targets_in build
 
 -- the fault that is told of targets
 unfoldable pub label_fault : Surroundings → Build → Option Fault

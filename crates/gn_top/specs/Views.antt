@@ -1,8 +1,5 @@
 -- A build that was loaded, as its meaning sees it.
 use Rattle.std.specs.Prelude.{◌++◌}
-use Rattle.std.specs.declared.sync.Arc.{Arc}
-use Rattle.std.specs.declared.alloc.Global.{Global}
-use Rattle.std.specs.Arc.{arc_value}
 use Rattle.gn_dotfile.specs.Names.{dotfile_state}
 use Rattle.gn_built.specs.Built.{build_of}
 use Rattle.gn_top.specs.Stages.{First, Build}
@@ -15,6 +12,3 @@ started_view start = record { dotfile = dotfile_state start.setup.dotfile; argum
 
 abbrev pub build_view : BuildCode → Build
 build_view build = record { directory = build.start.setup.build_directory; first = started_view build.start; loaded = build_of build.loaded; files = build.files }
-
-abbrev pub shared_view : Arc BuildCode Global → Build
-shared_view build = build_view (arc_value build)

@@ -1,33 +1,40 @@
 // What a run is to say.
-ghost use Rattle.std.specs.Prelude.{◌≡◌, ◌≤◌, [], ◌∷◌, ◌++◌, map, option_map, IfOk, OnOk, Some};
+ghost use Rattle.std.specs.Prelude.{◌≡◌, ◌≤◌, [], ◌∷◌, ◌++◌, map, option_map, IfOk, OnOk, Some, None};
 ghost use Rattle.std.specs.List.{flat_map};
 ghost use Rattle.gn_outside.specs.Tree.{Tree};
 ghost use Rattle.gn_outside.specs.Lists.{AllDiffer, Each, EachPair};
 ghost use Rattle.gn_outside.specs.Sources.{AllTell, AllTellReads, ReadsOn, IsLeastFailure, joined_reads};
 ghost use Rattle.gn_builds.specs.Driving.{FailsAt};
+ghost use Rattle.gn_build_faults.specs.Whole.{those_or};
+ghost use Rattle.gn_projects.specs.Loaded.{items_of_build};
 ghost use Rattle.gn_command_line.specs.Words.{AreShort, texts};
 ghost use Rattle.gn_top.specs.Words.{HasNoForm};
 ghost use Rattle.gn_top.specs.Hosts.{host_texts};
-ghost use Rattle.gn_top.specs.Said.{said, asked, lines_of, warning, declared_names, warnings_of, answer_said, gen_text, gen_said, line_means, line_asks, pattern_asked, pattern_code, question_fault, build_said, wanted_said, request_said};
+ghost use Rattle.gn_top.specs.GraphFaults.{graph_fault, AreTargets};
+ghost use Rattle.gn_top.specs.Stages.{surroundings_of, graph_judged};
+ghost use Rattle.gn_top.specs.Said.{said, asked, lines_of, warning, declared_names, warnings_of, answer_said, gen_text, gen_said, line_means, line_asks, pattern_asked, pattern_code, question_fault, build_said, wanted_said, loaded_said, request_said};
 ghost use Rattle.gn_top.specs.Steps.{IsSaying, IfCannotRead, CountsFault, AnswersUsage};
 ghost use Rattle.gn_top.specs.Building.{request_view, outer_view, build_view, faultless_view, wanted_view, SaysFault, SaysEnd, ReadsOf, ReadsBuild};
 ghost use Rattle.gn_command_line.specs.Commands.{line_view};
 
 use crate::answered::{Answered, RunStop};
-use crate::building::{Build, BuildEnd, make_build};
+use crate::building::{Build, BuildEnd, make_build, surroundings_of};
 use crate::done::append_done;
 use crate::faultless::Faultless;
 use crate::files::files_put;
 use crate::first::{Outer, Request};
+use crate::graph_faults::{index_of, judge_graph};
 use crate::host::Host;
 use crate::labels::append_labels;
 use crate::texts::{HAS_NO_EFFECT, USAGE, WARNING};
 use gn_args::unused;
+use gn_build_faults::JudgedTargets;
 use gn_command_line::{Command, Line, arguments_are_short, read_words};
 use gn_executions::HostNames;
 use gn_faults::{Code, Fault, Stage};
 use gn_items::Declaration;
-use gn_labels::{Pattern, PatternFault, pattern_meant};
+use gn_labelled::ItemIndex;
+use gn_labels::{Label, Pattern, PatternFault, pattern_meant};
 use gn_out_files::OutFiles;
 use gn_outside::Source;
 use gn_paths::{Path, PathFault, Text, Texts};
@@ -161,11 +168,11 @@ fn gen_answer<R: Threads + Sync>(
     rt: &R,
     alloc: Global,
     request: &Request<'_>,
-    build: &Faultless,
+    build: &Faultless<'_, '_>,
 ) -> Result<Answered, AllocError>
     ensures { IfOk result (λ a. IsSaying a (gen_said (request_view request.now) (faultless_view build.now))) }
 {
-    let text = gen_text(alloc, &build.build)?;
+    let text = gen_text(alloc, build.build)?;
     let files = files_put(rt, alloc, request, build)?;
     Ok(Answered {
         status: 0,
@@ -235,14 +242,102 @@ fn wanted_answer<R: Threads + Sync>(
     alloc: Global,
     wanted: Wanted<'_>,
     request: &Request<'_>,
-    build: &Faultless,
+    build: &Faultless<'_, '_>,
 ) -> Result<Answered, AllocError>
     ensures { IfOk result (λ a. IsSaying a (wanted_said (wanted_view wanted.entry) (request_view request.now) (faultless_view build.now))) }
 {
     match wanted {
-        Wanted::Labels(pattern) => build_answer(alloc, pattern, &build.build),
+        Wanted::Labels(pattern) => build_answer(alloc, pattern, build.build),
         Wanted::Files => gen_answer(rt, alloc, request, build),
     }
+}
+
+// The targets of a build, by those that it generates and by others where these aren't all of them.
+fn those_or<'a>(generated: &'a [Label], others: &'a Option<Vec<Label>>) -> &'a [Label]
+    ensures { result.now ≡ those_or generated.now (option_map (λ targets. targets.items) others.now) }
+{
+    match others {
+        None => generated,
+        Some(targets) => targets.as_slice(),
+    }
+}
+
+// The answer for a build whose graph has no fault, by its items and its targets.
+fn faultless_answer<R: Threads + Sync>(
+    rt: &R,
+    alloc: Global,
+    wanted: Wanted<'_>,
+    request: &Request<'_>,
+    build: &Build,
+    items: &ItemIndex<'_>,
+    others: &Option<Vec<Label>>,
+) -> Result<Answered, AllocError>
+    requires faultless { graph_fault (surroundings_of (build_view build.now)) (build_view build.now).loaded ≡ None }
+    requires items { items.now ≡ items_of_build (build_view build.now).loaded }
+    requires others { AreTargets (build_view build.now).loaded (option_map (λ targets. targets.items) others.now) }
+    ensures { IfOk result (λ a. IsSaying a (wanted_said (wanted_view wanted.entry) (request_view request.now) (build_view build.now))) }
+{
+    let faultless = Faultless {
+        build,
+        items,
+        targets: those_or(build.loaded.generated(), others),
+    };
+    wanted_answer(rt, alloc, wanted, request, &faultless)
+}
+
+// The answer for a build, or for the fault of its graph, by its items and what is told of the graph.
+fn told_answer<R: Threads + Sync>(
+    rt: &R,
+    alloc: Global,
+    wanted: Wanted<'_>,
+    request: &Request<'_>,
+    build: &Build,
+    items: &ItemIndex<'_>,
+    judged: &JudgedTargets,
+) -> Result<Answered, AllocError>
+    requires items { items.now ≡ items_of_build (build_view build.now).loaded }
+    requires fault { judged.now.fault ≡ graph_fault (surroundings_of (build_view build.now)) (build_view build.now).loaded }
+    requires others { judged.now.fault ≡ None → AreTargets (build_view build.now).loaded (option_map (λ targets. targets.items) judged.now.others) }
+    ensures { IfOk result (λ a. IsSaying a (loaded_said (wanted_view wanted.entry) (request_view request.now) (graph_judged (build_view build.now)))) }
+{
+    match &judged.fault {
+        Some(fault) => fault_answer(alloc, fault, build.files),
+        None => faultless_answer(rt, alloc, wanted, request, build, items, &judged.others),
+    }
+}
+
+// The same, by its items.
+fn answer_by_items<R: Threads + Sync>(
+    rt: &R,
+    alloc: Global,
+    wanted: Wanted<'_>,
+    request: &Request<'_>,
+    build: &Build,
+    items: &ItemIndex<'_>,
+) -> Result<Answered, AllocError>
+    requires { items.now ≡ items_of_build (build_view build.now).loaded }
+    ensures { IfOk result (λ a. IsSaying a (loaded_said (wanted_view wanted.entry) (request_view request.now) (graph_judged (build_view build.now)))) }
+{
+    let judged = judge_graph(rt, alloc, surroundings_of(build), &build.loaded, items)?;
+    let answered = told_answer(rt, alloc, wanted, request, build, items, &judged);
+    drop(judged);
+    answered
+}
+
+// The third stage: the answer for a build, or for the fault of its graph.
+fn judged_answer<R: Threads + Sync>(
+    rt: &R,
+    alloc: Global,
+    wanted: Wanted<'_>,
+    request: &Request<'_>,
+    build: &Build,
+) -> Result<Answered, AllocError>
+    ensures { IfOk result (λ a. IsSaying a (loaded_said (wanted_view wanted.entry) (request_view request.now) (graph_judged (build_view build.now)))) }
+{
+    let items = index_of(alloc, &build.loaded)?;
+    let answered = answer_by_items(rt, alloc, wanted, request, build, &items);
+    drop(items);
+    answered
 }
 
 // The answer for a build, or for its fault.
@@ -256,7 +351,7 @@ fn end_answer<R: Threads + Sync>(
     ensures { IfOk result (λ a. SaysEnd a (wanted_view wanted.entry) (request_view request.now) end.now) }
 {
     match end {
-        BuildEnd::Built(build) => wanted_answer(rt, alloc, wanted, request, build),
+        BuildEnd::Built(build) => judged_answer(rt, alloc, wanted, request, build),
         BuildEnd::Failed(failure) => fault_answer(alloc, &failure.fault, failure.units),
     }
 }

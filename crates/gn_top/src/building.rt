@@ -14,12 +14,10 @@ ghost use Rattle.gn_top.specs.Steps.{IfCannotRead, CountsFault};
 ghost use Rattle.gn_top.specs.Hosts.{HostTexts};
 ghost use Rattle.gn_toolchains.specs.Frames.{surroundings as given};
 ghost use Rattle.gn_top.specs.Stages.{Request as Asked, first_paths, configuration_base, surroundings_of, graph_judged, behind_first, loaded};
-ghost use Rattle.gn_top.specs.Building.{request_view, outer_view, first_view, started_view, build_view, shared_view, IsStarted, IsBuild, StopsAs, ReadsBuild, KnowsAlso};
+ghost use Rattle.gn_top.specs.Building.{request_view, outer_view, first_view, started_view, build_view, IsStarted, IsBuild, StopsAs, ReadsBuild, KnowsAlso};
 
 use crate::answered::RunStop;
-use crate::faultless::Faultless;
 use crate::first::{First, FirstEnd, Outer, Request, run_first};
-use crate::graph_faults::graph_fault;
 use gn_bases::{Given, Known, Setup};
 use gn_built::Built;
 use gn_executions::HostNames;
@@ -30,8 +28,6 @@ use gn_paths::{Path, Text, Texts};
 use gn_toolchains::Surroundings;
 use std::alloc::{AllocError, Global};
 use std::collections::BTreeMap;
-use std::mem::forget;
-use std::sync::Arc;
 use std::thread::Threads;
 
 /// What a build is loaded from, and the lines that its build arguments have printed.
@@ -57,10 +53,10 @@ pub(crate) struct Failure {
     pub(crate) units: u64,
 }
 
-/// A build, or its first fault.
+/// A build that was loaded, or the first fault of the stages before its graph.
 #[derive(Drop)]
 pub(crate) enum BuildEnd {
-    Built(Faultless),
+    Built(Build),
     Failed(Failure),
 }
 
@@ -117,51 +113,19 @@ pub(crate) fn surroundings_of(build: &Build) -> Surroundings<'_>
     }
 }
 
-// The third stage: a build, unless it has a fault of its graph. Then the build isn't let go, as `run_one` says.
-fn judge_build<R: Threads + Sync>(
-    rt: &R,
-    alloc: Global,
-    build: Arc<Build>,
-) -> Result<BuildEnd, AllocError>
-    ensures { IfOk result (λ end. IsBuild end (graph_judged (shared_view build))) }
+// A build that was loaded behind a first stage, with so many build files.
+fn end_build(start: Started, built: Built, files: u64) -> BuildEnd
+    ensures { IsBuild result (graph_judged (record { directory = start.setup.build_directory; first = started_view start; loaded = build_of built; files = files })) }
 {
-    let judged: &Build = &build;
-    let units = judged.files;
-    let fault = graph_fault(rt, alloc, surroundings_of(judged), &judged.loaded)?;
-    match fault {
-        Some(fault) => {
-            forget(build);
-            Ok(BuildEnd::Failed(Failure { fault, units }))
-        }
-        None => Ok(BuildEnd::Built(Faultless { build })),
-    }
-}
-
-// The same of what was loaded behind a first stage, of so many build files.
-fn end_build<R: Threads + Sync>(
-    rt: &R,
-    alloc: Global,
-    start: Started,
-    built: Built,
-    files: u64,
-) -> Result<BuildEnd, AllocError>
-    ensures { IfOk result (λ end. IsBuild end (graph_judged (record { directory = start.setup.build_directory; first = started_view start; loaded = build_of built; files = files }))) }
-{
-    let build = Build {
+    BuildEnd::Built(Build {
         start,
         loaded: built,
         files,
-    };
-    judge_build(rt, alloc, Arc::new(alloc, build)?)
+    })
 }
 
 // What is made of a build that was loaded behind the first stage.
-fn behind_loading<R: Threads + Sync>(
-    rt: &R,
-    alloc: Global,
-    start: Started,
-    plain: Plain,
-) -> Result<BuildEnd, RunStop>
+fn behind_loading(start: Started, plain: Plain) -> Result<BuildEnd, RunStop>
     ensures meaning { IfOk result (λ end. (tree : Tree) (host : HostTexts) (request : Asked) → start.setup.build_directory ≡ request.directory →
         IsEndOf (configuration_base host request (started_view start)) (first_paths host request tree) tree plain.end plain.units →
         IsBuild end (behind_first host request tree (Ok (started_view start)))) }
@@ -169,7 +133,7 @@ fn behind_loading<R: Threads + Sync>(
 {
     let Plain { end, units } = plain;
     match end {
-        LoadEnd::Built(built) => Ok(end_build(rt, alloc, start, built, units)?),
+        LoadEnd::Built(built) => Ok(end_build(start, built, units)),
         LoadEnd::Wrong(fault) => Ok(BuildEnd::Failed(Failure { fault, units })),
         LoadEnd::Failed(path) => Err(RunStop::CannotRead(path)),
         LoadEnd::Memory => Err(RunStop::Memory),
@@ -191,10 +155,10 @@ fn load_build<R: Threads + Sync, S: Source>(
     ensures failure { IfCannotRead result (λ path. FailsAt path (S.state source.old) (S.state source.new)) }
 {
     let plain = load_ahead(rt, alloc, &start.setup, source);
-    behind_loading(rt, alloc, start, plain)
+    behind_loading(start, plain)
 }
 
-/// Makes a build from what its source has: stage after stage, as far as there is no fault.
+/// Makes a build from what its source has: stage after stage, as far as there is no fault. Its graph is judged where it is asked for.
 pub(crate) fn make_build<R: Threads + Sync, S: Source>(
     rt: &R,
     alloc: Global,

@@ -1,17 +1,26 @@
 // A build whose graph has no fault.
 
 ghost use Rattle.std.specs.Prelude.{◌≡◌, None};
-ghost use Rattle.gn_top.specs.GraphFaults.{graph_fault};
+ghost use Rattle.gn_projects.specs.Loaded.{items_of_build};
+ghost use Rattle.gn_top.specs.GraphFaults.{graph_fault, targets_in};
 ghost use Rattle.gn_top.specs.Stages.{surroundings_of};
-ghost use Rattle.gn_top.specs.Views.{shared_view};
+ghost use Rattle.gn_top.specs.Views.{build_view};
 
 use crate::building::Build;
-use std::sync::Arc;
+use gn_labelled::ItemIndex;
+use gn_labels::Label;
 
-/// A build whose graph has no fault. It is shared, so that a call that passes it on doesn't let all of its parts go.
-#[derive(Drop)]
-pub(crate) struct Faultless {
-    pub(crate) build: Arc<Build>,
+/// A build whose graph has no fault, with what was made to find that out.
+#[derive(Clone, Copy)]
+pub(crate) struct Faultless<'a, 'b> {
+    /// The build.
+    pub(crate) build: &'a Build,
+    /// Its items.
+    pub(crate) items: &'a ItemIndex<'b>,
+    /// The targets that it generates and all that dependencies lead to from them.
+    pub(crate) targets: &'a [Label],
 
-    ghost faultless: { graph_fault (surroundings_of (shared_view build)) (shared_view build).loaded ≡ None },
+    ghost faultless: { graph_fault (surroundings_of (build_view build.now)) (build_view build.now).loaded ≡ None },
+    ghost indexed: { items.now ≡ items_of_build (build_view build.now).loaded },
+    ghost reached: { targets.now ≡ targets_in (build_view build.now).loaded },
 }

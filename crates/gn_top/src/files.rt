@@ -111,12 +111,12 @@ fn files_made<R: Threads + Sync>(
     rt: &R,
     alloc: Global,
     request: &Request<'_>,
-    build: &Faultless,
+    build: &Faultless<'_, '_>,
 ) -> Result<Vec<OutFile>, AllocError>
     ensures { IfOk result (λ files. map put_of files.items ≡ files_made (request_view request.now) (faultless_view build.now)) }
 {
     let mut files = ninja_files(rt, alloc, build)?;
-    append_written(alloc, &mut files, &build.build)?;
+    append_written(alloc, &mut files, build.build)?;
     append_arguments(alloc, &mut files, request)?;
     Ok(files)
 }
@@ -127,7 +127,7 @@ pub(crate) fn files_put<R: Threads + Sync>(
     rt: &R,
     alloc: Global,
     request: &Request<'_>,
-    build: &Faultless,
+    build: &Faultless<'_, '_>,
 ) -> Result<OutFiles, AllocError>
     ensures { IfOk result (λ files. files ≡ files_put (request_view request.now) (faultless_view build.now)) }
 {

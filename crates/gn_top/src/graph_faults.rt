@@ -1,6 +1,6 @@
 // The faults of the graph of a build: those of its files, and then those of its targets.
 
-ghost use Rattle.std.specs.Prelude.{◌≡◌, IfOk, map, option_map};
+ghost use Rattle.std.specs.Prelude.{◌≡◌, IfOk, None, map, option_map};
 ghost use Rattle.std.specs.List.{list_any};
 ghost use Rattle.gn_labelled.specs.Index.{lent};
 ghost use Rattle.gn_projects.specs.Loaded.{declared_by_build, items_of_build, default_named};
@@ -9,9 +9,9 @@ ghost use Rattle.gn_built.specs.Files.{files_of};
 ghost use Rattle.gn_file_faults.specs.Faults.{file_fault as least_of_files};
 ghost use Rattle.gn_file_faults.specs.Writes.{execution_of};
 ghost use Rattle.gn_toolchains.specs.Frames.{surroundings as given};
-ghost use Rattle.gn_top.specs.GraphFaults.{defines, is_defined, execution_in, has_some, has_written, made_where, fault_of_files as files_fault_meant, label_fault as label_fault_meant, graph_fault};
+ghost use Rattle.gn_top.specs.GraphFaults.{defines, is_defined, execution_in, has_some, has_written, made_where, fault_of_files as files_fault_meant, label_fault, graph_fault, AreTargets};
 
-use gn_build_faults::{fault_of_generated, made_by};
+use gn_build_faults::{JudgedTargets, judge_generated, made_by};
 use gn_built::{Built, WrittenFiles};
 use gn_faults::Fault;
 use gn_file_faults::{FileFacts, FilesWritten, file_fault};
@@ -190,61 +190,49 @@ fn fault_of_files<'a>(
     )
 }
 
-// The fault that is told of the targets of a build, if there is one, by its items.
-#[tactic(auto, unfolding(crate::specs::GraphFaults::label_fault))]
-fn label_fault<'a, R: Threads + Sync>(
+// What is told of the targets of a build, by its items.
+fn judge_targets<'a, R: Threads + Sync>(
     rt: &R,
     alloc: Global,
     surroundings: Surroundings<'a>,
     built: &Built,
     items: &'a ItemIndex<'_>,
-) -> Result<Option<Fault>, AllocError>
+) -> Result<JudgedTargets, AllocError>
     requires default { (given surroundings).default ≡ (build_of built.now).default }
     requires items { items.now ≡ items_of_build (build_of built.now) }
-    ensures { IfOk result (λ fault. fault ≡ label_fault_meant (given surroundings.entry) (build_of built.now)) }
+    ensures fault { IfOk result (λ judged. judged.fault ≡ label_fault (given surroundings.entry) (build_of built.now)) }
+    ensures others { IfOk result (λ judged. AreTargets (build_of built.now) (option_map (λ targets. targets.items) judged.others)) }
 {
-    fault_of_generated(rt, alloc, surroundings, items, built.generated())
+    judge_generated(rt, alloc, surroundings, items, built.generated())
 }
 
-// The fault of the graph of a build, if there is one, by its items.
-fn fault_by_items<'a, R: Threads + Sync>(
+/// What is told of the graph of a build, by its items: the faults of its files stand before those of its targets. No fault comes exactly
+/// where it has none.
+pub(crate) fn judge_graph<'a, R: Threads + Sync>(
     rt: &R,
     alloc: Global,
     surroundings: Surroundings<'a>,
     built: &Built,
     items: &'a ItemIndex<'_>,
-) -> Result<Option<Fault>, AllocError>
+) -> Result<JudgedTargets, AllocError>
     requires default { (given surroundings).default ≡ (build_of built.now).default }
     requires items { items.now ≡ items_of_build (build_of built.now) }
-    ensures { IfOk result (λ fault. fault ≡ graph_fault (given surroundings.entry) (build_of built.now)) }
+    ensures fault { IfOk result (λ judged. judged.fault ≡ graph_fault (given surroundings.entry) (build_of built.now)) }
+    ensures others { IfOk result (λ judged. judged.fault ≡ None → AreTargets (build_of built.now) (option_map (λ targets. targets.items) judged.others)) }
 {
     match fault_of_files(alloc, surroundings, built, items)? {
-        Some(fault) => Ok(Some(fault)),
-        None => label_fault(rt, alloc, surroundings, built, items),
+        Some(fault) => Ok(JudgedTargets {
+            fault: Some(fault),
+            others: None,
+        }),
+        None => judge_targets(rt, alloc, surroundings, built, items),
     }
 }
 
-// The items of a build by their labels.
-fn index_of(alloc: Global, built: &Built) -> Result<ItemIndex<'_>, AllocError>
+/// The items of a build by their labels.
+pub(crate) fn index_of(alloc: Global, built: &Built) -> Result<ItemIndex<'_>, AllocError>
     ensures { IfOk result (λ items. items ≡ items_of_build (build_of built.now)) }
 {
     let items = built.items(alloc)?;
     ItemIndex::of(alloc, items.as_slice())
-}
-
-/// The fault of the graph of a build that was loaded: those of its files stand before those of its targets. None comes exactly where it
-/// has none.
-pub(crate) fn graph_fault<'a, R: Threads + Sync>(
-    rt: &R,
-    alloc: Global,
-    surroundings: Surroundings<'a>,
-    built: &'a Built,
-) -> Result<Option<Fault>, AllocError>
-    requires { (given surroundings).default ≡ (build_of built.now).default }
-    ensures { IfOk result (λ fault. fault ≡ graph_fault (given surroundings.entry) (build_of built.now)) }
-{
-    let items = index_of(alloc, built)?;
-    let fault = fault_by_items(rt, alloc, surroundings, built, &items);
-    drop(items);
-    fault
 }
