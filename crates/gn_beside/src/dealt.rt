@@ -9,13 +9,16 @@ use std::alloc::{AllocError, Global};
 use std::sync::atomic::{AtomicUsize, Ordering};
 use std::thread::Threads;
 
-// How many pieces are worth a thread of their own.
-const LEAST_PIECES: usize = 8;
+// From how many pieces on threads pay.
+const LEAST_PIECES: usize = 48;
 
-// How many threads pay at most for so many places. One alone doesn't: it would often begin once all is made.
+// How many pieces are worth a thread of their own.
+const PIECES_OF_A_THREAD: usize = 8;
+
+// How many threads pay at most for so many places: none for few of them, and never one alone, which would often begin once all is made.
 fn most_threads(count: usize, piece: usize) -> usize {
     match count.checked_div(piece) {
-        Some(pieces) if pieces >= 2 * LEAST_PIECES => pieces / LEAST_PIECES,
+        Some(pieces) if pieces >= LEAST_PIECES => pieces / PIECES_OF_A_THREAD,
         _ => 0,
     }
 }

@@ -17,7 +17,7 @@ use std::alloc::{AllocError, Global};
 use std::thread::Threads;
 
 // How many files a thread takes at once.
-const FILES_AT_ONCE: usize = 16;
+const FILES_AT_ONCE: usize = 8;
 
 /// What the file of a target is made of: no more than threads need to know.
 #[derive(Clone, Copy)]

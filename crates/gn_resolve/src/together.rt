@@ -20,7 +20,7 @@ use std::alloc::{AllocError, Global};
 use std::thread::Threads;
 
 // How many targets a thread takes at once.
-const PIECE: usize = 4;
+const PIECE: usize = 2;
 
 // What is kept of a target, with its label.
 fn labelled_entry(
