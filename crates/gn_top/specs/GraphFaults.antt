@@ -21,7 +21,7 @@ use Rattle.gn_toolchains.specs.Toolchains.{Surroundings, is_toolchain}
 abbrev pub targets_in : Build → List Label
 targets_in build = targets_of build.default (items_of_build build) build.generated
 
--- these are just those that are generated, or else they stand beside them
+-- they are these, where some are given, and else just those that are generated
 abbrev pub AreTargets : Build → Option (List Label) → Type 0
 AreTargets build others = those_or build.generated others ≡ targets_in build
 
