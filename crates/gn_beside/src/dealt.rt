@@ -10,10 +10,10 @@ use std::sync::atomic::{AtomicUsize, Ordering};
 use std::thread::Threads;
 
 // From how many pieces on threads pay.
-const LEAST_PIECES: usize = 48;
+const LEAST_PIECES: usize = 12;
 
 // How many pieces are worth a thread of their own.
-const PIECES_OF_A_THREAD: usize = 8;
+const PIECES_OF_A_THREAD: usize = 6;
 
 // How many threads pay at most for so many places: none for few of them, and never one alone, which would often begin once all is made.
 fn most_threads(count: usize, piece: usize) -> usize {
