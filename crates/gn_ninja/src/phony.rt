@@ -21,37 +21,30 @@ pub(crate) struct Claim {
 }
 
 // Puts a claim before the names that are given.
-fn give(
-    alloc: Global,
-    named: &mut BTreeMap<Text, Text>,
-    taken: &Names,
-    claim: &Claim,
-) -> Result<(), AllocError>
-    ensures { OnOk result (named.new.entries ≡ with_claim taken.now claim.now named.old.entries) }
+fn give(named: &mut BTreeMap<Text, Text>, taken: &Names, claim: Claim) -> Result<(), AllocError>
+    ensures { OnOk result (named.new.entries ≡ with_claim taken.now claim named.old.entries) }
 {
     if !is_missing(taken, &claim.name) {
+        drop(claim);
         return Ok(());
     }
-    let name = claim.name.copy(alloc)?;
-    let done = claim.done.copy(alloc)?;
-    named.insert(name, done)?;
+    let Claim { name, done } = claim;
+    let _later = named.insert(name, done)?;
     Ok(())
 }
 
 // Gives each name that isn't taken to its first claim.
-#[tactic(auto, using(crate::proofs::LastClaims::one_claim_more))]
 fn winners(
     alloc: Global,
     taken: &Names,
-    claims: &[Claim],
+    claims: Vec<Claim>,
 ) -> Result<BTreeMap<Text, Text>, AllocError>
-    ensures { IfOk result (λ named. named.entries ≡ winners taken.now claims.now) }
+    ensures { IfOk result (λ named. named.entries ≡ winners taken.now claims.items) }
 {
+    let mut claims = claims;
     let mut named = BTreeMap::new(alloc);
-    let mut left = claims.len();
-    while left > 0 {
-        left -= 1;
-        give(alloc, &mut named, taken, &claims[left])?;
+    while let Some(claim) = claims.pop() {
+        give(&mut named, taken, claim)?;
     }
     Ok(named)
 }
@@ -113,9 +106,9 @@ pub(crate) fn append_phonies(
     alloc: Global,
     text: &mut Vec<u8>,
     taken: &Names,
-    claims: &[Claim],
+    claims: Vec<Claim>,
 ) -> Result<(), AllocError>
-    ensures { OnOk result (text.new.items ≡ with_block text.old.items (phony_block taken.now claims.now)) }
+    ensures { OnOk result (text.new.items ≡ with_block text.old.items (phony_block taken.now claims.items)) }
 {
     let named = winners(alloc, taken, claims)?;
     append_winners(alloc, text, &named)

@@ -110,9 +110,9 @@ fn append_blocks(
     text: &mut Vec<u8>,
     root: &Root,
     taken: &Names,
-    claims: &[Claim],
+    claims: Vec<Claim>,
 ) -> Result<(), AllocError>
-    ensures { OnOk result (text.new.items ≡ with_blocks text.old.items (root_blocks (root_of root.now) taken.now claims.now)) }
+    ensures { OnOk result (text.new.items ≡ with_blocks text.old.items (root_blocks (root_of root.now) taken.now claims.items)) }
 {
     append_version(alloc, text)?;
     append_pools(alloc, text, root.pools.as_slice())?;
@@ -136,5 +136,5 @@ pub fn append_root(
 {
     let taken = taken_by(alloc, targets)?;
     let claims = claims_of(alloc, claimants)?;
-    append_blocks(alloc, text, root, &taken, claims.as_slice())
+    append_blocks(alloc, text, root, &taken, claims)
 }
