@@ -1,5 +1,5 @@
 // What a run is to say.
-ghost use Rattle.std.specs.Prelude.{◌≡◌, ◌≤◌, [], ◌∷◌, ◌++◌, map, option_map, IfOk, OnOk, Some, None};
+ghost use Rattle.std.specs.Prelude.{◌≡◌, ◌≤◌, [], ◌∷◌, ◌++◌, length, map, option_map, IfOk, OnOk, Some, None};
 ghost use Rattle.std.specs.List.{flat_map};
 ghost use Rattle.gn_outside.specs.Tree.{Tree};
 ghost use Rattle.gn_outside.specs.Lists.{AllDiffer, Each, EachPair};
@@ -7,6 +7,7 @@ ghost use Rattle.gn_outside.specs.Sources.{AllTell, AllTellReads, ReadsOn, IsLea
 ghost use Rattle.gn_builds.specs.Driving.{FailsAt};
 ghost use Rattle.gn_build_faults.specs.Whole.{those_or};
 ghost use Rattle.gn_projects.specs.Loaded.{items_of_build};
+ghost use Rattle.gn_built.specs.Files.{paths_lent};
 ghost use Rattle.gn_command_line.specs.Words.{AreShort, texts};
 ghost use Rattle.gn_top.specs.Words.{HasNoForm};
 ghost use Rattle.gn_top.specs.Hosts.{host_texts};
@@ -153,13 +154,13 @@ fn listed_answer(
 }
 
 // The lines printed, the warnings, and how many targets are generated from how many build files.
-fn gen_text(alloc: Global, build: &Build) -> Result<Vec<u8>, AllocError>
-    ensures { IfOk result (λ text. text.items ≡ gen_text (build_view build.now)) }
+fn gen_text(alloc: Global, build: &Faultless<'_, '_>) -> Result<Vec<u8>, AllocError>
+    ensures { IfOk result (λ text. text.items ≡ gen_text (faultless_view build.now)) }
 {
     let mut text = Vec::new(alloc);
-    append_printed(&mut text, build)?;
-    append_warnings(alloc, &mut text, build)?;
-    append_done(alloc, &mut text, build)?;
+    append_printed(&mut text, build.build)?;
+    append_warnings(alloc, &mut text, build.build)?;
+    append_done(&mut text, build)?;
     Ok(text)
 }
 
@@ -172,7 +173,7 @@ fn gen_answer<R: Threads + Sync>(
 ) -> Result<Answered, AllocError>
     ensures { IfOk result (λ a. IsSaying a (gen_said (request_view request.now) (faultless_view build.now))) }
 {
-    let text = gen_text(alloc, build.build)?;
+    let text = gen_text(alloc, build)?;
     let files = files_put(rt, alloc, request, build)?;
     Ok(Answered {
         status: 0,
@@ -262,7 +263,7 @@ fn those_or<'a>(generated: &'a [Label], others: &'a Option<Vec<Label>>) -> &'a [
     }
 }
 
-// The answer for a build whose graph has no fault, by its items and its targets.
+// The answer for a build whose graph has no fault, by its items, its targets, and how many build files are loaded.
 fn faultless_answer<R: Threads + Sync>(
     rt: &R,
     alloc: Global,
@@ -271,21 +272,24 @@ fn faultless_answer<R: Threads + Sync>(
     build: &Build,
     items: &ItemIndex<'_>,
     others: &Option<Vec<Label>>,
+    loaded: usize,
 ) -> Result<Answered, AllocError>
     requires faultless { graph_fault (surroundings_of (build_view build.now)) (build_view build.now).loaded ≡ None }
     requires items { items.now ≡ items_of_build (build_view build.now).loaded }
     requires others { AreTargets (build_view build.now).loaded (option_map (λ targets. targets.items) others.now) }
+    requires loaded { loaded ≡ length (build_view build.now).loaded.loaded }
     ensures { IfOk result (λ a. IsSaying a (wanted_said (wanted_view wanted.entry) (request_view request.now) (build_view build.now))) }
 {
     let faultless = Faultless {
         build,
         items,
         targets: those_or(build.loaded.generated(), others),
+        loaded,
     };
     wanted_answer(rt, alloc, wanted, request, &faultless)
 }
 
-// The answer for a build, or for the fault of its graph, by its items and what is told of the graph.
+// The answer for a build, or for the fault of its graph, by its items, what is told of the graph, and how many build files are loaded.
 fn told_answer<R: Threads + Sync>(
     rt: &R,
     alloc: Global,
@@ -294,19 +298,30 @@ fn told_answer<R: Threads + Sync>(
     build: &Build,
     items: &ItemIndex<'_>,
     judged: &JudgedTargets,
+    loaded: usize,
 ) -> Result<Answered, AllocError>
     requires items { items.now ≡ items_of_build (build_view build.now).loaded }
     requires fault { judged.now.fault ≡ graph_fault (surroundings_of (build_view build.now)) (build_view build.now).loaded }
     requires others { judged.now.fault ≡ None → AreTargets (build_view build.now).loaded (option_map (λ targets. targets.items) judged.now.others) }
+    requires loaded { loaded ≡ length (build_view build.now).loaded.loaded }
     ensures { IfOk result (λ a. IsSaying a (loaded_said (wanted_view wanted.entry) (request_view request.now) (graph_judged (build_view build.now)))) }
 {
     match &judged.fault {
         Some(fault) => fault_answer(alloc, fault, build.files),
-        None => faultless_answer(rt, alloc, wanted, request, build, items, &judged.others),
+        None => faultless_answer(
+            rt,
+            alloc,
+            wanted,
+            request,
+            build,
+            items,
+            &judged.others,
+            loaded,
+        ),
     }
 }
 
-// The same, by its items.
+// The same, by its items and the build files that are loaded.
 fn answer_by_items<R: Threads + Sync>(
     rt: &R,
     alloc: Global,
@@ -314,12 +329,30 @@ fn answer_by_items<R: Threads + Sync>(
     request: &Request<'_>,
     build: &Build,
     items: &ItemIndex<'_>,
+    loaded: &[&Path],
 ) -> Result<Answered, AllocError>
-    requires { items.now ≡ items_of_build (build_view build.now).loaded }
+    requires items { items.now ≡ items_of_build (build_view build.now).loaded }
+    requires loaded { paths_lent loaded.now ≡ (build_view build.now).loaded.loaded }
     ensures { IfOk result (λ a. IsSaying a (loaded_said (wanted_view wanted.entry) (request_view request.now) (graph_judged (build_view build.now)))) }
 {
-    let judged = judge_graph(rt, alloc, surroundings_of(build), &build.loaded, items)?;
-    let answered = told_answer(rt, alloc, wanted, request, build, items, &judged);
+    let judged = judge_graph(
+        rt,
+        alloc,
+        surroundings_of(build),
+        &build.loaded,
+        items,
+        loaded,
+    )?;
+    let answered = told_answer(
+        rt,
+        alloc,
+        wanted,
+        request,
+        build,
+        items,
+        &judged,
+        loaded.len(),
+    );
     drop(judged);
     answered
 }
@@ -334,8 +367,9 @@ fn judged_answer<R: Threads + Sync>(
 ) -> Result<Answered, AllocError>
     ensures { IfOk result (λ a. IsSaying a (loaded_said (wanted_view wanted.entry) (request_view request.now) (graph_judged (build_view build.now)))) }
 {
+    let loaded = build.loaded.loaded_files(alloc)?;
     let items = index_of(alloc, &build.loaded)?;
-    let answered = answer_by_items(rt, alloc, wanted, request, build, &items);
+    let answered = answer_by_items(rt, alloc, wanted, request, build, &items, loaded.as_slice());
     drop(items);
     answered
 }

@@ -2,12 +2,12 @@
 
 ghost use Rattle.std.specs.Prelude.{◌≡◌, ◌++◌, OnOk, decimal, length};
 ghost use Rattle.gn_top.specs.Texts.{done_line};
-ghost use Rattle.gn_top.specs.Building.{build_view};
+ghost use Rattle.gn_top.specs.Building.{faultless_view};
 
-use crate::building::Build;
+use crate::faultless::Faultless;
 use crate::texts::{DONE, FILES, TARGETS_FROM};
 use itoa::Buffer;
-use std::alloc::{AllocError, Global};
+use std::alloc::AllocError;
 
 // Puts a text and a number behind it at the end.
 fn append_count(text: &mut Vec<u8>, before: &[u8], number: usize) -> Result<(), AllocError>
@@ -29,13 +29,8 @@ fn append_line(text: &mut Vec<u8>, targets: usize, files: usize) -> Result<(), A
 }
 
 /// Puts the last line of a build at the end: how many targets it generates, from how many build files.
-pub(crate) fn append_done(
-    alloc: Global,
-    text: &mut Vec<u8>,
-    build: &Build,
-) -> Result<(), AllocError>
-    ensures { OnOk result (text.new.items ≡ text.old.items ++ done_line (length (build_view build.now).loaded.generated) (length (build_view build.now).loaded.loaded)) }
+pub(crate) fn append_done(text: &mut Vec<u8>, build: &Faultless<'_, '_>) -> Result<(), AllocError>
+    ensures { OnOk result (text.new.items ≡ text.old.items ++ done_line (length (faultless_view build.now).loaded.generated) (length (faultless_view build.now).loaded.loaded)) }
 {
-    let files = build.loaded.loaded_files(alloc)?.len();
-    append_line(text, build.loaded.generated().len(), files)
+    append_line(text, build.build.loaded.generated().len(), build.loaded)
 }

@@ -5,7 +5,7 @@ ghost use Rattle.std.specs.List.{list_any};
 ghost use Rattle.gn_labelled.specs.Index.{lent};
 ghost use Rattle.gn_projects.specs.Loaded.{declared_by_build, items_of_build, default_named};
 ghost use Rattle.gn_built.specs.Built.{build_of};
-ghost use Rattle.gn_built.specs.Files.{files_of};
+ghost use Rattle.gn_built.specs.Files.{files_of, paths_lent};
 ghost use Rattle.gn_file_faults.specs.Faults.{file_fault as least_of_files};
 ghost use Rattle.gn_file_faults.specs.Writes.{execution_of};
 ghost use Rattle.gn_toolchains.specs.Frames.{surroundings as given};
@@ -109,14 +109,14 @@ fn made_where<'a>(
 struct Lists<'a> {
     declarations: &'a [&'a Declaration],
     executions: &'a [FilesWritten<'a>],
-    loaded: &'a [&'a Path],
     imported: &'a [&'a Path],
 }
 
-// The least fault of files by these lists, where targets make these paths.
+// The least fault of files by these lists, where these build files are loaded and targets make these paths.
 fn fault_by<'a>(
     alloc: Global,
     lists: Lists<'a>,
+    loaded: &[&Path],
     default: Option<&'a DefaultToolchain>,
     is_toolchain: bool,
     made: &'a IndexSet<Text>,
@@ -129,7 +129,7 @@ fn fault_by<'a>(
       executions = map execution_of lists.entry.executions.now;
       made = made.now.keys;
       build = build.now;
-      loaded = map (λ p. p.now) lists.entry.loaded.now;
+      loaded = map (λ p. p.now) loaded.now;
       imported = map (λ p. p.now) lists.entry.imported.now;
     })) }
 {
@@ -142,26 +142,27 @@ fn fault_by<'a>(
             executions: lists.executions,
             made,
             build,
-            loaded: lists.loaded,
+            loaded,
             imported: lists.imported,
         },
     )
 }
 
-// The least fault of the files of a build, if there is one, by its items.
+// The least fault of the files of a build, if there is one, by its items and the build files that are loaded.
 #[tactic(auto, unfolding(crate::specs::GraphFaults::fault_of_files))]
 fn fault_of_files<'a>(
     alloc: Global,
     surroundings: Surroundings<'a>,
     built: &Built,
     items: &'a ItemIndex<'_>,
+    loaded: &[&Path],
 ) -> Result<Option<Fault>, AllocError>
     requires default { (given surroundings).default ≡ (build_of built.now).default }
     requires items { items.now ≡ items_of_build (build_of built.now) }
+    requires loaded { paths_lent loaded.now ≡ (build_of built.now).loaded }
     ensures { IfOk result (λ fault. fault ≡ files_fault_meant (given surroundings.entry) (build_of built.now)) }
 {
     let declarations = built.declarations(alloc)?;
-    let loaded = built.loaded_files(alloc)?;
     let imported = built.imported_files(alloc)?;
     let written = built.written(alloc)?;
     let executions = executions_of(alloc, written.as_slice())?;
@@ -175,7 +176,6 @@ fn fault_of_files<'a>(
     let lists = Lists {
         declarations: declarations.as_slice(),
         executions: executions.as_slice(),
-        loaded: loaded.as_slice(),
         imported: imported.as_slice(),
     };
     let default = built.default_named();
@@ -183,6 +183,7 @@ fn fault_of_files<'a>(
     fault_by(
         alloc,
         lists,
+        loaded,
         default,
         is_toolchain,
         &made,
@@ -206,21 +207,23 @@ fn judge_targets<'a, R: Threads + Sync>(
     judge_generated(rt, alloc, surroundings, items, built.generated())
 }
 
-/// What is told of the graph of a build, by its items: the faults of its files stand before those of its targets. No fault comes exactly
-/// where it has none.
+/// What is told of the graph of a build, by its items and the build files that are loaded: the faults of its files stand before those of
+/// its targets. No fault comes exactly where it has none.
 pub(crate) fn judge_graph<'a, R: Threads + Sync>(
     rt: &R,
     alloc: Global,
     surroundings: Surroundings<'a>,
     built: &Built,
     items: &'a ItemIndex<'_>,
+    loaded: &[&Path],
 ) -> Result<JudgedTargets, AllocError>
     requires default { (given surroundings).default ≡ (build_of built.now).default }
     requires items { items.now ≡ items_of_build (build_of built.now) }
+    requires loaded { paths_lent loaded.now ≡ (build_of built.now).loaded }
     ensures fault { IfOk result (λ judged. judged.fault ≡ graph_fault (given surroundings.entry) (build_of built.now)) }
     ensures others { IfOk result (λ judged. judged.fault ≡ None → AreTargets (build_of built.now) (option_map (λ targets. targets.items) judged.others)) }
 {
-    match fault_of_files(alloc, surroundings, built, items)? {
+    match fault_of_files(alloc, surroundings, built, items, loaded)? {
         Some(fault) => Ok(JudgedTargets {
             fault: Some(fault),
             others: None,

@@ -17,8 +17,7 @@ returns c =
     c.in_ok-made.ensures
     ∙ ap (λ es. made_where (surroundings c.args.surroundings) c.args.items.now (map execution_of es) c.generated.result.now) c.as_slice-2.ensures.value
     ∙ (λ i. made_where (surroundings c.args.surroundings) (c.requires.items i) (written i) (c.generated.ensures i)) in
-    let loaded = ap paths_lent c.as_slice-5.ensures.value ∙ c.in_ok-loaded.ensures in
-    let imported = ap paths_lent c.as_slice-6.ensures.value ∙ c.in_ok-imported.ensures in
+    let imported = ap paths_lent c.as_slice-5.ensures.value ∙ c.in_ok-imported.ensures in
     let listed = c.items.ensures ∙ c.requires.items in
     let defined = c.is_defined-is_toolchain.ensures ∙ (λ i. is_defined (c.requires.default i) (listed i) (c.default_named-default.ensures i)) in
     if_ok c.fault_by.result
@@ -29,7 +28,7 @@ returns c =
       executions = executions i;
       made = made i;
       build = (surroundings c.args.surroundings).build;
-      loaded = loaded i;
+      loaded = c.requires.loaded i;
       imported = imported i;
     })))
     c.fault_by.ensures
