@@ -222,6 +222,26 @@ many every
 run "$folder/every" gen out
 expect "many files" 0 $'Done. Made 402 targets from 3 files\n'
 
+# Of many files two don't hold what they are to hold: only these are written.
+find "$folder/every/out" -type f -exec touch -d 2001-02-03 {} +
+cp -r "$folder/every/out" "$folder/every_whole"
+tr b-y c-z <"$folder/every_whole/obj/g200.ninja" >"$folder/every/out/obj/g200.ninja" && rm "$folder/every/out/obj/g100.ninja"
+touch -d 2001-02-03 "$folder/every/out/obj/g200.ninja"
+run "$folder/every" gen out
+out=$out$(cd "$folder/every/out" && find . -type f -newer "$folder/mark" | LC_ALL=C sort)$(diff -r "$folder/every/out" "$folder/every_whole")
+expect "two of many files" 0 $'Done. Made 402 targets from 3 files\n./obj/g100.ninja\n./obj/g200.ninja'
+
+# A file has two names, and both are written: it holds what is put last, also where it held that before.
+project names
+mkdir -p "$folder/names/out/a"
+ln -s a "$folder/names/out/b"
+printf 'group("g") {\n}\nwrite_file("//out/a/x", "one")\nwrite_file("//out/b/x", "two")\n' >"$folder/names/BUILD.gn"
+for each in first second; do
+  run "$folder/names" gen out
+  out=$out$(cat "$folder/names/out/a/x")
+  expect "a file of two names, the $each time" 0 $'Done. Made 1 targets from 2 files\ntwo'
+done
+
 # stops NAME FOLDER LAST: runs `gen`, which ends with status 4 behind the last file that can be put
 stops() {
   run "$folder/$2" gen out
