@@ -1,8 +1,9 @@
 // A sink over standard output and the files below the current folder. It tells nothing of their content.
 ghost use Rattle.std.specs.Prelude.{None};
 
+use crate::standing::{Announced, Look, Standing, file_name, holds};
 use gn_outside::{Sink, SinkStop};
-use std::io::{ErrorKind, Read, Write};
+use std::io::{ErrorKind, Write};
 use std::rt::Files;
 use std::{fs, io};
 
@@ -14,12 +15,18 @@ const UNFINISHED: &str = ".gn-new";
 pub struct FileSink<R: Files + Print + Drop + AllocGlobal> {
     rt: R,
     faults: u64,
+    announced: Announced,
 }
 
 impl<R: Files + Print + Drop + AllocGlobal> FileSink<R> {
-    /// A sink that hasn't failed yet.
-    pub fn new(rt: R) -> Self {
-        FileSink { rt, faults: 0 }
+    /// A sink that hasn't failed yet, and that looks ahead so at what stands where files are going to be put.
+    pub fn new(rt: R, look: Look) -> Self {
+        let announced = Announced::new(rt.alloc(), look);
+        FileSink {
+            rt,
+            faults: 0,
+            announced,
+        }
     }
 }
 
@@ -42,7 +49,13 @@ impl<R: Files + Print + Drop + AllocGlobal> Sink for FileSink<R> {
         if self.faults == u64::MAX {
             return Err(SinkStop::Memory);
         }
-        match write_file(&self.rt, path.strip_prefix("//").unwrap_or(path), bytes) {
+        let name = file_name(path);
+        let standing = self.announced.take(path);
+        if is_there(&self.rt, &standing, name, bytes) {
+            return Ok(());
+        }
+        self.announced.note_write();
+        match write_file(&self.rt, name, bytes) {
             Ok(()) => Ok(()),
             Err(error) if error.kind() == ErrorKind::OutOfMemory => Err(SinkStop::Memory),
             Err(_) => {
@@ -51,14 +64,23 @@ impl<R: Files + Print + Drop + AllocGlobal> Sink for FileSink<R> {
             }
         }
     }
+
+    fn announce(&mut self, path: &str, bytes: &[u8]) {
+        self.announced.push(self.rt.alloc(), path, bytes.len());
+    }
 }
 
-// Writes a file whole, unless it holds these bytes already, and makes the folders above it where they are missing. So the time at which
-// it was changed stays with what it holds.
-fn write_file<R: Files + AllocGlobal>(rt: &R, name: &str, bytes: &[u8]) -> io::Result<()> {
-    if holds(rt, name, bytes) {
-        return Ok(());
+// Whether a file stands at a path already, by what is known of it. So the time at which it was changed stays with what it holds.
+fn is_there<R: Files + AllocGlobal>(rt: &R, standing: &Standing, name: &str, bytes: &[u8]) -> bool {
+    match standing {
+        Standing::Other => false,
+        Standing::Bytes(held) => held.as_slice() == bytes,
+        Standing::Unknown => holds(rt, name, bytes),
     }
+}
+
+// Writes a file whole, and makes the folders above it where they are missing.
+fn write_file<R: Files + AllocGlobal>(rt: &R, name: &str, bytes: &[u8]) -> io::Result<()> {
     let Some((folder, _)) = name.rsplit_once('/') else {
         return write_beside(rt, UNFINISHED, name, bytes);
     };
@@ -74,32 +96,6 @@ fn make_folder<R: Files>(rt: &R, folder: &str) -> io::Result<()> {
         Err(error) if error.kind() == ErrorKind::AlreadyExists => Ok(()),
         Err(_) => fs::create_dir_all(rt, folder),
     }
-}
-
-// Whether a file holds just these bytes. A link, a folder and a named pipe don't, and aren't opened; neither does what can't be read.
-fn holds<R: Files + AllocGlobal>(rt: &R, name: &str, bytes: &[u8]) -> bool {
-    is_of_length(rt, name, bytes.len())
-        && match read_held(rt, name, bytes.len()) {
-            Ok(held) => held.as_slice() == bytes,
-            Err(_) => false,
-        }
-}
-
-// Whether there is a file of so many bytes.
-fn is_of_length<R: Files>(rt: &R, name: &str, length: usize) -> bool {
-    match fs::symlink_metadata(rt, name) {
-        Ok(metadata) => metadata.is_file() && metadata.len() == length as u64,
-        Err(_) => false,
-    }
-}
-
-// The first bytes of a file, so many of them.
-fn read_held<R: Files + AllocGlobal>(rt: &R, name: &str, length: usize) -> io::Result<Vec<u8>> {
-    let mut file = fs::open(rt, name)?;
-    let mut held = Vec::new(rt.alloc());
-    held.resize(length, 0)?;
-    file.read_exact(held.as_mut_slice())?;
-    Ok(held)
 }
 
 // Writes a file whole under the first name, and only then gives it the second one, under which so never stands a part of it.

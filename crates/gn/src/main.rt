@@ -3,13 +3,18 @@
 
 mod file_sink;
 mod file_source;
+mod standing;
 mod start;
 
 use file_sink::FileSink;
 use file_source::FileSource;
+use gn_beside::deal;
 use gn_outside::{Sink, SinkStop};
 use gn_top::{USAGE, run_gn};
+use standing::{FILES_AT_ONCE, File, Look, Standing, standing_at};
 use start::Start;
+use std::alloc::AllocError;
+use std::collections::VecDeque;
 use std::process::ExitCode;
 
 // The statuses of a run that doesn't come to the top call, as those of one that does.
@@ -21,7 +26,16 @@ const NO_MEMORY: u8 = 5;
 
 fn main(rt: HostRuntime) -> ExitCode {
     let alloc = rt.alloc();
-    let mut sink = FileSink::new(rt);
+    let look = move |files: &VecDeque<File>, count: usize| -> Result<Vec<Standing>, AllocError> {
+        let at = |place: usize| -> Result<Standing, AllocError> {
+            Ok(standing_at(&rt, files, place))
+        };
+        deal(&rt, alloc, count, FILES_AT_ONCE, &at)
+    };
+    let Ok(at) = Box::new(alloc, look) else {
+        return ExitCode::from(NO_MEMORY);
+    };
+    let mut sink = FileSink::new(rt, Look { at });
     let (words, host) = match start::start_of(&rt) {
         Start::Run(words, host) => (words, host),
         Start::NoForm => return ExitCode::from(say_usage(&mut sink)),

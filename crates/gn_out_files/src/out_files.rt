@@ -5,7 +5,7 @@ ghost use Rattle.gn_out_files.specs.Files.{put_of, with_file, in_path_order};
 ghost use Rattle.gn_out_files.specs.Keys.{files_of, AreFrom};
 
 use crate::out_file::OutFile;
-use crate::putting::put_each;
+use crate::putting::{announce_each, put_each};
 use gn_outside::{Sink, SinkStop};
 use gn_paths::{Path, Text};
 use std::alloc::{AllocError, Global};
@@ -88,10 +88,11 @@ impl OutFiles {
         })
     }
 
-    /// Puts the files one after the other, up to the first that can't be put.
+    /// Puts the files one after the other, up to the first that can't be put. All of them are announced before.
     pub fn put<K: Sink>(&self, sink: &mut K) -> Result<(), SinkStop>
         ensures { PutsAll (K.state sink.old) (K.state sink.new) self.now result }
     {
+        announce_each(&self.files, sink);
         put_each(&self.files, sink)
     }
 }

@@ -33,6 +33,14 @@ pub fn gen_directory(alloc: Global, out: &Path, directory: &Path) -> Result<Path
     Ok(Path::from_normal(Text::from_vec(text)))
 }
 
+// The directory below the output directory takes no more bytes (`//`, `/obj` and `/` of the three).
+fn most_bytes(out: &Path, directory: &Path) -> usize {
+    out.as_bytes()
+        .len()
+        .saturating_add(directory.as_bytes().len())
+        .saturating_add(8)
+}
+
 fn output_text(
     alloc: Global,
     name: &[u8],
@@ -43,7 +51,8 @@ fn output_text(
     ensures value { IfOk result (λ text. text.items ≡ output_directory name.now out.now directory.now) }
     ensures normal { IfOk result (λ text. IsNormal text.items) }
 {
-    let mut text = Vec::from_slice(alloc, without_final_slash(out.as_bytes()))?;
+    let mut text = Vec::with_capacity(alloc, most_bytes(out, directory))?;
+    text.extend_from_slice(without_final_slash(out.as_bytes()))?;
     append_piece(&mut text, name)?;
     append_down(&mut text, trail_of(directory.as_bytes()))?;
     Ok(text)

@@ -166,7 +166,7 @@ fn show(alloc: Global, base: &[u8], path: &[u8], ends_in_slash: bool) -> Result<
     ensures { IfOk result (λ text. text.items ≡ closed (joined (relative (parts base.now) (parts path.now))) ends_in_slash) }
 {
     let (base, path) = without_common(base, path);
-    let mut text = Vec::new(alloc);
+    let mut text = Vec::with_capacity(alloc, base.len().saturating_add(path.len()))?;
     append_relative(&mut text, slash_count(base), path)?;
     append_final(&mut text, ends_in_slash)?;
     Ok(text)

@@ -63,6 +63,15 @@ impl Text {
         })
     }
 
+    /// An empty text with room for some bytes: what is put at its end takes no more memory until they are full.
+    pub fn with_capacity(alloc: Global, bytes: usize) -> Result<Text, AllocError>
+        ensures { IfOk result (λ t. t ≡ []) }
+    {
+        Ok(Text {
+            bytes: Vec::with_capacity(alloc, bytes)?,
+        })
+    }
+
     /// A new text equal to this one.
     pub fn copy(&self, alloc: Global) -> Result<Text, AllocError>
         ensures { IfOk result (λ t. t ≡ self.now) }

@@ -204,11 +204,14 @@ fn append_piece(
     added
 }
 
+// Room for a text as tools usually have it, so that it isn't moved while it grows.
+const USUAL_BYTES: usize = 64;
+
 /// A text of a tool with what is given in place of each substitution.
 pub fn expanded_by(alloc: Global, by: &Expansion<'_>, text: &Subst) -> Result<Text, AllocError>
     ensures { IfOk result (λ t. t ≡ expanded (given_by by.now) text.now) }
 {
-    let mut made = Text::new(alloc);
+    let mut made = Text::with_capacity(alloc, USUAL_BYTES)?;
     for piece in text.pieces.as_slice() {
         append_piece(alloc, &mut made, by, piece)?;
     }
