@@ -5,7 +5,7 @@ use Rattle.gn_dependencies.specs.Lists.{added}
 use Rattle.gn_dependencies.specs.Shape.{Shape, near}
 use Rattle.gn_dependencies.specs.Inherited.{walks, opens}
 use Rattle.gn_dependencies.proofs.OrderLaws.{at_some}
-use Rattle.gn_chains.specs.declared.reached.Node.{Node}
+use Rattle.gn_chains.specs.declared.graph.Node.{Node}
 use Rattle.gn_chains.specs.declared.reached.Reached.{Reached}
 use Rattle.gn_chains.specs.Reached.{facts_of, shown, opened_by, AreNodes, IsMore, IsReached}
 use Rattle.gn_chains.proofs.WalkState.{WalkState, walk_start, walk_on, walk_done}

@@ -9,7 +9,7 @@ use Rattle.gn_dependencies.specs.Shape.{Shape}
 use Rattle.gn_dependencies.specs.Inherited.{walks}
 use Rattle.gn_dependencies.proofs.Joins.{filter_more, filter_less, filtered_two}
 use Rattle.gn_dependencies.proofs.At.{one_there}
-use Rattle.gn_chains.specs.declared.reached.Node.{Node}
+use Rattle.gn_chains.specs.declared.graph.Node.{Node}
 use Rattle.gn_chains.specs.declared.reached.Reached.{Reached}
 use Rattle.gn_chains.specs.Reached.{Facts, facts_of, shown, AreNodes, IsNext, IsMore}
 

@@ -6,7 +6,7 @@ use Rattle.gn_rows.specs.declared.variable.Variable.TheVariants.{PublicDeps, Dep
 use Rattle.gn_dependencies.specs.Lists.{added}
 use Rattle.gn_dependencies.specs.Shape.{Shape}
 use Rattle.gn_dependencies.specs.Inherited.{walks, opens}
-use Rattle.gn_chains.specs.declared.reached.Node.{Node}
+use Rattle.gn_chains.specs.declared.graph.Node.{Node}
 use Rattle.gn_chains.specs.declared.reached.Reached.{Reached}
 use Rattle.gn_chains.specs.Walked.{AreWalked}
 

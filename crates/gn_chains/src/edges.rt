@@ -7,7 +7,7 @@ ghost use Rattle.gn_chains.specs.Numbers.{among, is_label, has_some, lists_in, A
 ghost use Rattle.gn_chains.specs.Reached.{shown, near_of, AreNodes};
 
 use crate::firsts::Firsts;
-use crate::reached::Node;
+use crate::graph::Node;
 use gn_labels::Label;
 use indexmap::IndexSet;
 use std::alloc::{AllocError, Global};

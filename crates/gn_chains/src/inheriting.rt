@@ -10,10 +10,10 @@ ghost use Rattle.gn_chains.specs.Reached.{AreNodes, IsReached};
 ghost use Rattle.gn_dependencies.specs.Shape.{Shape};
 
 use crate::edges::edges;
-use crate::graph::Graph;
+use crate::graph::{Graph, Node};
 use crate::kinds::{is_library, links};
 use crate::order::order;
-use crate::reached::{Node, Reached, node_at, reach};
+use crate::reached::{Reached, node_at, reach};
 use gn_labels::Label;
 use std::alloc::{AllocError, Global};
 

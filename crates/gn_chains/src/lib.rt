@@ -16,7 +16,7 @@ mod walk;
 
 pub use configurations::{applied, pushed, pushed_public};
 pub use firsts::Firsts;
-pub use graph::Graph;
+pub use graph::{Graph, Node};
 pub use inheriting::inherited;
 pub use kinds::Walk;
 pub use walk::walked;

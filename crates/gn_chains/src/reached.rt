@@ -3,22 +3,13 @@
 ghost use Rattle.std.specs.Prelude.{◌≡◌, ◌<◌, ◌++◌, ◌∷◌, [], length, slice_get, OnOk, IfOk, Some, false};
 ghost use Rattle.gn_chains.specs.Reached.{shown, facts_of, opened_by, IsNext, IsMore, IsReached};
 ghost use Rattle.gn_dependencies.specs.Lists.{has};
-ghost use Rattle.gn_dependencies.specs.Shape.{near};
+ghost use Rattle.gn_dependencies.specs.Shape.{Shape, near};
 
 use crate::firsts::Firsts;
-use crate::graph::Graph;
+use crate::graph::{Graph, Node};
 use crate::kinds::{opens, walks};
 use gn_labels::Label;
-use gn_rows::{ItemKind, Variable};
 use std::alloc::{AllocError, Global};
-
-// What a graph has of a label: the kind of its item, and its public and private dependencies. It lends them.
-#[derive(Clone, Copy)]
-pub(crate) struct Node<'a> {
-    pub(crate) kind: Option<ItemKind>,
-    pub(crate) public: &'a [Label],
-    pub(crate) private: &'a [Label],
-}
 
 // The labels that a walk has met, each once, and what the graph has of each.
 #[derive(Drop)]
@@ -35,31 +26,13 @@ pub(crate) fn node_at<'a>(nodes: &[Node<'a>], number: usize) -> Node<'a>
     nodes[number]
 }
 
-// What the graph has of a label whose kind this is.
-fn node_of<'a, G: Graph>(graph: &'a G, label: &Label, kind: Option<ItemKind>) -> Node<'a>
-    requires { kind ≡ (G.shape graph.now).kind label.now }
-    ensures { shown result ≡ facts_of (G.shape graph.now) label.now }
-{
-    Node {
-        kind,
-        public: graph.labels(label, Variable::PublicDeps),
-        private: graph.labels(label, Variable::Deps),
-    }
-}
-
-// Puts a label that isn't there behind the others.
-fn push<'a, G: Graph>(
-    out: &mut Reached<'a>,
-    graph: &'a G,
-    label: &Label,
-    kind: Option<ItemKind>,
-) -> Result<(), AllocError>
-    requires new { has out.old.labels label.now ≡ false }
-    requires kind { kind ≡ (G.shape graph.now).kind label.now }
-    ensures { OnOk result (IsNext (G.shape graph.now) label.now out.old out.new) }
+// Puts a label that isn't there behind the others, with what a graph has of it.
+fn push<'a>(out: &mut Reached<'a>, label: &Label, node: Node<'a>) -> Result<(), AllocError>
+    requires { has out.old.labels label.now ≡ false }
+    ensures { OnOk result ((g : Shape) → shown node.entry ≡ facts_of g label.now → IsNext g label.now out.old out.new) }
 {
     out.labels.add(label)?;
-    out.nodes.push(node_of(graph, label, kind))?;
+    out.nodes.push(node)?;
     Ok(())
 }
 
@@ -70,9 +43,9 @@ fn meet<'a, G: Graph>(out: &mut Reached<'a>, graph: &'a G, label: &Label) -> Res
     if out.labels.has(label) {
         return Ok(());
     }
-    let kind = graph.kind(label);
-    if walks(kind) {
-        return push(out, graph, label, kind);
+    let node = graph.node(label);
+    if walks(node.kind) {
+        return push(out, label, node);
     }
     Ok(())
 }
@@ -126,9 +99,8 @@ fn meet_near<'a, G: Graph>(
 ) -> Result<(), AllocError>
     ensures { OnOk result (IsMore (G.shape graph.now) (near (G.shape graph.now) target.now) out.old out.new) }
 {
-    let public = graph.labels(target, Variable::PublicDeps);
-    let private = graph.labels(target, Variable::Deps);
-    meet_both(out, graph, public, private)
+    let node = graph.node(target);
+    meet_both(out, graph, node.public, node.private)
 }
 
 // Puts what the walk from a target meets into an empty list.

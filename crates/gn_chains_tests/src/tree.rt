@@ -12,7 +12,7 @@ ghost use Rattle.gn_dependencies.specs.Inherited.{IsInherited};
 ghost use Rattle.gn_chains_tests.specs.Trees.{item_in, record_in, list_at, shape_in, records_in, visibility_in, testonly_in, forbidden_in, places_in, HoldsRecords, IsRight};
 ghost use Rattle.gn_chains_tests.specs.Found.{listed};
 
-use gn_chains::{Graph, applied, inherited, pushed, pushed_public};
+use gn_chains::{Graph, Node, applied, inherited, pushed, pushed_public};
 use gn_graph_faults::Places;
 use gn_labels::{Label, Pattern};
 use gn_paths::{Place, Text};
@@ -258,6 +258,14 @@ impl Graph for Tree {
         match self.item(label) {
             None => &[],
             Some(item) => item.list(variable),
+        }
+    }
+
+    fn node(&self, label: &Label) -> Node<'_> {
+        Node {
+            kind: self.kind(label),
+            public: self.labels(label, Variable::PublicDeps),
+            private: self.labels(label, Variable::Deps),
         }
     }
 

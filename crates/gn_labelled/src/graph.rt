@@ -4,12 +4,13 @@ ghost use Rattle.std.specs.Prelude.{◌≡◌, map, option_map};
 ghost use Rattle.gn_items.specs.declared.item.Item.{Item as Defined};
 ghost use Rattle.gn_items.specs.Effects.{item_at};
 ghost use Rattle.gn_define.specs.Held.{held_of};
+ghost use Rattle.gn_rows.specs.declared.variable.Variable.TheVariants.{PublicDeps, Deps};
 ghost use Rattle.gn_labelled.specs.Graphs.{shape_of, labels_at, kind_at, visibility_at, is_testonly_at, forbidden_at, patterns_held, place_at};
 ghost use Rattle.gn_labelled.specs.Listed.{listed};
 
 use crate::handed_on::HandedOn;
 use crate::index::ItemIndex;
-use gn_chains::Graph;
+use gn_chains::{Graph, Node};
 use gn_define::Field;
 use gn_graph_faults::Places;
 use gn_items::Item;
@@ -46,6 +47,19 @@ pub(crate) fn labels_at(item: Option<&Item>, variable: Variable) -> &[Label]
     match item {
         None => &[],
         Some(item) => item.fields.labels(variable),
+    }
+}
+
+/// The kind and the public and private dependencies of an item; no kind and none where there is no item.
+pub(crate) fn node_at(item: Option<&Item>) -> Node<'_>
+    ensures kind { result.kind ≡ kind_at (option_map (λ i. i.now) item.entry) }
+    ensures public { result.public.now ≡ labels_at (option_map (λ i. i.now) item.entry) PublicDeps }
+    ensures private { result.private.now ≡ labels_at (option_map (λ i. i.now) item.entry) Deps }
+{
+    Node {
+        kind: kind_at(item),
+        public: labels_at(item, Variable::PublicDeps),
+        private: labels_at(item, Variable::Deps),
     }
 }
 
@@ -121,6 +135,10 @@ impl<'a, R: HandedOn> Graph for ItemGraph<'a, R> {
 
     fn labels(&self, label: &Label, variable: Variable) -> &[Label] {
         labels_at(self.items.item(label), variable)
+    }
+
+    fn node(&self, label: &Label) -> Node<'_> {
+        node_at(self.items.item(label))
     }
 
     fn pushed(&self, label: &Label) -> &[Label] {

@@ -5,9 +5,9 @@ ghost use Rattle.gn_items.specs.declared.item.Item.{Item as Defined};
 ghost use Rattle.gn_labelled.specs.Graphs.{shape_of, no_records};
 ghost use Rattle.gn_labelled.specs.Listed.{listed};
 
-use crate::graph::{kind_at, labels_at};
+use crate::graph::{kind_at, labels_at, node_at};
 use crate::index::ItemIndex;
-use gn_chains::Graph;
+use gn_chains::{Graph, Node};
 use gn_labels::Label;
 use gn_paths::Text;
 use gn_rows::{ItemKind, Variable};
@@ -40,6 +40,10 @@ impl<'a, 'b> Graph for LentGraph<'a, 'b> {
 
     fn labels(&self, label: &Label, variable: Variable) -> &[Label] {
         labels_at(self.items.item(label), variable)
+    }
+
+    fn node(&self, label: &Label) -> Node<'_> {
+        node_at(self.items.item(label))
     }
 
     fn pushed(&self, _label: &Label) -> &[Label] {

@@ -7,9 +7,11 @@ ghost use Rattle.gn_labelled.specs.Index.{place_of};
 ghost use Rattle.gn_labelled.specs.Graphs.{shape_of, visibility_at, is_testonly_at, forbidden_at, place_at, no_records};
 ghost use Rattle.gn_labelled.specs.Listed.{listed};
 
-use crate::graph::{forbidden_at, is_testonly_at, kind_at, labels_at, place_at, visibility_at};
+use crate::graph::{
+    forbidden_at, is_testonly_at, kind_at, labels_at, node_at, place_at, visibility_at,
+};
 use crate::index::ItemIndex;
-use gn_chains::Graph;
+use gn_chains::{Graph, Node};
 use gn_graph_faults::Places;
 use gn_items::Item;
 use gn_labels::{Label, Pattern};
@@ -83,6 +85,10 @@ impl<'a, 'b> Graph for TargetGraph<'a, 'b> {
 
     fn labels(&self, label: &Label, variable: Variable) -> &[Label] {
         labels_at(self.item(label), variable)
+    }
+
+    fn node(&self, label: &Label) -> Node<'_> {
+        node_at(self.item(label))
     }
 
     fn pushed(&self, _label: &Label) -> &[Label] {

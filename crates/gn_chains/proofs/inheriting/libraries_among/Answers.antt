@@ -14,7 +14,7 @@ use Rattle.std.proofs.lemmas.Option.{slice_get-get_or}
 use Rattle.gn_chains.specs.Numbers.{among, list_at, lists_in, number_before, AreNumbered, AreEdges, NumbersEnd}
 use Rattle.gn_chains.specs.Counts.{numbers}
 use Rattle.gn_chains.specs.Walked.{AreWalked}
-use Rattle.gn_chains.specs.declared.reached.Node.{Node}
+use Rattle.gn_chains.specs.declared.graph.Node.{Node}
 use Rattle.gn_chains.specs.Reached.{AreNodes}
 use Rattle.gn_chains.proofs.Reaching.{as_many}
 use Rattle.gn_chains.proofs.Among.{number_below}

@@ -3,7 +3,7 @@ use Rattle.std.proofs.lemmas.Map.Made.{length-le_from_is_member}
 use Rattle.gn_dependencies.specs.Shape.{Shape}
 use Rattle.gn_dependencies.proofs.Same.{label_equiv}
 use Rattle.gn_chains.specs.declared.kinds.Walk.TheVariants.{Libraries}
-use Rattle.gn_chains.specs.declared.reached.Node.{Node}
+use Rattle.gn_chains.specs.declared.graph.Node.{Node}
 use Rattle.gn_chains.proofs.WalkState.{met_some}
 use Rattle.gn_chains.proofs.ReachState.{reach_start, reach_on, reach_done}
 use Rattle.gn_chains.proofs.reached.add_reached.Goals as goal

@@ -9,7 +9,7 @@ pub returns : goal.returns
 returns g c =
     let s : Shape = g.G.Graph.shape c.args.graph.now in
     let public : List Label = s.lists c.args.target.now PublicDeps in
-    let private : List Label = c.labels-private.result.now in
-    let first : c.labels-public.result.now ++ private ≡ public ++ private = ap (λ (z : List Label). z ++ private) c.labels-public.ensures in
-    let second : public ++ private ≡ public ++ s.lists c.args.target.now Deps = ap (λ (z : List Label). public ++ z) c.labels-private.ensures in
+    let private : List Label = c.node-node.result.private.now in
+    let first : c.node-node.result.public.now ++ private ≡ public ++ private = ap (λ (z : List Label). z ++ private) c.node-node.ensures.public in
+    let second : public ++ private ≡ public ++ s.lists c.args.target.now Deps = ap (λ (z : List Label). public ++ z) c.node-node.ensures.private in
     subst (λ (z : List Label). OnOk c.meet_both.result (IsMore s z c.args.out.now c.meet_both.new.out)) (first ∙ second) c.meet_both.ensures
