@@ -11,16 +11,15 @@ use std::thread::{Threads, available_parallelism, join_mut};
 const MOST_THREADS: usize = 7;
 
 // How many threads are made where nothing says how many processors there are.
-const USUAL_THREADS: usize = 4;
+const USUAL_THREADS: usize = 3;
 
-/// How many threads pay beside the one that asks: one for each processor, but at most seven; four where nothing says how many
-/// processors there are. It is one more than there are other processors, since the first thread of several is often put on the processor
-/// of the thread that makes it, and begins when that waits.
+/// How many threads pay beside the one that asks: one for each other processor, but at most seven; three where nothing says how many
+/// processors there are. With one more, they would take time from the thread that asks, for which the others wait in the end.
 pub fn threads_beside<R: Threads>(rt: &R) -> usize
     ensures { result ≤ 7 }
 {
     match available_parallelism(rt) {
-        Ok(processors) => processors.get().min(MOST_THREADS),
+        Ok(processors) => processors.get().saturating_sub(1).min(MOST_THREADS),
         Err(_) => USUAL_THREADS,
     }
 }

@@ -15,7 +15,7 @@ const LEAST_PIECES: usize = 12;
 // How many pieces are worth a thread of their own.
 const PIECES_OF_A_THREAD: usize = 6;
 
-// How many threads pay at most for so many places: none for few of them, and never one alone, which would often begin once all is made.
+// How many threads pay at most for so many places: none for few of them, else at least two.
 fn most_threads(count: usize, piece: usize) -> usize {
     match count.checked_div(piece) {
         Some(pieces) if pieces >= LEAST_PIECES => pieces / PIECES_OF_A_THREAD,
